@@ -1,0 +1,8 @@
+-- What an entry shows of the spans after it.
+use Rattle.std.specs.Prelude.{ℕ, List}
+use Rattle.slot_core.specs.declared.jobs.Span.{Span}
+
+-- the first spans, and the number of the others
+pub record ShownSpans : Type 0 where
+  pub spans : List Span
+  pub more : ℕ

@@ -1,0 +1,93 @@
+//! Arrivals, their answers and the entries of a trace.
+
+use crate::jobs::{Evidence, Key};
+use crate::shown::Shown;
+
+/// What arrives.
+#[derive(Clone, Copy, PartialEq, Eq, Debug)]
+pub enum Event {
+    /// Soft work of so many slots.
+    Soft(u32),
+    /// A firm task: slots, and within how many slots from now.
+    Firm(u32, u32),
+    /// A job of the sporadic task of this index.
+    Sporadic(u8),
+    /// The job of this key has ended.
+    Done(Key),
+}
+
+/// One row of the arrivals file.
+#[derive(Clone, Copy, PartialEq, Eq, Debug)]
+pub struct Arrival {
+    /// Row in the file, from 1.
+    pub row: u32,
+    pub slot: u64,
+    pub event: Event,
+}
+
+/// The answer to soft work.
+#[derive(Clone, Copy, PartialEq, Eq, Debug)]
+pub enum Soft {
+    Taken,
+    /// So many soft jobs wait already, which is the limit.
+    Full(u32),
+}
+
+/// The answer to a firm task.
+#[derive(Clone, Copy, PartialEq, Eq, Debug)]
+pub enum Firm {
+    Accepted,
+    /// Its deadline is now.
+    Late,
+    /// Its deadline is more than one cycle ahead.
+    Far,
+    /// No schedule serves it beside the remaining jobs.
+    NoRoom(Evidence),
+}
+
+/// The answer to a sporadic arrival.
+#[derive(Clone, Copy, PartialEq, Eq, Debug)]
+pub enum Spo {
+    /// The job is taken, with this deadline.
+    Taken(u64),
+    /// It comes before its separation is over, at this slot.
+    Soon(u64),
+}
+
+/// The answer to an early end.
+#[derive(Clone, Copy, PartialEq, Eq, Debug)]
+pub enum Done {
+    /// The job ends, and so many slots are free.
+    Freed(u32),
+    /// No unfinished job of that key has run.
+    NotRunning,
+}
+
+/// What ran in a slot.
+#[derive(Clone, Copy, PartialEq, Eq, Debug)]
+pub enum Ran {
+    Idle,
+    Key(Key),
+}
+
+/// What an entry of a trace tells. The first number of an arrival is its row, then stand the
+/// numbers of its event, then its answer.
+#[derive(Clone, Copy, PartialEq, Eq, Debug)]
+pub enum What {
+    Start,
+    Soft(u32, u32, Soft),
+    Firm(u32, u32, u32, Firm),
+    Sporadic(u32, u8, Spo),
+    Done(u32, Key, Done),
+    Run(Key),
+    Idle,
+    End,
+}
+
+/// One line of a trace, with the first spans after it.
+#[derive(Drop)]
+pub struct Entry {
+    pub time: u64,
+    pub what: What,
+    pub shown: Shown,
+}

@@ -1,0 +1,62 @@
+//! Jobs, spans and windows. All times are in slots.
+
+/// The name of a job. Keys are ordered by kind, then by their numbers.
+#[derive(Clone, Copy, PartialEq, Eq, PartialOrd, Ord, Debug)]
+pub enum Key {
+    /// Graph, task and instance of an offline job.
+    Offline(u16, u16, u64),
+    /// Index of the sporadic task, and row of the arrival.
+    Sporadic(u8, u32),
+    /// Row of the arrival of a firm job.
+    Firm(u32),
+    /// Row of the arrival of a soft job.
+    Soft(u32),
+}
+
+/// An offline job with its raw window [release, deadline).
+#[derive(Clone, Copy, PartialEq, Eq, Debug)]
+pub struct RawJob {
+    pub key: Key,
+    pub release: u64,
+    pub deadline: u64,
+    /// Declared slots.
+    pub wcet: u32,
+}
+
+/// A guaranteed job with its derived window [est, dl).
+#[derive(Clone, Copy, PartialEq, Eq, Debug)]
+pub struct Job {
+    pub key: Key,
+    pub est: u64,
+    pub dl: u64,
+    /// Slots that it has still to run.
+    pub left: u32,
+    pub declared: u32,
+}
+
+/// A stretch [start, end) between two neighbouring interval ends.
+#[derive(Clone, Copy, PartialEq, Eq, Default, Debug)]
+pub struct Span {
+    pub start: u64,
+    pub end: u64,
+    /// Slots left of the remaining jobs that are due after its start and by its end.
+    pub work: u64,
+    /// Spare capacity in slots, below 0 where the span borrows from earlier ones.
+    pub spare: i64,
+}
+
+/// A window [from, until) with the slots that the cycle test counts in it.
+#[derive(Clone, Copy, PartialEq, Eq, Debug)]
+pub struct Window {
+    pub from: u64,
+    pub until: u64,
+    pub demand: u64,
+}
+
+/// Why an offer is refused: up to `until` it needs `need` slots, and there are `room`.
+#[derive(Clone, Copy, PartialEq, Eq, Debug)]
+pub struct Evidence {
+    pub until: u64,
+    pub need: u64,
+    pub room: u64,
+}

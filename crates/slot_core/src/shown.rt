@@ -1,0 +1,56 @@
+//! The first spans after an entry.
+
+ghost use Rattle.std.specs.Prelude.{◌≡◌, ◌<◌, [], ◌∷◌, ◌++◌, length};
+
+use crate::jobs::Span;
+use arrayvec::ArrayVec;
+use std::marker::Model;
+
+/// At most eight spans, and the number of the spans that are not shown.
+#[derive(Drop)]
+pub struct Shown {
+    first: ArrayVec<Span, 8>,
+    others: u32,
+}
+
+impl Model for Shown {
+    ghost use Rattle.slot_core.specs.ShownSpans.{ShownSpans};
+
+    ghost Value = { ShownSpans };
+
+    ghost view = { λ s. record { spans = s.first.items; more = s.others } };
+}
+
+impl Shown {
+    /// No spans, beside `more` that are not shown.
+    pub fn new(more: u32) -> Shown
+        ensures { result ≡ record { spans = []; more = more } }
+    {
+        Shown {
+            first: ArrayVec::new(),
+            others: more,
+        }
+    }
+
+    /// Appends a span.
+    pub fn push(&mut self, span: Span)
+        requires { length self.old.spans < 8 }
+        ensures { self.new ≡ record self.old { spans = self.old.spans ++ span ∷ [] } }
+    {
+        self.first.push(span);
+    }
+
+    /// The spans that are shown.
+    pub fn spans(&self) -> &[Span]
+        ensures { result.now ≡ self.now.spans }
+    {
+        self.first.as_slice()
+    }
+
+    /// The number of the spans that are not shown.
+    pub fn more(&self) -> u32
+        ensures { result ≡ self.now.more }
+    {
+        self.others
+    }
+}

@@ -1,0 +1,67 @@
+//! Task sets. All numbers are in slots.
+
+use crate::jobs::{Job, Span};
+use crate::list::List;
+use crate::name::Name;
+
+/// Indexes of the tasks that a task comes after.
+pub type Afters = List<u16>;
+
+/// The tasks of a graph.
+pub type Tasks = List<Task>;
+
+/// The graphs of a task set.
+pub type Graphs = List<Graph>;
+
+/// The sporadic tasks of a task set.
+pub type Sporadics = List<Sporadic>;
+
+/// A list of jobs.
+pub type Jobs = List<Job>;
+
+/// A list of spans.
+pub type Spans = List<Span>;
+
+/// A task of a graph.
+#[derive(Drop)]
+pub struct Task {
+    pub name: Name,
+    /// Worst-case execution time: 1 to 4096.
+    pub wcet: u32,
+    /// Its direct predecessors in the graph.
+    pub after: Afters,
+}
+
+/// A periodic task graph. Instance k is released at `k * period + offset` and due `deadline` later.
+#[derive(Drop)]
+pub struct Graph {
+    pub name: Name,
+    /// 1 to 4096.
+    pub period: u32,
+    /// Below the period.
+    pub offset: u32,
+    /// 1 to `period - offset`.
+    pub deadline: u32,
+    pub tasks: Tasks,
+}
+
+/// A task whose jobs arrive at run time, at least `separation` apart.
+#[derive(Drop)]
+pub struct Sporadic {
+    pub name: Name,
+    /// Worst-case execution time: 1 to 4096.
+    pub wcet: u32,
+    /// 1 to 4096.
+    pub separation: u32,
+    /// 1 to `separation`, from the arrival.
+    pub deadline: u32,
+}
+
+/// What a task file says.
+#[derive(Drop)]
+pub struct TaskSet {
+    /// Most soft jobs that wait at one time: 1 to 1024.
+    pub soft_limit: u32,
+    pub graphs: Graphs,
+    pub sporadics: Sporadics,
+}
