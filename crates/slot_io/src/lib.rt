@@ -1,13 +1,15 @@
-// A library with one function.
+//! Files that are read whole up to a limit, and sinks that take bytes in pieces.
+//!
+//! The program reaches the outside through these two traits alone. Over memory they tell what they
+//! hold, so that a contract can name it; over the host they tell nothing and are the trusted edge.
 #![tactic(auto)]
 
-ghost use Rattle.std.specs.Prelude.{◌≡◌};
-ghost use Rattle.slot_io.specs.Echo.{echo_of};
+pub mod files;
+pub mod host;
+pub mod memory;
+pub mod sink;
 
-// The `ensures` clause is the contract: what `echo` returns is `echo_of` of its argument, a definition
-// in `specs/Echo.antt`, which a caller's clause can cite too.
-pub fn echo(x: usize) -> usize
-    ensures { result ≡ echo_of x }
-{
-    x
-}
+pub use files::{Files, ReadFault};
+pub use host::{HostFiles, HostSink};
+pub use memory::{MemoryFiles, MemorySink};
+pub use sink::Sink;

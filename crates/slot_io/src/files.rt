@@ -1,0 +1,42 @@
+//! Files that are read whole up to a limit.
+
+ghost use Rattle.std.specs.Prelude.{◌≡◌, ◌≢◌, ℕ, ◌+◌, ◌≤◌, List, Option, Some, IfSome, IfOk, vec_len};
+ghost use Rattle.slot_io.specs.Faults.{Rose};
+ghost use Rattle.slot_io.specs.Files.{Held, first_bytes};
+
+use std::alloc::Global;
+
+/// Why a read gives no bytes.
+#[derive(Clone, Copy, PartialEq, Eq, Debug)]
+pub enum ReadFault {
+    /// Memory ran out.
+    Memory,
+    /// The file could not be read.
+    Failed,
+}
+
+/// Files that are read whole up to a limit.
+pub trait Files {
+    /// The bytes under each name, where they are told.
+    ghost held: { Self → Option Held };
+
+    /// How many reads failed, up to the last value of a `u64`.
+    ghost faults: { Self → ℕ };
+
+    /// The name of the last read that failed, or none.
+    ghost blamed: { Self → Option (List ℕ) };
+
+    /// The first bytes of a file: at most one more than `limit`, so that a caller sees whether the
+    /// file is longer.
+    fn read(&mut self, alloc: Global, name: &str, limit: usize) -> Result<Vec<u8>, ReadFault>
+        requires { limit ≤ 67108864 }
+        ensures short { IfOk result (λ bytes. vec_len bytes ≤ limit + 1) }
+        ensures first { IfOk result (λ bytes. IfSome (held self.old)
+            (λ files. first_bytes files name.now limit ≡ Some bytes.items)) }
+        ensures keeps { held self.new ≡ held self.old }
+        ensures counted { faults self.old ≤ faults self.new }
+        ensures failed { result ≡ Err ReadFault.Failed → Rose (faults self.old) (faults self.new) }
+        ensures named { result ≡ Err ReadFault.Failed → blamed self.new ≡ Some name.now }
+        ensures no_fault { result ≢ Err ReadFault.Failed → faults self.new ≡ faults self.old }
+        ensures no_blame { result ≢ Err ReadFault.Failed → blamed self.new ≡ blamed self.old };
+}
