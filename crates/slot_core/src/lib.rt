@@ -35,3 +35,6 @@ pub const SPORADIC_LIMIT: usize = 0;
 
 /// Longest period, separation, wcet and cycle, in slots.
 pub const SLOT_LIMIT: u32 = 4096;
+
+/// Most soft jobs that wait at one time.
+pub const SOFT_LIMIT: u32 = 1024;

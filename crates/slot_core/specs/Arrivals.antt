@@ -1,0 +1,35 @@
+-- Arrivals that fit a task set and a number of slots.
+use Rattle.std.specs.Prelude.{ℕ, ◌+◌, Bool, true, ◌&&◌, ◌==◌, List, [], ◌∷◌, length, nat_le, nat_lt}
+use Rattle.slot_core.specs.declared.jobs.Key.{Key}
+use Rattle.slot_core.specs.declared.jobs.Key.TheVariants.{Offline, Sporadic as SporadicKey, Firm as FirmKey, Soft as SoftKey}
+use Rattle.slot_core.specs.declared.events.Event.{Event}
+use Rattle.slot_core.specs.declared.events.Event.TheVariants.{Soft, Firm, Sporadic, Done}
+use Rattle.slot_core.specs.declared.events.Arrival.{Arrival}
+use Rattle.slot_core.specs.declared.tasks.TaskSet.{TaskSet}
+use Rattle.slot_core.specs.OfflineJobs.{tasks_of}
+use Rattle.slot_core.specs.Ranges.{is_between}
+
+-- the key names a graph, task or sporadic task of the set, and its numbers are in range
+abbrev pub key_fits : TaskSet → Key → Bool
+key_fits set (Offline graph task instance) =
+    nat_lt graph (length set.graphs) && nat_lt task (length (tasks_of set graph)) && nat_le instance 4294967295
+key_fits set (SporadicKey index row) = nat_lt index (length set.sporadics) && is_between 1 65535 row
+key_fits set (FirmKey row) = is_between 1 65535 row
+key_fits set (SoftKey row) = is_between 1 65535 row
+
+-- the numbers of the event are in range, and it names what the set has
+abbrev pub event_fits : TaskSet → Event → Bool
+event_fits set (Soft slots) = is_between 1 65535 slots
+event_fits set (Firm slots within) = is_between 1 65535 slots && nat_le within 65535
+event_fits set (Sporadic index) = nat_lt index (length set.sporadics)
+event_fits set (Done key) = key_fits set key
+
+-- rows count up from this one, and slots never fall below this one and stay below n
+abbrev pub arrivals_follow : TaskSet → ℕ → ℕ → ℕ → List Arrival → Bool
+arrivals_follow set n row slot [] = true
+arrivals_follow set n row slot (a ∷ arrivals) =
+    a.row == row && nat_le slot a.slot && nat_lt a.slot n && event_fits set a.event && arrivals_follow set n (row + 1) a.slot arrivals
+
+-- arrivals that fit n slots and the set: at most 65535, their rows 1, 2, 3 and so on
+abbrev pub are_fitting : TaskSet → ℕ → List Arrival → Bool
+are_fitting set n arrivals = nat_le (length arrivals) 65535 && arrivals_follow set n 1 0 arrivals

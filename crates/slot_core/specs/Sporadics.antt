@@ -1,0 +1,30 @@
+-- Sporadic tasks: the densest arrivals that their separations allow.
+use Rattle.std.specs.Prelude.{◌≡◌, ℕ, ◌+◌, ◌*◌, ◌≤◌, ◌<◌, max, ◌==◌, List, [], ◌∷◌, length, map, filter, count_by, nat_le, slice_get, Some, All, ⊤}
+use Rattle.std.specs.List.{range_with_len}
+use Rattle.slot_core.specs.declared.tasks.Sporadic.{Sporadic}
+
+-- how many arrivals from time r on are due by x, the first at r or at the next legal arrival, each
+-- later one a separation after the one before
+abbrev pub arrivals_due : Sporadic → ℕ → ℕ → ℕ → ℕ
+arrivals_due s next r x =
+    count_by (λ m. nat_le (max r next + m * s.separation + s.deadline) x) (range_with_len 0 (x + 1))
+
+-- the slots that the densest legal arrivals from r on need by x, each task with its next legal arrival
+abbrev pub sporadic_demand : List Sporadic → List ℕ → ℕ → ℕ → ℕ
+sporadic_demand [] nexts r x = 0
+sporadic_demand (s ∷ ss) [] r x = s.wcet * arrivals_due s 0 r x + sporadic_demand ss [] r x
+sporadic_demand (s ∷ ss) (n ∷ ns) r x = s.wcet * arrivals_due s n r x + sporadic_demand ss ns r x
+
+-- the times are at least `from`, and each is at least a separation after the one before
+abbrev pub AreSpaced : ℕ → ℕ → List ℕ → Type 0
+AreSpaced separation from [] = ⊤
+AreSpaced separation from (t ∷ ts) = (from ≤ t) × AreSpaced separation (t + separation) ts
+
+-- arrivals as pairs of a sporadic task and a time, and the times of one task
+abbrev pub times_of : ℕ → List (ℕ × ℕ) → List ℕ
+times_of index pattern = map (λ (a : ℕ × ℕ). a.1) (filter (λ (a : ℕ × ℕ). a.0 == index) pattern)
+
+-- a legal pattern from r: each task's times are at least r and its next legal arrival, and spaced
+pub record IsLegalPattern (sporadics : List Sporadic) (nexts : List ℕ) (r : ℕ) (pattern : List (ℕ × ℕ)) : Type 0 where
+  pub named : All (λ (a : ℕ × ℕ). a.0 < length sporadics) pattern
+  pub spaced : (index next : ℕ) (s : Sporadic) → slice_get sporadics index ≡ Some s → slice_get nexts index ≡ Some next → AreSpaced s.separation (max r next) (times_of index pattern)
