@@ -8,12 +8,14 @@ pub mod ExampleFlight
 pub mod ExampleSets
 pub mod ExampleSoft
 pub mod ExampleTraces
+pub mod FaultTexts
 pub mod Faults
 pub mod Feasible
 pub mod Histories
 pub mod Keys
 pub mod Names
 pub mod OfflineJobs
+pub mod Plans
 pub mod Points
 pub mod Precedence
 pub mod Ranges
