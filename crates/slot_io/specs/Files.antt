@@ -1,8 +1,10 @@
 -- What files hold, and what fakes of them keep.
-use Rattle.std.specs.Prelude.{◌≡◌, ℕ, ◌+◌, List, take, Option, Some, option_map}
+use Rattle.std.specs.Prelude.{ℕ, ◌+◌, Bool, ◌||◌, List, take, Option, option_map, is_none, refl}
+use Rattle.std.specs.Coded.{Coded, code_by, coded×, coded_ℕ, coded_list, coded_option}
 use Rattle.std.specs.Ordering.{nat_cmp}
 use Rattle.std.specs.Cmp.Lexicographic.{slice_cmp}
-use Rattle.std.specs.FinMap.{FinMap, get}
+use Rattle.std.specs.FinMap.{FinMap, get, code}
+use Rattle.slot_io.specs.Faults.{is_next_call}
 
 -- the bytes under each name
 abbrev pub Held : Type 0
@@ -20,3 +22,12 @@ pub record FilesInMemory : Type 0 where
   pub calls : ℕ
   pub faults : ℕ
   pub blamed : Option (List ℕ)
+
+-- these files are stored as the tuple of their fields
+abbrev pub files_code : Coded FilesInMemory
+files_code =
+    code_by (Held × (List ℕ × (ℕ × (ℕ × Option (List ℕ))))) (coded× (code (coded_list coded_ℕ) (coded_list coded_ℕ)) (coded× (coded_list coded_ℕ) (coded× coded_ℕ (coded× coded_ℕ (coded_option (coded_list coded_ℕ)))))) (λ f. (f.held, (f.failing, (f.calls, (f.faults, f.blamed))))) (λ p. record { held = p.0; failing = p.1.0; calls = p.1.1.0; faults = p.1.1.1.0; blamed = p.1.1.1.1 }) (λ _. refl)
+
+-- whether the next read of a name fails: its call is made to fail, or no file has the name
+abbrev pub read_fails : FilesInMemory → List ℕ → Bool
+read_fails files name = is_next_call files.failing files.calls || is_none (get files.held name)

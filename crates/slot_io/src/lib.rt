@@ -4,12 +4,17 @@
 //! hold, so that a contract can name it; over the host they tell nothing and are the trusted edge.
 #![tactic(auto)]
 
+mod calls;
 pub mod files;
 pub mod host;
-pub mod memory;
+pub mod memory_files;
+pub mod memory_sink;
 pub mod sink;
+#[cfg(test)]
+mod tests;
 
 pub use files::{Files, ReadFault};
 pub use host::{HostFiles, HostSink};
-pub use memory::{MemoryFiles, MemorySink};
+pub use memory_files::MemoryFiles;
+pub use memory_sink::MemorySink;
 pub use sink::Sink;
