@@ -5,24 +5,39 @@ use Rattle.slot_core.specs.declared.jobs.Key.TheVariants.{Offline, Sporadic as S
 use Rattle.slot_core.specs.declared.events.Event.{Event}
 use Rattle.slot_core.specs.declared.events.Event.TheVariants.{Soft, Firm, Sporadic, Done}
 use Rattle.slot_core.specs.declared.events.Arrival.{Arrival}
+use Rattle.slot_core.specs.declared.events.What.{What}
+use Rattle.slot_core.specs.declared.events.What.TheVariants.{Sporadic as SporadicEntry, Done as DoneEntry, Run}
 use Rattle.slot_core.specs.declared.tasks.TaskSet.{TaskSet}
 use Rattle.slot_core.specs.OfflineJobs.{tasks_of}
 use Rattle.slot_core.specs.Ranges.{is_between}
 
--- the key names a graph, task or sporadic task of the set, and its numbers are in range
-abbrev pub key_fits : TaskSet → Key → Bool
-key_fits set (Offline graph task instance) =
-    nat_lt graph (length set.graphs) && nat_lt task (length (tasks_of set graph)) && nat_le instance 4294967295
-key_fits set (SporadicKey index row) = nat_lt index (length set.sporadics) && is_between 1 65535 row
-key_fits set (FirmKey row) = is_between 1 65535 row
-key_fits set (SoftKey row) = is_between 1 65535 row
+-- the key names a graph, task or sporadic task of the set, where it names one
+abbrev pub key_in_set : TaskSet → Key → Bool
+key_in_set set (Offline graph task instance) = nat_lt graph (length set.graphs) && nat_lt task (length (tasks_of set graph))
+key_in_set set (SporadicKey index row) = nat_lt index (length set.sporadics)
+key_in_set set (FirmKey row) = true
+key_in_set set (SoftKey row) = true
+
+-- what an entry names lies in the set
+abbrev pub what_in_set : TaskSet → What → Bool
+what_in_set set (SporadicEntry row index a) = nat_lt index (length set.sporadics)
+what_in_set set (DoneEntry row key a) = key_in_set set key
+what_in_set set (Run key) = key_in_set set key
+what_in_set set _ = true
+
+-- the numbers of a key that an arrival names are in range
+abbrev pub key_in_range : Key → Bool
+key_in_range (Offline graph task instance) = nat_le instance 4294967295
+key_in_range (SporadicKey index row) = is_between 1 65535 row
+key_in_range (FirmKey row) = is_between 1 65535 row
+key_in_range (SoftKey row) = is_between 1 65535 row
 
 -- the numbers of the event are in range, and it names what the set has
 abbrev pub event_fits : TaskSet → Event → Bool
 event_fits set (Soft slots) = is_between 1 65535 slots
 event_fits set (Firm slots within) = is_between 1 65535 slots && nat_le within 65535
 event_fits set (Sporadic index) = nat_lt index (length set.sporadics)
-event_fits set (Done key) = key_fits set key
+event_fits set (Done key) = key_in_set set key && key_in_range key
 
 -- rows count up from this one, and slots never fall below this one and stay below n
 abbrev pub arrivals_follow : TaskSet → ℕ → ℕ → ℕ → List Arrival → Bool

@@ -38,3 +38,6 @@ pub const SLOT_LIMIT: u32 = 4096;
 
 /// Most soft jobs that wait at one time.
 pub const SOFT_LIMIT: u32 = 1024;
+
+/// That limit where the task file tells none.
+pub const SOFT_DEFAULT: u32 = 64;

@@ -1,13 +1,19 @@
-// A library with one function.
+//! Task files: TOML documents that write a task set.
 #![tactic(auto)]
 
-ghost use Rattle.std.specs.Prelude.{◌≡◌};
-ghost use Rattle.task_toml.specs.Echo.{echo_of};
+ghost use Rattle.std.specs.Prelude.{◌≡◌, ◌≢◌, Ok, Err, true, IfOk, IfErr};
+ghost use Rattle.slot_core.specs.Ranges.{is_sound};
+ghost use Rattle.task_toml.specs.Reading.{reading_of_tasks};
 
-// The `ensures` clause is the contract: what `echo` returns is `echo_of` of its argument, a definition
-// in `specs/Echo.antt`, which a caller's clause can cite too.
-pub fn echo(x: usize) -> usize
-    ensures { result ≡ echo_of x }
+use slot_core::{TaskFault, TaskSet};
+use std::alloc::Global;
+
+/// The task set that the bytes of a task file write. Any fault but want of memory is the first fault of
+/// the file: its shape table by table, then doubled names, wrong `after` entries, loops and the cycle.
+pub fn read_tasks(alloc: Global, bytes: &[u8]) -> Result<TaskSet, TaskFault>
+    ensures reading { IfOk result (λ set. reading_of_tasks bytes.now ≡ Ok set) }
+    ensures sound { IfOk result (λ set. is_sound set ≡ true) }
+    ensures fault { IfErr result (λ e. e ≢ TaskFault.Memory → reading_of_tasks bytes.now ≡ Err e) }
 {
-    x
+    Err(TaskFault::Memory)
 }

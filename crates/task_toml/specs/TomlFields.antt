@@ -1,0 +1,62 @@
+-- What stands at a key of a table of the task file, or the fault there.
+use Rattle.std.specs.Prelude.{ℕ, ◌&&◌, ◌||◌, ◌==◌, ◌+◌, Bool, true, false, ℤ, pos, nat_abs, int_le, List, [], ◌∷◌, length, min, nat_lt, if◌then◌else◌, Option, Some, None, Result, Ok, Err, option_map}
+use Rattle.toml.specs.Data.{Data, string, integer, array, table, Items, no_items, item, Members, no_members, member, get_member}
+use Rattle.slot_core.specs.declared.faults.Part.{Part}
+use Rattle.slot_core.specs.declared.faults.Part.TheVariants.{Top, Graph as GraphPart, Task as TaskPart, Sporadic as SporadicPart}
+use Rattle.slot_core.specs.declared.faults.Field.{Field}
+use Rattle.slot_core.specs.declared.faults.Field.TheVariants.{Soft, Graph, Sporadic, Name, Period, Offset, Deadline, Task, Wcet, After, Separation}
+use Rattle.slot_core.specs.declared.faults.Place.{Place}
+use Rattle.slot_core.specs.declared.faults.TaskFault.{TaskFault}
+use Rattle.slot_core.specs.declared.faults.TaskFault.TheVariants.{UnknownKey, Missing, WrongKind, OutOfRange, BadName, TooMany}
+use Rattle.slot_core.specs.Names.{is_name}
+use Rattle.slot_core.specs.Faults.{same_name}
+use Rattle.slot_core.specs.FaultTexts.{field_word}
+
+-- a value or the first fault
+abbrev pub Read : Type 0 → Type 0
+Read X = Result X TaskFault
+
+infixl 10 ◌>>=◌
+abbrev pub ◌>>=◌ : {X Y : Type 0} → Read X → (X → Read Y) → Read Y
+Ok x >>= f = f x
+Err fault >>= f = Err fault
+
+-- the key is one that a table of this part knows
+abbrev pub knows_key : Part → List ℕ → Bool
+knows_key Top key = same_name (field_word Soft) key || same_name (field_word Graph) key || same_name (field_word Sporadic) key
+knows_key (GraphPart g) key =
+    same_name (field_word Name) key || same_name (field_word Period) key || same_name (field_word Offset) key || same_name (field_word Deadline) key || same_name (field_word Task) key
+knows_key (TaskPart g t) key = same_name (field_word Name) key || same_name (field_word Wcet) key || same_name (field_word After) key
+knows_key (SporadicPart s) key =
+    same_name (field_word Name) key || same_name (field_word Wcet) key || same_name (field_word Separation) key || same_name (field_word Deadline) key
+
+-- each key of the table is one that it knows
+abbrev pub knows_keys : Part → Members → Bool
+knows_keys part no_members = true
+knows_keys part (member key value rest) = knows_key part key && knows_keys part rest
+
+-- the table, where it has no unknown key
+abbrev pub known_keys : Part → Members → Read Members
+known_keys part members = if knows_keys part members then Ok members else Err (UnknownKey part)
+
+-- what stands at a key
+abbrev pub at_key : Field → Members → Option Data
+at_key field members = get_member (field_word field) members
+
+-- the value, where it is there, else the fault
+abbrev pub or_fault : {X : Type 0} → TaskFault → Option X → Read X
+or_fault fault None = Err fault
+or_fault fault (Some x) = Ok x
+
+-- a number from low to high, and what it is where the key is not there
+abbrev pub number_at : Place → ℕ → ℕ → Option ℕ → Option Data → Read ℕ
+number_at place low high absent None = or_fault (Missing place) absent
+number_at place low high absent (Some (integer z)) =
+    if int_le (pos low) z && int_le z (pos high) then Ok (nat_abs z) else Err (OutOfRange place z)
+number_at place low high absent (Some _) = Err (WrongKind place)
+
+-- a name
+abbrev pub name_at : Place → Option Data → Read (List ℕ)
+name_at place None = Err (Missing place)
+name_at place (Some (string text)) = if is_name text then Ok text else Err (BadName place)
+name_at place (Some _) = Err (WrongKind place)
