@@ -1,0 +1,41 @@
+//! The cycle test: whether every window has slots for the work that must run in it.
+#![tactic(auto)]
+
+ghost use Rattle.std.specs.Prelude.{◌≡◌, ◌≤◌, true, All, IfOk};
+ghost use Rattle.slot_core.specs.declared.jobs.Job.{Job};
+ghost use Rattle.slot_core.specs.Cycles.{cycle_of};
+ghost use Rattle.slot_core.specs.Feasible.{demand, window_demand, counterexample_in};
+ghost use Rattle.slot_core.specs.Ranges.{is_sound};
+ghost use Rattle.demand_test.specs.Verdicts.{verdict_of};
+
+use slot_core::{Job, Memory, Sporadic, TaskSet, Window};
+use std::alloc::Global;
+
+/// The outcome of the cycle test.
+#[derive(Clone, Copy, PartialEq, Eq, Debug)]
+pub enum Verdict {
+    /// No window has more demand than slots.
+    Fits,
+    /// The failing window of least start, and then of least end.
+    Fails(Window),
+}
+
+/// The demand of the whole cycle, in slots: the offline work of one cycle and the densest sporadic arrivals.
+pub fn total(tasks: &TaskSet, cycle: u32) -> u64
+    requires sound { is_sound tasks.now ≡ true }
+    requires cycle { cycle ≡ cycle_of tasks.now }
+    ensures { result ≡ demand tasks.now cycle 0 cycle }
+{
+    0
+}
+
+/// Tries every window that starts in the first cycle and ends in the first two. The jobs are those of one
+/// cycle, whose demand as a whole fits it.
+pub fn test(alloc: Global, jobs: &[Job], sporadics: &[Sporadic], cycle: u32) -> Result<Verdict, Memory>
+    requires cycle { cycle ≤ 4096 }
+    requires within { All (λ (j : Job). j.dl ≤ cycle) jobs.now }
+    requires fits { window_demand jobs.now sporadics.now cycle 0 cycle ≤ cycle }
+    ensures { IfOk result (λ v. v ≡ verdict_of (counterexample_in jobs.now sporadics.now cycle)) }
+{
+    Err(Memory)
+}

