@@ -1,13 +1,30 @@
-// A library with one function.
+//! The commands of slotshift, over any files and sinks.
 #![tactic(auto)]
 
-ghost use Rattle.std.specs.Prelude.{◌≡◌};
-ghost use Rattle.slot_cli.specs.Echo.{echo_of};
+pub mod command;
+pub mod outcome;
 
-// The `ensures` clause is the contract: what `echo` returns is `echo_of` of its argument, a definition
-// in `specs/Echo.antt`, which a caller's clause can cite too.
-pub fn echo(x: usize) -> usize
-    ensures { result ≡ echo_of x }
-{
-    x
+/// Most slots of a replay.
+pub const REPLAY_LIMIT: u32 = 100_000;
+
+/// Most bytes of a task file.
+pub const TASK_FILE_LIMIT: usize = 1_048_576;
+
+/// Most bytes of an arrivals file.
+pub const ARRIVALS_FILE_LIMIT: usize = 4_194_304;
+
+/// How a run ended. The numbers are the program's exit statuses, from 0.
+#[derive(Clone, Copy, PartialEq, Eq, Debug)]
+pub enum Status {
+    Done,
+    Usage,
+    FileFault,
+    TooLarge,
+    BadTasks,
+    Infeasible,
+    BadArrivals,
+    WriteFault,
+    Memory,
+    BadTable,
 }
+

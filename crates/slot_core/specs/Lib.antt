@@ -19,6 +19,7 @@ pub mod Plans
 pub mod Points
 pub mod Precedence
 pub mod Ranges
+pub mod Reports
 pub mod Scenes
 pub mod Schedules
 pub mod Service
