@@ -1,11 +1,3 @@
-pub mod ChainRoom
-pub mod ChoiceLemmas
-pub mod CycleWindows
-pub mod HistoryLemmas
 pub mod LaterCycles
-pub mod MovedCycles
-pub mod OfflineWindows
 pub mod OneSlot
-pub mod ReadyJobs
 pub mod ServedTraces
-pub mod ServingHistories

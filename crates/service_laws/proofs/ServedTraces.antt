@@ -24,14 +24,14 @@ use Rattle.slot_core.specs.Feasible.{IsFeasible}
 use Rattle.slot_core.specs.Traces.{Step, slot, ran_entry, entry_of, history_after, entries, slot_steps, steps_of, end_entry, trace, history_of}
 use Rattle.slot_core.specs.Service.{IsServed, IsOrdered}
 use Rattle.service_laws.specs.Laws.{EveryTraceIsServed}
-use Rattle.service_laws.proofs.ChoiceLemmas.{IsEarliest-from_earliest}
-use Rattle.service_laws.proofs.CycleWindows.{offline_jobs_are_safe}
-use Rattle.service_laws.proofs.HistoryLemmas.{IsAmong, IsAmong-from_contains, Contains-from_among, filter-IsAmong, IsAmong-filter, IsAmong-unended, unended_own, unended_have_left, unended_due, unended-start, after_run-unended}
+use Rattle.slot_core.proofs.ChoiceLemmas.{IsEarliest-from_earliest}
+use Rattle.slot_core.proofs.CycleWindows.{offline_jobs_are_safe}
+use Rattle.slot_core.proofs.HistoryLemmas.{IsAmong, IsAmong-from_contains, Contains-from_among, filter-IsAmong, IsAmong-filter, IsAmong-unended, unended_own, unended_have_left, unended_due, unended-start, after_run-unended}
 use Rattle.slot_core.proofs.OfflineJobLemmas.{cycle-positive}
-use Rattle.service_laws.proofs.OfflineWindows.{IsOfCycle-from_offline, same_offline-from_key, IsBefore-from_precedes}
+use Rattle.slot_core.proofs.OfflineWindows.{IsOfCycle-from_offline, same_offline-from_key, IsBefore-from_precedes}
 use Rattle.service_laws.proofs.OneSlot.{one_slot}
-use Rattle.service_laws.proofs.ReadyJobs.{ready_in, ready_in-cycles}
-use Rattle.service_laws.proofs.ServingHistories.{IsPlanned, MayRun, IsServing, IsQuiet, empty, start, end, idle, run, IsQuiet-from_serving, at_most_declared, time_of-at_start, has_ended-at_start, IsServing-at_start, MayRun-from_serving, not_freed-from_serving}
+use Rattle.slot_core.proofs.ReadyJobs.{ready_in, ready_in-cycles}
+use Rattle.slot_core.proofs.ServingHistories.{IsPlanned, MayRun, IsServing, IsQuiet, empty, start, end, idle, run, IsQuiet-from_serving, at_most_declared, time_of-at_start, has_ended-at_start, IsServing-at_start, MayRun-from_serving, not_freed-from_serving}
 
 -- after the slots of a history each run so far was of a job that may run, and no deadline of so many
 -- cycles is at risk

@@ -8,7 +8,10 @@ use Rattle.slot_core.specs.Feasible.{counterexample}
 use Rattle.slot_core.specs.Reports.{check_line}
 use Rattle.slot_core.specs.Texts.{trace_text}
 use Rattle.slot_core.specs.Traces.{trace}
+use Rattle.std.specs.Io.KnownBytes.{Appends}
+use Rattle.slot_io.specs.Faults.{Rose}
 use Rattle.slot_io.specs.Files.{Held, first_bytes}
+use Rattle.slot_io.specs.Sinks.{AppendsPart}
 use Rattle.task_toml.specs.Reading.{reading_of_tasks}
 use Rattle.slot_cli.specs.declared.command.Command.{Command}
 use Rattle.slot_cli.specs.declared.command.Command.TheVariants.{Check, Replay}
@@ -17,7 +20,7 @@ use Rattle.slot_cli.specs.declared.outcome.File.TheVariants.{Tasks, Arrivals}
 use Rattle.slot_cli.specs.declared.outcome.Outcome.{Outcome}
 use Rattle.slot_cli.specs.declared.outcome.Outcome.TheVariants.{Done, Usage, Unreadable, TooLarge, BadTasks, Infeasible, BadArrivals, WriteFault, Memory}
 use Rattle.slot_cli.specs.Commands.{command_of, word_at}
-use Rattle.slot_cli.specs.Outcomes.{name_of, limit_of}
+use Rattle.slot_cli.specs.Outcomes.{name_of, limit_of, fault_line}
 
 -- a step of the work gives a value, or the outcome that ends the run
 abbrev pub Stage : Type 0 → Type 0
@@ -106,3 +109,14 @@ abbrev pub IsAnswer : Held → List (List ℕ) → Outcome → Type 0
 IsAnswer held words outcome =
     let due = outcome_of (expected held words) in
     (outcome ≡ due) ⊎ ((outcome ≡ Memory) ⊎ (IsHostFault (command_of words) outcome × (place_of outcome ≤ place_of due)))
+
+-- the line of the outcome is written to standard error, or a part of it where a fault is counted there
+abbrev pub IsReported : List (List ℕ) → Outcome → Option (List ℕ) → Option (List ℕ) → ℕ → ℕ → Type 0
+IsReported words outcome before after faults_before faults_after =
+    Appends before after (fault_line words outcome) ⊎ (AppendsPart before after (fault_line words outcome) × Rose faults_before faults_after)
+
+-- what is written to the output, where the text that is due is known: all of it where the run is done, and
+-- else a part of it from its front
+abbrev pub IsWritten : Outcome → List ℕ → Option (List ℕ) → Option (List ℕ) → Type 0
+IsWritten Done text before after = Appends before after text
+IsWritten outcome text before after = AppendsPart before after text

@@ -14,7 +14,7 @@ use Rattle.slot_core.specs.Precedence.{wcet_of, comes_after, longest_before, lon
 use Rattle.slot_core.specs.OfflineJobs.{tasks_of, cycle_jobs, offline_jobs}
 use Rattle.slot_core.specs.Windows.{precedes}
 use Rattle.slot_core.proofs.ChainLemmas.{longest_before-step, longest_after-step}
-use Rattle.service_laws.proofs.CycleWindows.{IsOfCycle, IsOfCycle-from_cycle}
+use Rattle.slot_core.proofs.CycleWindows.{IsOfCycle, IsOfCycle-from_cycle}
 use Rattle.slot_core.proofs.OfflineJobLemmas.{IsInstance, offline_from_cycles, HasNoLoop-from_sound}
 
 -- an offline job of the first cycles is one of a cycle among them

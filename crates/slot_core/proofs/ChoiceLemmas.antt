@@ -9,7 +9,7 @@ use Rattle.slot_core.specs.declared.jobs.Key.TheVariants.{Offline, Sporadic, Fir
 use Rattle.slot_core.specs.declared.jobs.Job.{Job}
 use Rattle.slot_core.specs.Keys.{key_order, same_key, is_earlier}
 use Rattle.slot_core.specs.Choice.{earlier_of, earliest}
-use Rattle.service_laws.proofs.HistoryLemmas.{IsAmong}
+use Rattle.slot_core.proofs.HistoryLemmas.{IsAmong}
 
 -- keys of one kind and with the same numbers are one
 same_from_order : (a b : Key) → key_order a ≡ key_order b → a ≡ b

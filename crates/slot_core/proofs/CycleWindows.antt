@@ -19,7 +19,7 @@ use Rattle.slot_core.specs.Demand.{work_from}
 use Rattle.slot_core.specs.Steps.{IsSafe}
 use Rattle.slot_core.specs.Feasible.{IsFeasible}
 use Rattle.slot_core.proofs.OfflineJobLemmas.{offline_from_cycle, cycle-multiple}
-use Rattle.service_laws.proofs.MovedCycles.{GraphFits, GraphFits-from_sound, wcet-from_sound, cycle_jobs-moved}
+use Rattle.slot_core.proofs.MovedCycles.{GraphFits, GraphFits-from_sound, wcet-from_sound, cycle_jobs-moved}
 
 -- a job of cycle n lies in it, and its derived window in its raw one
 pub record IsOfCycle (set : TaskSet) (n : ℕ) (job : Job) : Type 0 where

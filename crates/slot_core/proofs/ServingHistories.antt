@@ -16,7 +16,7 @@ use Rattle.slot_core.specs.Histories.{History, time_of, executed, is_freed, firm
 use Rattle.slot_core.specs.Scenes.{has_ended}
 use Rattle.slot_core.specs.Windows.{precedes}
 use Rattle.slot_core.specs.Service.{Follows}
-use Rattle.service_laws.proofs.ChoiceLemmas.{same_from_key}
+use Rattle.slot_core.proofs.ChoiceLemmas.{same_from_key}
 
 -- the job is an offline job of the first cycles
 abbrev pub IsPlanned : TaskSet → ℕ → Job → Type 0

@@ -12,8 +12,8 @@ use Rattle.slot_core.specs.OfflineJobs.{cycle_jobs, offline_jobs}
 use Rattle.slot_core.specs.Histories.{History}
 use Rattle.slot_core.specs.Scenes.{unended}
 use Rattle.slot_core.specs.Choice.{ready}
-use Rattle.service_laws.proofs.CycleWindows.{IsOfCycle-from_cycle}
-use Rattle.service_laws.proofs.HistoryLemmas.{IsAmong, Contains-from_among}
+use Rattle.slot_core.proofs.CycleWindows.{IsOfCycle-from_cycle}
+use Rattle.slot_core.proofs.HistoryLemmas.{IsAmong, Contains-from_among}
 
 -- the jobs that have not ended and may run at time t
 abbrev pub ready_in : ℕ → History → List Job → List Job
