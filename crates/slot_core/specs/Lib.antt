@@ -5,6 +5,7 @@ pub mod Cycles
 pub mod Demand
 pub mod ExampleFirm
 pub mod ExampleFlight
+pub mod ExamplePlans
 pub mod ExampleSets
 pub mod ExampleSoft
 pub mod ExampleTraces
