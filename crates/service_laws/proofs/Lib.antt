@@ -1,3 +1,2 @@
 pub mod LaterCycles
-pub mod OneSlot
 pub mod ServedTraces

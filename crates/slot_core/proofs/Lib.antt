@@ -5,9 +5,11 @@ pub mod CycleMultiples
 pub mod CycleWindows
 pub mod FaultLemmas
 pub mod HistoryLemmas
+pub mod KeptHistories
 pub mod ListMembers
 pub mod MovedCycles
 pub mod OfflineJobLemmas
 pub mod OfflineWindows
+pub mod OneSlot
 pub mod ReadyJobs
 pub mod ServingHistories

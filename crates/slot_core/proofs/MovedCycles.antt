@@ -16,7 +16,7 @@ use Rattle.slot_core.specs.Cycles.{cycle_of}
 use Rattle.slot_core.specs.Precedence.{wcet_of, longest_before, longest_after}
 use Rattle.slot_core.specs.Ranges.{is_sound, is_between}
 use Rattle.slot_core.specs.OfflineJobs.{tasks_of, release_of, deadline_of, instance_jobs, graph_jobs, raw_jobs, chain_before, chain_after, derived_job, cycle_jobs}
-use Rattle.slot_core.specs.Feasible.{declared_within, demand, IsFeasible}
+use Rattle.slot_core.specs.Feasible.{declared_within, IsFeasible}
 use Rattle.slot_core.proofs.ChainLemmas.{HasNoLoop}
 use Rattle.slot_core.proofs.ChainRoom.{sum_below, chain_room}
 use Rattle.slot_core.proofs.OfflineJobLemmas.{graph_in_range-from_sound, task_in_range-from_sound, HasNoLoop-from_sound, cycle-multiple}
