@@ -1,1 +1,2 @@
+pub mod FirstReady
 pub mod SameSums

@@ -34,6 +34,9 @@ sum_by-filter f p (x ∷ xs) =
 pub same-from_permutation : (xs ys : List Job) → IsPermutation xs ys → HaveSameSums xs ys
 same-from_permutation xs ys moved = λ f. sym (sum_by-IsPermutation f xs ys moved)
 
+pub same-sym : (xs ys : List Job) → HaveSameSums xs ys → HaveSameSums ys xs
+same-sym xs ys same = λ f. sym (same f)
+
 pub same-map : (g : Job → Job) (xs ys : List Job) → HaveSameSums xs ys → HaveSameSums (map g xs) (map g ys)
 same-map g xs ys same = λ f. sum_by-map f g xs ∙ (same (λ j. f (g j)) ∙ sym (sum_by-map f g ys))
 
