@@ -25,7 +25,7 @@ use Rattle.plain_replay.specs.States.{first_ready}
 use Rattle.plain_replay.proofs.SameSums.{same-sym, passes-same}
 
 -- a job of a list in which the first goes before all others
-all_among : (P : Job → Type 0) (jobs : List Job) (job : Job) → AllByRecursion P jobs → IsAmong job jobs → P job
+pub all_among : (P : Job → Type 0) (jobs : List Job) (job : Job) → AllByRecursion P jobs → IsAmong job jobs → P job
 all_among P [] job all at = absurd at
 all_among P (j ∷ jobs) job all (inl e) = rw e all.0
 all_among P (j ∷ jobs) job all (inr at) = all_among P jobs job all.1 at

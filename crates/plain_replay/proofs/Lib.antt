@@ -1,2 +1,3 @@
 pub mod FirstReady
+pub mod RunSteps
 pub mod SameSums
