@@ -2,3 +2,4 @@ pub mod FirstReady
 pub mod PointSteps
 pub mod RunSteps
 pub mod SameSums
+pub mod SetPoints

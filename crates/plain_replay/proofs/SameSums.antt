@@ -1,8 +1,8 @@
 -- What depends on a list of jobs by sums alone is the same for every order of the list.
-use Rattle.std.proofs.Common.{◌≡◌, ℕ, ◌+◌, ◌-◌, ◌≤◌, Bool, true, false, cond, List, [], ◌∷◌, ◌++◌, map, filter, take, refl, sym, ap, ◌∙◌, inl, inr, arith}
+use Rattle.std.proofs.Common.{◌≡◌, ℕ, ◌+◌, ◌-◌, ◌≤◌, Bool, true, false, cond, not, List, [], ◌∷◌, ◌++◌, map, filter, take, refl, sym, ap, ◌∙◌, inl, inr, arith}
 use Rattle.std.specs.Prelude.{sum_by, nat_le, nat_lt, ◌&&◌, IsPermutation}
 use Rattle.std.specs.List.{AllByRecursion}
-use Rattle.std.proofs.lemmas.Bool.{cases_Bool}
+use Rattle.std.proofs.lemmas.Bool.{cases_Bool, true_from_ne_false, not_from_false, not-true, both_ways}
 use Rattle.std.proofs.lemmas.Bool.Decides.{nat_tests}
 use Rattle.std.proofs.lemmas.List.Sums.{sum_by-cons, sum_by-append}
 use Rattle.std.proofs.lemmas.List.Sorted.{sum_by-IsPermutation}
@@ -13,14 +13,10 @@ use Rattle.slot_core.specs.Demand.{work_between}
 use Rattle.slot_core.specs.Spans.{least, slack, spare_capacity, spans_between}
 use Rattle.slot_core.specs.Steps.{after_run}
 use Rattle.slot_core.proofs.HistoryLemmas.{IsAmong}
+use Rattle.slot_core.proofs.MovedCycles.{sum_by-map}
 use Rattle.plain_replay.specs.Current.{HaveSameSums}
 
--- sums over mapped and filtered lists
-sum_by-map : (f : Job → ℕ) (g : Job → Job) (xs : List Job) → sum_by f (map g xs) ≡ sum_by (λ j. f (g j)) xs
-sum_by-map f g [] = refl
-sum_by-map f g (x ∷ xs) =
-    omega (arith, sum_by-cons f (g x) (map g xs), sum_by-cons (λ j. f (g j)) x xs, sum_by-map f g xs)
-
+-- sums over filtered lists
 sum_by-cond : (f : Job → ℕ) (b : Bool) (x : Job) (xs : List Job) → sum_by f (cond b (x ∷ xs) xs) ≡ cond b (f x) 0 + sum_by f xs
 sum_by-cond f true x xs = sum_by-cons f x xs
 sum_by-cond f false x xs = omega arith
@@ -71,14 +67,14 @@ spans_between-same xs ys same end s (e ∷ points) =
     λ i. record { start = s; end = e; work = work i; spare = spare i } ∷ rest i
 
 -- how many jobs pass a test, by sums
-abbrev count : (Job → Bool) → List Job → ℕ
+abbrev pub count : (Job → Bool) → List Job → ℕ
 count p xs = sum_by (λ j. cond (p j) 1 0) xs
 
 count-cons : (p : Job → Bool) (x : Job) (xs : List Job) → count p (x ∷ xs) ≡ cond (p x) 1 0 + count p xs
 count-cons p x xs = sum_by-cons (λ j. cond (p j) 1 0) x xs
 
 -- a job that passes is counted
-counted : (p : Job → Bool) (xs : List Job) (job : Job) → IsAmong job xs → p job ≡ true → 1 ≤ count p xs
+pub counted : (p : Job → Bool) (xs : List Job) (job : Job) → IsAmong job xs → p job ≡ true → 1 ≤ count p xs
 counted p [] job at passes = absurd at
 counted p (x ∷ xs) job (inl e) passes = omega (arith, count-cons p x xs, ap {B = ℕ} (λ b. cond b 1 0) (ap p (sym e) ∙ passes))
 counted p (x ∷ xs) job (inr at) passes = omega (arith, count-cons p x xs, counted p xs job at passes)
@@ -98,3 +94,10 @@ found p (x ∷ xs) some =
 pub passes-same : (p : Job → Bool) (xs ys : List Job) (job : Job) → HaveSameSums xs ys → IsAmong job xs → p job ≡ true → (other : Job) × IsAmong other ys × (p other ≡ true)
 passes-same p xs ys job same at passes =
     found p ys (omega (arith, same (λ j. cond (p j) 1 0), counted p xs job at passes))
+
+-- what passes for each job of one list passes for each of the other
+pub all-same : (p : Job → Bool) (xs ys : List Job) → HaveSameSums xs ys → ((job : Job) → IsAmong job xs → p job ≡ true) → (job : Job) → IsAmong job ys → p job ≡ true
+all-same p xs ys same each job at =
+    true_from_ne_false (p job) λ fails.
+    let m = passes-same (λ j. not (p j)) ys xs job (same-sym xs ys same) at (not_from_false (p job) fails) in
+    both_ways (p m.0) (not-true (p m.0) m.2) (each m.0 m.1)
