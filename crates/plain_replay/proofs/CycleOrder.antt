@@ -23,7 +23,7 @@ use Rattle.slot_core.proofs.MovedCycles.{IsMoved, cycle_jobs-same, sum_by-map}
 use Rattle.plain_replay.specs.Current.{HaveSameSums}
 use Rattle.plain_replay.specs.States.{jobs_in_cycle}
 use Rattle.plain_replay.proofs.SameSums.{same-from_permutation, all-same}
-use Rattle.plain_replay.proofs.SetPoints.{cycle_jobs-all}
+use Rattle.plain_replay.proofs.SetPoints.{feasible-from_plan, cycle_jobs-all}
 
 -- two numbers moved by as much stand as before
 nat_cmp-moved : (a b d : ℕ) → nat_cmp (a + d) (b + d) ≡ nat_cmp a b
@@ -99,10 +99,6 @@ ordered-append m (x ∷ xs) ys first second low later = (
   all-append (λ o. is_earlier x o ≡ true) xs ys first.0 (all-due_later x m ys low.0 later),
   ordered-append m xs ys first.1 second low.1 later,
 )
-
--- the set of a plan is feasible
-pub feasible-from_plan : (plan : PlanParts) → IsPlan plan → IsFeasible plan.tasks (cycle_of plan.tasks)
-feasible-from_plan plan is_plan = subst (IsFeasible plan.tasks) is_plan.cycle is_plan.feasible
 
 -- the plan's jobs in cycle n are the jobs of that cycle
 pub jobs_in_cycle-same : (plan : PlanParts) (n : ℕ) → IsPlan plan → HaveSameSums (cycle_jobs plan.tasks (cycle_of plan.tasks) n) (jobs_in_cycle plan n)

@@ -4,3 +4,4 @@ pub mod PointSteps
 pub mod RunSteps
 pub mod SameSums
 pub mod SetPoints
+pub mod SlotHistories

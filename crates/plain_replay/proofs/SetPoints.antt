@@ -29,6 +29,10 @@ use Rattle.plain_replay.specs.States.{ends_in_cycle}
 use Rattle.plain_replay.proofs.PointSteps.{points_from, points_from-append, points_from-moved}
 use Rattle.plain_replay.proofs.SameSums.{counted, all-same}
 
+-- the set of a plan is feasible
+pub feasible-from_plan : (plan : PlanParts) → IsPlan plan → IsFeasible plan.tasks (cycle_of plan.tasks)
+feasible-from_plan plan is_plan = subst (IsFeasible plan.tasks) is_plan.cycle is_plan.feasible
+
 -- what passes for each job of the first cycle, moved, passes for each job of a cycle
 pub cycle_jobs-all : (set : TaskSet) (n : ℕ) (p : Job → Bool) → is_sound set ≡ true → IsFeasible set (cycle_of set) → ((job other : Job) → IsMoved (cycle_of set) (n * cycle_of set) job other → p other ≡ true) → (job : Job) → IsAmong job (cycle_jobs set (cycle_of set) n) → p job ≡ true
 cycle_jobs-all set n p sound feasible each job at =
@@ -185,9 +189,6 @@ ends_in_cycle-points plan n a is_plan at = written ∙ (ends ∙ (ap (map later)
     later : ℕ → ℕ
     later e = e + n * cycle_of plan.tasks
 
-    feasible : IsFeasible plan.tasks (cycle_of plan.tasks)
-    feasible = subst (IsFeasible plan.tasks) is_plan.cycle is_plan.feasible
-
     written : ends_in_cycle plan n ≡ map (λ (s : Span). s.end + n * cycle_of plan.tasks) (plan_spans plan.tasks (cycle_of plan.tasks))
     written =
         ap (λ c. map (λ (s : Span). s.end + n * c) plan.spans) is_plan.cycle ∙ ap (map (λ (s : Span). s.end + n * cycle_of plan.tasks)) (is_plan.spans ∙ ap (plan_spans plan.tasks) is_plan.cycle)
@@ -202,4 +203,4 @@ ends_in_cycle-points plan n a is_plan at = written ∙ (ends ∙ (ap (map later)
 
     moved : points_from (is_plan_point plan.tasks) a (cycle_of plan.tasks) ≡ map later (points_from (is_plan_point plan.tasks) 1 (cycle_of plan.tasks))
     moved =
-        points_from-moved (cycle_of plan.tasks) (planned plan.tasks) n a (planned-within plan.tasks is_plan.sound feasible) at
+        points_from-moved (cycle_of plan.tasks) (planned plan.tasks) n a (planned-within plan.tasks is_plan.sound (feasible-from_plan plan is_plan)) at
