@@ -20,7 +20,7 @@ use Rattle.plain_replay.specs.States.{first_ready, after_first}
 use Rattle.plain_replay.proofs.FirstReady.{all_among}
 
 -- what holds of each job, and not of its slots left, holds of each after the slot
-after_first-all : (P : Job → Type 0) (t : ℕ) (jobs : List Job) → ((j : Job) (n : ℕ) → P j → P (record j { left = n })) → AllByRecursion P jobs → AllByRecursion P (after_first t jobs)
+pub after_first-all : (P : Job → Type 0) (t : ℕ) (jobs : List Job) → ((j : Job) (n : ℕ) → P j → P (record j { left = n })) → AllByRecursion P jobs → AllByRecursion P (after_first t jobs)
 after_first-all P t [] keeps all = tt
 after_first-all P t (j ∷ jobs) keeps all =
     by_tests (nat_le j.est t) (nat_lt 1 j.left) (after_first-all P t jobs keeps all.1)
@@ -46,7 +46,7 @@ abbrev pub AreApart : List Job → Type 0
 AreApart [] = Unit {0}
 AreApart (j ∷ jobs) = AllByRecursion (λ (o : Job). j.key ≡ o.key → ⊥) jobs × AreApart jobs
 
-all-from_among : (P : Job → Type 0) (jobs : List Job) → ((job : Job) → IsAmong job jobs → P job) → AllByRecursion P jobs
+pub all-from_among : (P : Job → Type 0) (jobs : List Job) → ((job : Job) → IsAmong job jobs → P job) → AllByRecursion P jobs
 all-from_among P [] each = tt
 all-from_among P (j ∷ jobs) each = (each j (inl refl), all-from_among P jobs (λ job at. each job (inr at)))
 

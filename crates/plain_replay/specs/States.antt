@@ -52,8 +52,11 @@ abbrev pub with_next_cycle : PlanParts → ReplayState → ReplayState
 with_next_cycle plan state =
     if state.time % plan.cycle == 0 then with_cycle plan (state.time / plan.cycle + 2) state else state
 
--- after a slot in which the first job that may run ran
-abbrev pub next_state : PlanParts → ReplayState → ReplayState
-next_state plan state =
-    let t = state.time + 1 in
+-- at the new time t, after a slot in which the first job that may run ran
+abbrev pub state_after : PlanParts → ℕ → ReplayState → ReplayState
+state_after plan t state =
     with_next_cycle plan (record { time = t; jobs = after_first state.time state.jobs; ends = ends_after t state.ends })
+
+-- after the next slot
+abbrev pub next_state : PlanParts → ReplayState → ReplayState
+next_state plan state = state_after plan (state.time + 1) state

@@ -14,7 +14,7 @@ use Rattle.slot_core.specs.Choice.{earlier_of, earliest}
 use Rattle.slot_core.proofs.HistoryLemmas.{IsAmong}
 
 -- keys of one kind and with the same numbers are one
-same_from_order : (a b : Key) → key_order a ≡ key_order b → a ≡ b
+pub same_from_order : (a b : Key) → key_order a ≡ key_order b → a ≡ b
 same_from_order (Offline g t k) (Offline h u l) e = cc
 same_from_order (Sporadic i r) (Sporadic j s) e = cc
 same_from_order (Firm r) (Firm s) e = cc
