@@ -83,7 +83,7 @@ ordered-moved set cycle n (j ∷ jobs) ordered =
 earlier-from_due : (a b : Job) → a.dl < b.dl → is_earlier a b ≡ true
 earlier-from_due a b due = grind (arith, nat_tests)
 
-all-append : (P : Job → Type 0) (xs ys : List Job) → AllByRecursion P xs → AllByRecursion P ys → AllByRecursion P (xs ++ ys)
+pub all-append : (P : Job → Type 0) (xs ys : List Job) → AllByRecursion P xs → AllByRecursion P ys → AllByRecursion P (xs ++ ys)
 all-append P [] ys first second = second
 all-append P (x ∷ xs) ys first second = (first.0, all-append P xs ys first.1 second)
 

@@ -1,6 +1,7 @@
 pub mod CurrentStates
 pub mod CycleOrder
 pub mod FirstReady
+pub mod NextStates
 pub mod PointSteps
 pub mod RunSteps
 pub mod SameSums
