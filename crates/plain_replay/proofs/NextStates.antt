@@ -93,3 +93,151 @@ IsCurrent-first plan is_plan none =
       ordered = up_to_3.ordered;
       ends = first_ends plan is_plan;
     }
+
+-- the next slot starts a cycle, or lies in the same cycle as this one
+data NextSlot (t cycle : ℕ) : Type 0 where
+  turn : suc t % cycle ≡ 0 → suc t / cycle ≡ suc (t / cycle) → suc t ≡ suc (t / cycle) * cycle → NextSlot t cycle
+  inside : (suc t % cycle ≡ 0 → ⊥) → suc t / cycle ≡ t / cycle → NextSlot t cycle
+
+next_slot : (t cycle : ℕ) → 1 ≤ cycle → NextSlot t cycle
+next_slot t cycle some = by_order (cases_lt (suc (t % cycle)) cycle)
+  where
+    by_order : (suc (t % cycle) < cycle) ⊎ (cycle ≤ suc (t % cycle)) → NextSlot t cycle
+    by_order (inl lt) =
+        let split : suc t ≡ t / cycle * cycle + suc (t % cycle) = omega (arith, div-add-mod' t cycle) in
+        let rest : suc t % cycle ≡ suc (t % cycle) = ap (λ n. n % cycle) split ∙ mod-mul-add (t / cycle) cycle (suc (t % cycle)) lt in
+        inside
+        (λ e. absurd (omega arith))
+        (ap (λ n. n / cycle) split ∙ div-mul-add (t / cycle) cycle (suc (t % cycle)) lt)
+    by_order (inr ge) =
+        let whole : suc t ≡ suc (t / cycle) * cycle = omega (arith, div-add-mod' t cycle, mod_below t cycle some) in
+        let split : suc t ≡ suc (t / cycle) * cycle + 0 = omega arith in
+        turn
+        (ap (λ n. n % cycle) split ∙ mod-mul-add (suc (t / cycle)) cycle 0 some)
+        (ap (λ n. n / cycle) split ∙ div-mul-add (suc (t / cycle)) cycle 0 some)
+        whole
+
+-- what is the same up to order stays so in a slot
+same-after_slot : (ran : Ran) (xs ys : List Job) → HaveSameSums xs ys → HaveSameSums (after_slot ran xs) (after_slot ran ys)
+same-after_slot RanIdle xs ys same = same
+same-after_slot (RanKey key) xs ys same = same-after_run key xs ys same
+
+-- the jobs after a slot, of the cycles that counted before it
+slot-jobs : (set : TaskSet) (state : ReplayState) → IsOffline set → IsCurrent set state → HaveSameSums (unended (history_at set (suc state.time)) (offline_jobs set (cycle_of set) (cycles_at set state.time))) (after_first state.time state.jobs)
+unfolding history_at entry_at
+slot-jobs set state offline current =
+    let t = state.time in
+    let h = history_at set state.time in
+    let ran = first_ready state.time state.jobs in
+    let jobs = offline_jobs set (cycle_of set) (cycles_at set state.time) in
+    let code = after_first-run t state.jobs (apart-current set state offline current) (some_left-current set state offline current) in
+    let model : unended (history_at set (suc state.time)) jobs ≡ after_slot ran (unended h jobs) = ap (λ what. unended (what ∷ h) jobs) (entry-current set state offline current) ∙ unended-after_slot ran h jobs in
+    let before : HaveSameSums (unended h jobs) state.jobs = subst (λ js. HaveSameSums js state.jobs) (remaining-history_at set t offline) current.jobs in
+    subst
+    (λ js. HaveSameSums js (after_first state.time state.jobs))
+    (sym model)
+    (subst (HaveSameSums (after_slot ran (unended h jobs))) (sym code) (same-after_slot ran (unended h jobs) state.jobs before))
+
+slot-ordered : (set : TaskSet) (state : ReplayState) → IsOffline set → IsCurrent set state → IsUpTo (cycles_at set state.time * cycle_of set) (after_first state.time state.jobs)
+slot-ordered set state offline current =
+    let end = cycles_at set state.time * cycle_of set in
+    record {
+      ordered = after_first-ordered state.time state.jobs current.ordered;
+      due = after_first-all (λ (j : Job). j.dl ≤ end) state.time state.jobs (λ j n low. low) (all-from_among (λ (j : Job). j.dl ≤ end) state.jobs (λ job at. (waiting-current set state job offline current at).near));
+    }
+
+-- the points after a time, by the test for one
+points-history_at : (set : TaskSet) (t : ℕ) → IsOffline set → points_of set (cycle_of set) (history_at set t) ≡ points_from (is_plan_point set) (t + 1) (horizon (cycle_of set) t - t)
+points-history_at set t offline =
+    points_of-quiet set (history_at set t) (quiet-history_at set t offline) ∙ ap (λ n. points_from (is_plan_point set) (n + 1) (horizon (cycle_of set) n - n)) (time_of-history_at set t)
+
+-- those after a slot, up to the horizon before it
+past_now : (t cycle : ℕ) → 1 ≤ cycle → t < horizon cycle t
+past_now t cycle some = omega (arith, div-add-mod' t cycle, mod_below t cycle some)
+
+slot-ends : (set : TaskSet) (state : ReplayState) → IsOffline set → IsCurrent set state → ends_after (suc state.time) state.ends ≡ points_from (is_plan_point set) (suc state.time + 1) (horizon (cycle_of set) state.time - suc state.time)
+slot-ends set state offline current =
+    let t = state.time in
+    let count = horizon (cycle_of set) state.time - suc state.time in
+    let later : horizon (cycle_of set) state.time - state.time ≡ suc (horizon (cycle_of set) state.time - suc state.time) = omega (arith, past_now state.time (cycle_of set) (cycle-positive set offline.sound)) in
+    let before : state.ends ≡ points_from (is_plan_point set) (suc state.time) (suc count) = current.ends ∙ (points-history_at set t offline ∙ ap₂ (points_from (is_plan_point set)) (add-one state.time) later) in
+    ap (ends_after (suc t)) before ∙ ends_after-points (is_plan_point set) (suc t) count
+
+-- the state after a slot is current, where the slot after it lies in the same cycle
+IsCurrent-inside : (plan : PlanParts) (state : ReplayState) → IsOffline plan.tasks → IsCurrent plan.tasks state → suc state.time / cycle_of plan.tasks ≡ state.time / cycle_of plan.tasks → IsCurrent plan.tasks (record { time = suc state.time; jobs = after_first state.time state.jobs; ends = ends_after (suc state.time) state.ends })
+IsCurrent-inside plan state offline current same_cycle =
+    let set = plan.tasks in
+    let t = state.time in
+    let cycle = cycle_of plan.tasks in
+    let h = history_at plan.tasks (suc state.time) in
+    let jobs : remaining set cycle h ≡ unended h (offline_jobs set cycle (cycles_at set t)) = remaining-history_at set (suc t) offline ∙ ap (λ d. unended h (offline_jobs set cycle (d + 3))) same_cycle in
+    let ends : points_of set cycle h ≡ points_from (is_plan_point set) (suc t + 1) (horizon cycle t - suc t) = points-history_at set (suc t) offline ∙ ap (λ d. points_from (is_plan_point set) (suc t + 1) ((d + 3) * cycle - suc t)) same_cycle in
+    record {
+      jobs = subst (λ js. HaveSameSums js (after_first state.time state.jobs)) (sym jobs) (slot-jobs set state offline current);
+      ordered = (slot-ordered set state offline current).ordered;
+      ends = slot-ends set state offline current ∙ sym ends;
+    }
+
+-- and, with the next cycle, where it starts a cycle
+further_now : (t cycle : ℕ) → suc t / cycle ≡ suc (t / cycle) → horizon cycle (suc t) ≡ horizon cycle t + cycle
+further_now t cycle e =
+    let moved : (suc t / cycle + 3) * cycle ≡ (suc (t / cycle) + 3) * cycle = ap (λ d. (d + 3) * cycle) e in
+    omega arith
+
+IsCurrent-turn : (plan : PlanParts) (state : ReplayState) → IsPlan plan → IsOffline plan.tasks → IsCurrent plan.tasks state → suc state.time / cycle_of plan.tasks ≡ suc (state.time / cycle_of plan.tasks) → suc state.time ≡ suc (state.time / cycle_of plan.tasks) * cycle_of plan.tasks → IsCurrent plan.tasks (with_cycle plan (cycles_at plan.tasks state.time) (record { time = suc state.time; jobs = after_first state.time state.jobs; ends = ends_after (suc state.time) state.ends }))
+IsCurrent-turn plan state is_plan offline current next_cycle start =
+    let set = plan.tasks in
+    let t = state.time in
+    let cycle = cycle_of plan.tasks in
+    let n = cycles_at plan.tasks state.time in
+    let h = history_at plan.tasks (suc state.time) in
+    let old = after_first state.time state.jobs in
+    let fresh = unended-next_cycle set (suc t) n offline (omega arith) (omega arith) in
+    let more : cycles_at set (suc t) ≡ suc n = omega arith in
+    let jobs : remaining set cycle h ≡ unended h (offline_jobs set cycle n) ++ cycle_jobs set cycle n = remaining-history_at set (suc t) offline ∙ (ap (λ m. unended h (offline_jobs set cycle m)) more ∙ (unended-append h (offline_jobs set cycle n) (cycle_jobs set cycle n) ∙ ap (λ js. unended h (offline_jobs set cycle n) ++ js) fresh)) in
+    let same = same-append (unended h (offline_jobs set cycle n)) old (cycle_jobs set cycle n) (jobs_in_cycle plan n) (slot-jobs set state offline current) (jobs_in_cycle-same plan n is_plan) in
+    let count = horizon cycle t - suc t in
+    let past = past_now t cycle (cycle-positive set offline.sound) in
+    let ends = with_cycle-ends plan n (suc t + 1) count (ends_after (suc t) state.ends) is_plan (omega arith) (slot-ends set state offline current) in
+    let further : horizon cycle (suc t) ≡ horizon cycle t + cycle = further_now t cycle next_cycle in
+    let reach : horizon cycle t - suc t + cycle ≡ horizon cycle (suc t) - suc t = omega arith in
+    record {
+      jobs = subst (λ js. HaveSameSums js (old ++ jobs_in_cycle plan n)) (sym jobs) same;
+      ordered = (with_cycle-ordered plan n old is_plan (slot-ordered set state offline current)).ordered;
+      ends = ends ∙ (ap (points_from (is_plan_point set) (suc t + 1)) reach ∙ sym (points-history_at set (suc t) offline));
+    }
+
+-- the third cycle from a time on comes in where the time is the start of a cycle
+with_next_cycle-turn : (plan : PlanParts) (n : ℕ) (state : ReplayState) → plan.cycle ≡ cycle_of plan.tasks → state.time % cycle_of plan.tasks ≡ 0 → state.time / cycle_of plan.tasks + 2 ≡ n → with_next_cycle plan state ≡ with_cycle plan n state
+with_next_cycle-turn plan n state own even is =
+    let test : (state.time % plan.cycle == 0) ≡ true = eq-eqb (state.time % plan.cycle) 0 (ap (λ c. state.time % c) own ∙ even) in
+    let number : state.time / plan.cycle + 2 ≡ n = ap (λ c. state.time / c + 2) own ∙ is in
+    ap (λ b. cond b (with_cycle plan (state.time / plan.cycle + 2) state) state) test ∙ ap (λ m. with_cycle plan m state) number
+
+with_next_cycle-inside : (plan : PlanParts) (state : ReplayState) → plan.cycle ≡ cycle_of plan.tasks → (state.time % cycle_of plan.tasks ≡ 0 → ⊥) → with_next_cycle plan state ≡ state
+with_next_cycle-inside plan state own odd =
+    let test : (state.time % plan.cycle == 0) ≡ false = ne_eqb (state.time % plan.cycle) 0 (λ e. odd (sym (ap (λ c. state.time % c) own) ∙ e)) in
+    ap (λ b. cond b (with_cycle plan (state.time / plan.cycle + 2) state) state) test
+
+-- each slot keeps the state current
+pub IsCurrent-next : (plan : PlanParts) (state : ReplayState) → IsPlan plan → plan.tasks.sporadics ≡ [] → IsCurrent plan.tasks state → IsCurrent plan.tasks (next_state plan state)
+IsCurrent-next plan state is_plan none current =
+    subst
+    (λ t. IsCurrent plan.tasks (state_after plan t state))
+    (sym (add-one state.time))
+    (by_slot (next_slot state.time (cycle_of plan.tasks) (cycle-positive plan.tasks is_plan.sound)))
+  where
+    after : ReplayState
+    after = record { time = suc state.time; jobs = after_first state.time state.jobs; ends = ends_after (suc state.time) state.ends }
+
+    by_slot : NextSlot state.time (cycle_of plan.tasks) → IsCurrent plan.tasks (state_after plan (suc state.time) state)
+    by_slot (inside odd same_cycle) =
+        subst
+        (IsCurrent plan.tasks)
+        (sym (with_next_cycle-inside plan after is_plan.cycle odd))
+        (IsCurrent-inside plan state (offline-from_plan plan is_plan none) current same_cycle)
+    by_slot (turn even next_cycle start) =
+        subst
+        (IsCurrent plan.tasks)
+        (sym (with_next_cycle-turn plan (cycles_at plan.tasks state.time) after is_plan.cycle even (omega arith)))
+        (IsCurrent-turn plan state is_plan (offline-from_plan plan is_plan none) current next_cycle start)
