@@ -2,7 +2,10 @@
 #![tactic(auto)]
 
 pub mod entries;
+mod keys;
 pub mod line;
+mod spans;
+mod words;
 
 pub use entries::{entry_line, key_text};
 pub use line::Line;
