@@ -1,6 +1,6 @@
 //! Names and keys at the end of a line.
 
-ghost use Rattle.std.specs.Prelude.{◌≡◌, ◌≤◌, ◌+◌, true, length, ◌++◌, ◌∷◌, Some, slice_get, nat_lt};
+ghost use Rattle.std.specs.Prelude.{◌≡◌, ◌≤◌, ◌+◌, true, length, codes, decimal, ◌&&◌, ◌++◌, ◌∷◌, Some, slice_get, nat_lt};
 ghost use Rattle.slot_core.specs.Arrivals.{key_in_set};
 ghost use Rattle.slot_core.specs.OfflineJobs.{tasks_of};
 ghost use Rattle.slot_core.specs.Texts.{key_text, graph_name, task_name, sporadic_name};
@@ -55,4 +55,43 @@ pub fn push_sporadic(line: &mut Line, index: u8, tasks: &TaskSet)
     ensures short { length line.new ≤ length line.old + 24 }
 {
     push_name(line, &tasks.sporadics.items()[index as usize].name);
+}
+
+/// Appends the key of an instance of a task of a graph.
+fn push_offline(line: &mut Line, graph: u16, task: u16, instance: u64, tasks: &TaskSet)
+    requires named { (nat_lt graph (length tasks.now.graphs) && nat_lt task (length (tasks_of tasks.now graph))) ≡ true }
+    requires room { length line.old + 70 ≤ 1024 }
+    ensures text { line.new ≡ line.old ++ (graph_name tasks.now graph ++ codes "." ++ task_name tasks.now graph task ++ codes "#" ++ decimal instance) }
+    ensures short { length line.new ≤ length line.old + 70 }
+{
+    push_graph(line, graph, tasks);
+    line.push(b".");
+    push_task(line, graph, task, tasks);
+    line.push(b"#");
+    line.number(instance);
+}
+
+/// Appends the key, which takes at most 70 bytes.
+pub fn push_key(line: &mut Line, key: Key, tasks: &TaskSet)
+    requires named { key_in_set tasks.now key ≡ true }
+    requires room { length line.old + 70 ≤ 1024 }
+    ensures text { line.new ≡ line.old ++ key_text tasks.now key }
+    ensures short { length line.new ≤ length line.old + 70 }
+{
+    match key {
+        Key::Offline(graph, task, instance) => push_offline(line, graph, task, instance, tasks),
+        Key::Sporadic(index, row) => {
+            push_sporadic(line, index, tasks);
+            line.push(b"@");
+            line.number(row as u64);
+        }
+        Key::Firm(row) => {
+            line.push(b"firm:");
+            line.number(row as u64);
+        }
+        Key::Soft(row) => {
+            line.push(b"soft:");
+            line.number(row as u64);
+        }
+    }
 }

@@ -43,7 +43,8 @@ impl Line {
     /// Appends the number in decimal digits.
     pub fn number(&mut self, n: u64)
         requires { length self.old + 20 ≤ 1024 }
-        ensures { self.new ≡ self.old ++ decimal n }
+        ensures text { self.new ≡ self.old ++ decimal n }
+        ensures short { length self.new ≤ length self.old + 20 }
     {
         let mut buffer = itoa::Buffer::new();
         self.push(buffer.format(n).as_bytes());
@@ -52,7 +53,8 @@ impl Line {
     /// Appends the number in decimal digits, after a `-` where it is below 0.
     pub fn signed_number(&mut self, n: i64)
         requires { length self.old + 20 ≤ 1024 }
-        ensures { self.new ≡ self.old ++ signed_decimal n }
+        ensures text { self.new ≡ self.old ++ signed_decimal n }
+        ensures short { length self.new ≤ length self.old + 20 }
     {
         let mut buffer = itoa::Buffer::new();
         self.push(buffer.format(n).as_bytes());
