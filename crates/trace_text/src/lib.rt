@@ -5,6 +5,8 @@ pub mod entries;
 mod keys;
 pub mod line;
 mod spans;
+#[cfg(test)]
+mod tests;
 mod words;
 
 pub use entries::{entry_line, key_text};
