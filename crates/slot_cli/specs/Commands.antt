@@ -28,5 +28,5 @@ abbrev pub command_of : List (List ℕ) → Option Command
 command_of words =
     if length words == 2 && bytes_eq (word_at words 0) (codes "check") then Some Check
     else if length words == 4 && bytes_eq (word_at words 0) (codes "replay") then
-        option_map Replay (number_of REPLAY_LIMIT (word_at words 3))
+    option_map Replay (number_of REPLAY_LIMIT (word_at words 3))
     else None

@@ -1,8 +1,9 @@
 //! The command line.
 
-ghost use Rattle.std.specs.Prelude.{◌≡◌};
+ghost use Rattle.std.specs.Prelude.{◌≡◌, true};
 ghost use Rattle.std.specs.Char.{is_ascii_digit};
 ghost use Rattle.std.specs.List.{list_all};
+ghost use Rattle.std.specs.Str.Parse.{digits_value};
 ghost use Rattle.slot_cli.specs.Commands.{command_of, is_number, number_of};
 
 use crate::REPLAY_LIMIT;
@@ -40,9 +41,19 @@ fn number_of(limit: u32, word: &str) -> Option<u32>
     if !is_number(word.as_bytes()) {
         return None;
     }
+    let value = value_of(word);
+    if value <= limit { Some(value) } else { None }
+}
+
+/// The number that the digits write.
+#[tactic(auto, using(crate::proofs::NumberLemmas::parse_number))]
+fn value_of(word: &str) -> u32
+    requires { is_number word.now ≡ true }
+    ensures { result ≡ digits_value 10 word.now }
+{
     match word.parse::<u32>() {
-        Ok(value) if value <= limit => Some(value),
-        _ => None,
+        Ok(value) => value,
+        Err(_) => unreachable!(),
     }
 }
 
