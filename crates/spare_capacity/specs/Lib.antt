@@ -1,1 +1,2 @@
 pub mod Recurrence
+pub mod Refill
