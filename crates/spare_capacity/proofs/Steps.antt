@@ -1,9 +1,9 @@
-use Rattle.std.proofs.Common.{◌≡◌, ℕ, zero, suc, ◌+◌, ◌-◌, ◌*◌, ◌<◌, ◌≤◌, ◌^◌, ℤ, pos, neg_ℤ, ◌≤ℤ◌, List, [], ◌∷◌, ◌++◌, length, get_or, set, take, drop, refl, sym, ◌∙◌, ap, subst, add-one, sub-one, arith}
-use Rattle.std.proofs.lemmas.List.{drop_more, set_split}
+use Rattle.std.proofs.Common.{◌≡◌, ℕ, zero, suc, ◌+◌, ◌-◌, ◌*◌, ◌<◌, ◌≤◌, ◌^◌, pos, neg_ℤ, ◌≤ℤ◌, List, [], ◌∷◌, ◌++◌, length, get_or, set, take, drop, refl, ap, subst, sub-one, arith}
+use Rattle.std.proofs.lemmas.List.{drop_more}
 use Rattle.std.proofs.lemmas.Int.{ints, clamps}
 use Rattle.slot_core.specs.declared.jobs.Span.{Span}
 use Rattle.spare_capacity.specs.Recurrence.{filled, first_spare, FollowOn, AreConsecutive}
-use Rattle.spare_capacity.specs.Refill.{refilled, with_spare, CanRefill, IsShort}
+use Rattle.spare_capacity.specs.Refill.{refilled, with_spare, CanRefill}
 
 -- the row that a read names past the end
 abbrev pub no_row : Span

@@ -2,7 +2,7 @@
 use Rattle.std.specs.Prelude.{◌-◌, ◌≤◌, ◌^◌, ℤ, pos, neg_ℤ, ◌+ℤ◌, ◌-ℤ◌, ◌≤ℤ◌, List, [], ◌∷◌}
 use Rattle.std.specs.Int.{int_min}
 use Rattle.slot_core.specs.declared.jobs.Span.{Span}
-use Rattle.spare_capacity.specs.Recurrence.{first_spare, spare_before}
+use Rattle.spare_capacity.specs.Recurrence.{first_spare}
 
 -- the row, with its capacity by that of the row after it
 abbrev pub with_spare : Span → ℤ → Span

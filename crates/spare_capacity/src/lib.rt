@@ -5,6 +5,8 @@ ghost use Rattle.std.specs.Prelude.{◌≡◌, ◌+◌, ◌≤◌, ◌<◌, ◌^
 ghost use Rattle.spare_capacity.specs.Recurrence.{filled, first_spare, AreConsecutive};
 ghost use Rattle.spare_capacity.specs.Refill.{refilled, with_spare, CanRefill, IsShort};
 
+pub mod laws;
+
 use slot_core::Span;
 
 /// Sets each `spare` by the recurrence, from the last span to the first, and leaves the rest. A span's
