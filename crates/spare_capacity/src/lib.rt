@@ -6,6 +6,8 @@ ghost use Rattle.spare_capacity.specs.Recurrence.{filled, first_spare, AreConsec
 ghost use Rattle.spare_capacity.specs.Refill.{refilled, with_spare, CanRefill, IsShort};
 
 pub mod laws;
+#[cfg(test)]
+mod tests;
 
 use slot_core::Span;
 
