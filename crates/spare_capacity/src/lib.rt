@@ -23,7 +23,7 @@ pub fn fill(rows: &mut [Span])
     }
 }
 
-// Sets the capacity of the row at this place by that of the row after it.
+/// Sets the capacity of the row at this place by that of the row after it.
 fn refill(rows: &mut [Span], at: usize)
     requires within { at < length rows.old }
     requires short { CanRefill (drop at rows.old) }
@@ -33,14 +33,14 @@ fn refill(rows: &mut [Span], at: usize)
     rows[at] = with_spare(rows[at], later);
 }
 
-// The capacity of the row at this place, or 0 where there is none.
+/// The capacity of the row at this place, or 0 where there is none.
 fn spare_from(rows: &[Span], at: usize) -> i64
     ensures { result ≡ first_spare (drop at rows.now) }
 {
     if at < rows.len() { rows[at].spare } else { 0 }
 }
 
-// The row with its capacity, where the row after it has this one.
+/// The row with its capacity, where the row after it has this one.
 fn with_spare(row: Span, later: i64) -> Span
     requires short { IsShort row }
     requires borrows_few { neg_ℤ (pos (2 ^ 60)) ≤ℤ later }
