@@ -9,6 +9,9 @@ ghost use Rattle.slot_core.specs.Spans.{spans_between};
 ghost use Rattle.interval_build.specs.Ends.{AreRising, last_end};
 ghost use Rattle.interval_build.specs.Rows.{rows_between};
 
+#[cfg(test)]
+mod tests;
+
 use slot_core::{Job, Memory, Span};
 use std::alloc::Global;
 
