@@ -1,2 +1,9 @@
+pub mod CounterexampleLemmas
+pub mod FailingWindows
 pub mod LaterCycles
+pub mod LaterDemand
+pub mod PlaceCounts
+pub mod SchedulePlaces
+pub mod ScheduleWindows
 pub mod ServedTraces
+pub mod TraceSchedules

@@ -1,37 +1,22 @@
 -- Every trace of a feasible set without sporadic tasks is served and ordered.
-use Rattle.std.proofs.Common.{◌≡◌, ℕ, suc, ◌+◌, ◌*◌, ◌/◌, ◌<◌, ◌≤◌, true, false, List, [], ◌∷◌, ◌++◌, map, Option, Some, None, append-nil, add-one, div-lt_iff_lt-mul, div-mul-le_self, refl, ap, sym, ◌∙◌, subst, arith}
-use Rattle.std.proofs.lemmas.Nat.{le-div}
-use Rattle.std.proofs.lemmas.Bool.{leb-true, le-leb, true_from_ne_false}
-use Rattle.std.specs.Prelude.{flat_map, nat_le}
+use Rattle.std.proofs.Common.{◌≡◌, ℕ, ◌+◌, ◌/◌, true, List, [], ◌∷◌, ◌++◌, map, append-nil, refl, sym, subst, arith}
+use Rattle.std.proofs.lemmas.Bool.{true_from_ne_false}
 use mathlib.Core.List.{reverse_aux}
-use Rattle.std.specs.Option.{option_map_or}
 use Rattle.std.specs.List.{range_with_len}
-use Rattle.slot_core.specs.declared.jobs.Job.{Job}
 use Rattle.slot_core.specs.declared.tasks.TaskSet.{TaskSet}
 use Rattle.slot_core.specs.declared.events.Entry.{Entry}
-use Rattle.slot_core.specs.declared.events.Ran.{Ran}
-use Rattle.slot_core.specs.declared.events.Ran.TheVariants.{Idle as RanIdle, Key as RanKey}
 use Rattle.slot_core.specs.declared.events.What.TheVariants.{Start, End}
 use Rattle.slot_core.specs.Cycles.{cycle_of}
 use Rattle.slot_core.specs.Ranges.{is_sound}
 use Rattle.slot_core.specs.OfflineJobs.{offline_jobs}
 use Rattle.slot_core.specs.Histories.{History, time_of}
-use Rattle.slot_core.specs.Scenes.{Scene, guaranteed, has_ended, with_left, unended, remaining, scene_of}
-use Rattle.slot_core.specs.Choice.{ready, earliest, choice}
-use Rattle.slot_core.specs.Steps.{after_slot, IsSafe}
-use Rattle.slot_core.specs.Windows.{precedes}
-use Rattle.slot_core.specs.Feasible.{IsFeasible}
-use Rattle.slot_core.specs.Traces.{Step, slot, ran_entry, entry_of, history_after, entries, slot_steps, steps_of, end_entry, trace, history_of}
+use Rattle.slot_core.specs.Scenes.{guaranteed, has_ended}
+use Rattle.slot_core.specs.Traces.{Step, entry_of, history_after, entries, steps_of, end_entry, trace, history_of}
 use Rattle.slot_core.specs.Service.{IsServed, IsOrdered}
 use Rattle.service_laws.specs.Laws.{EveryTraceIsServed}
-use Rattle.slot_core.proofs.ChoiceLemmas.{IsEarliest-from_earliest}
-use Rattle.slot_core.proofs.CycleWindows.{offline_jobs_are_safe}
-use Rattle.slot_core.proofs.HistoryLemmas.{IsAmong, IsAmong-from_contains, Contains-from_among, filter-IsAmong, IsAmong-filter, IsAmong-unended, unended_own, unended_have_left, unended_due, unended-start, after_run-unended}
-use Rattle.slot_core.proofs.OfflineJobLemmas.{cycle-positive}
-use Rattle.slot_core.proofs.OfflineWindows.{IsOfCycle-from_offline, same_offline-from_key, IsBefore-from_precedes}
-use Rattle.slot_core.proofs.KeptHistories.{IsKept, IsAlwaysKept, due_now, kept-after_slots, kept-at_start}
-use Rattle.slot_core.proofs.ReadyJobs.{ready_in, ready_in-cycles}
-use Rattle.slot_core.proofs.ServingHistories.{IsPlanned, MayRun, IsServing, IsQuiet, empty, start, end, idle, run, IsQuiet-from_serving, at_most_declared, time_of-at_start, has_ended-at_start, IsServing-at_start, MayRun-from_serving, not_freed-from_serving}
+use Rattle.slot_core.proofs.OfflineWindows.{IsOfCycle-from_offline}
+use Rattle.slot_core.proofs.KeptHistories.{IsAlwaysKept, due_now, kept-after_slots, kept-at_start}
+use Rattle.slot_core.proofs.ServingHistories.{IsServing, end, IsQuiet-from_serving, at_most_declared, time_of-at_start, has_ended-at_start, IsServing-at_start, MayRun-from_serving, not_freed-from_serving}
 
 -- the history of so many slots between the start and the end entry, as a trace tells it
 abbrev whole : History → History

@@ -10,6 +10,8 @@ pub mod list;
 pub mod name;
 pub mod shown;
 pub mod tasks;
+#[cfg(test)]
+mod tests;
 pub mod words;
 
 pub use events::{Arrival, Done, Entry, Event, Firm, Ran, Soft, Spo, What};
@@ -25,10 +27,10 @@ pub use words::Words;
 pub const GRAPH_LIMIT: usize = 32;
 
 /// Most tasks in a graph.
-pub const TASK_LIMIT: usize = 1;
+pub const TASK_LIMIT: usize = 32;
 
 /// Most `after` entries of a task.
-pub const AFTER_LIMIT: usize = 0;
+pub const AFTER_LIMIT: usize = 31;
 
 /// Most sporadic tasks in a task set.
 pub const SPORADIC_LIMIT: usize = 0;
