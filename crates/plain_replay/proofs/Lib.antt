@@ -7,3 +7,4 @@ pub mod RunSteps
 pub mod SameSums
 pub mod SetPoints
 pub mod SlotHistories
+pub mod ToldTexts
