@@ -1,3 +1,4 @@
+pub mod CurrentSpans
 pub mod CurrentStates
 pub mod CycleOrder
 pub mod FirstReady

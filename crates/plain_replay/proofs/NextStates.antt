@@ -147,12 +147,12 @@ slot-ordered set state offline current =
     }
 
 -- the points after a time, by the test for one
-points-history_at : (set : TaskSet) (t : ℕ) → IsOffline set → points_of set (cycle_of set) (history_at set t) ≡ points_from (is_plan_point set) (t + 1) (horizon (cycle_of set) t - t)
+pub points-history_at : (set : TaskSet) (t : ℕ) → IsOffline set → points_of set (cycle_of set) (history_at set t) ≡ points_from (is_plan_point set) (t + 1) (horizon (cycle_of set) t - t)
 points-history_at set t offline =
     points_of-quiet set (history_at set t) (quiet-history_at set t offline) ∙ ap (λ n. points_from (is_plan_point set) (n + 1) (horizon (cycle_of set) n - n)) (time_of-history_at set t)
 
 -- those after a slot, up to the horizon before it
-past_now : (t cycle : ℕ) → 1 ≤ cycle → t < horizon cycle t
+pub past_now : (t cycle : ℕ) → 1 ≤ cycle → t < horizon cycle t
 past_now t cycle some = omega (arith, div-add-mod' t cycle, mod_below t cycle some)
 
 slot-ends : (set : TaskSet) (state : ReplayState) → IsOffline set → IsCurrent set state → ends_after (suc state.time) state.ends ≡ points_from (is_plan_point set) (suc state.time + 1) (horizon (cycle_of set) state.time - suc state.time)

@@ -50,7 +50,7 @@ kept-history_at set (suc n) offline =
 abbrev pub cycles_at : TaskSet → ℕ → ℕ
 cycles_at set t = t / cycle_of set + 3
 
-reaches-history_at : (set : TaskSet) (n cycles : ℕ) → cycles_at set n ≤ cycles → Reaches set (history_at set n) cycles
+pub reaches-history_at : (set : TaskSet) (n cycles : ℕ) → cycles_at set n ≤ cycles → Reaches set (history_at set n) cycles
 reaches-history_at set n cycles le = rw (time_of-history_at set n) le
 
 pub quiet-history_at : (set : TaskSet) (n : ℕ) → IsOffline set → IsQuiet (history_at set n)
