@@ -1,5 +1,5 @@
 -- What a replay of a plan keeps between two slots, and how a slot changes it.
-use Rattle.std.specs.Prelude.{ℕ, ◌+◌, ◌-◌, ◌*◌, ◌/◌, ◌%◌, ◌==◌, List, [], ◌∷◌, ◌++◌, map, length, take, find, nat_le, nat_lt, if◌then◌else◌}
+use Rattle.std.specs.Prelude.{ℕ, zero, suc, ◌+◌, ◌-◌, ◌*◌, ◌/◌, ◌%◌, ◌==◌, List, [], ◌∷◌, ◌++◌, map, length, take, find, nat_le, nat_lt, if◌then◌else◌}
 use Rattle.std.specs.Option.{option_map_or}
 use Rattle.slot_core.specs.declared.jobs.Job.{Job}
 use Rattle.slot_core.specs.declared.jobs.Span.{Span}
@@ -17,6 +17,12 @@ pub record ReplayState : Type 0 where
 -- the first job of the list that may run runs, or none
 abbrev pub first_ready : ℕ → List Job → Ran
 first_ready t jobs = option_map_or (λ (j : Job). Key j.key) (find (λ (j : Job). nat_le j.est t) jobs) Idle
+
+-- the jobs after the one at place i has run one slot; one without a slot left has ended
+abbrev pub slot_used : List Job → ℕ → List Job
+slot_used [] i = []
+slot_used (j ∷ jobs) zero = if nat_lt 1 j.left then record j { left = j.left - 1 } ∷ jobs else jobs
+slot_used (j ∷ jobs) (suc i) = j ∷ slot_used jobs i
 
 -- the jobs after that job has run one slot; one without a slot left has ended
 abbrev pub after_first : ℕ → List Job → List Job
