@@ -1,9 +1,12 @@
 -- What a state shows of the spans after it.
 use Rattle.std.specs.Prelude.{ℕ, ◌-◌, ◌≤◌, ◌^◌, List, length, take, sum_by, All, Contains}
 use Rattle.slot_core.specs.declared.jobs.Job.{Job}
+use Rattle.slot_core.specs.declared.tasks.TaskSet.{TaskSet}
+use Rattle.slot_core.specs.declared.events.What.{What}
 use Rattle.slot_core.specs.Plans.{AreInDeadlineOrder}
 use Rattle.slot_core.specs.ShownSpans.{ShownSpans}
 use Rattle.slot_core.specs.Spans.{spans_between}
+use Rattle.slot_core.specs.Texts.{entry_line}
 use Rattle.interval_build.specs.Ends.{AreRising, last_end}
 use Rattle.plain_replay.specs.States.{ReplayState}
 
@@ -21,3 +24,8 @@ pub record HasSpans (state : ReplayState) : Type 0 where
 abbrev pub shown_after : ReplayState → ShownSpans
 shown_after state =
     record { spans = spans_between state.jobs (last_end state.time state.ends) state.time (take 8 state.ends); more = length state.ends - 8 }
+
+-- the line of what happened, with the spans after it
+unfoldable pub told_line : TaskSet → What → ReplayState → List ℕ
+told_line set what state =
+    entry_line set (record { time = state.time; what = what; shown = shown_after state })

@@ -1,15 +1,21 @@
 //! What a replay keeps between two slots.
 
-ghost use Rattle.std.specs.Prelude.{◌≡◌, ◌<◌, ◌≤◌, ◌+◌, ◌-◌, length, nat_le, All, IfOk};
+ghost use Rattle.std.specs.Prelude.{◌≡◌, ◌<◌, ◌≤◌, ◌+◌, ◌-◌, true, length, nat_le, All, IfOk, OnOk, OnErr};
+ghost use Rattle.std.specs.Io.KnownBytes.{Appends};
 ghost use Rattle.std.specs.List.{position};
 ghost use Rattle.slot_core.specs.declared.jobs.Job.{Job};
+ghost use Rattle.slot_core.specs.Arrivals.{what_in_set};
 ghost use Rattle.slot_core.specs.Traces.{ran_entry};
-ghost use Rattle.plain_replay.specs.Shown.{HasSpans, shown_after};
+ghost use Rattle.slot_io.specs.Faults.{Rose};
+ghost use Rattle.slot_io.specs.Sinks.{AppendsPart};
+ghost use Rattle.plain_replay.specs.Shown.{HasSpans, shown_after, told_line};
 ghost use Rattle.plain_replay.specs.States.{first_ready, slot_used, after_first, ends_after};
 
-use crate::lines::first_spans;
+use crate::ReplayFault;
+use crate::lines::{first_spans, put_line};
 use interval_build::spans_until;
-use slot_core::{Job, Memory, Shown, What};
+use slot_core::{Entry, Job, Memory, Shown, TaskSet, What};
+use slot_io::Sink;
 use std::alloc::Global;
 use std::marker::Model;
 
@@ -64,6 +70,26 @@ impl State {
     {
         let spans = spans_until(alloc, self.time, &self.ends, &self.jobs)?;
         Ok(first_spans(&spans))
+    }
+}
+
+impl State {
+    /// Writes the line of what happened, with the first spans after the time.
+    #[tactic(auto, unfolding(crate::specs::Shown::told_line))]
+    fn tell<K: Sink>(&self, alloc: Global, what: What, tasks: &TaskSet, out: &mut K) -> Result<(), ReplayFault>
+        requires spans { HasSpans self.now }
+        requires named { what_in_set tasks.now what ≡ true }
+        ensures ok { OnOk result (Appends (K.written out.old) (K.written out.new) (told_line tasks.now what self.now)) }
+        ensures part { OnErr result (AppendsPart (K.written out.old) (K.written out.new) (told_line tasks.now what self.now)) }
+        ensures counted { K.faults out.old ≤ K.faults out.new }
+        ensures failed { result ≡ Err ReplayFault.Failed → Rose (K.faults out.old) (K.faults out.new) }
+    {
+        let entry = Entry {
+            time: self.time,
+            what,
+            shown: self.shown(alloc)?,
+        };
+        put_line(&entry, tasks, out)
     }
 }
 
