@@ -1,0 +1,3 @@
+pub mod DeadlineOrder
+pub mod MovedJobs
+pub mod SpanSums
