@@ -1,3 +1,5 @@
 pub mod DeadlineOrder
 pub mod MovedJobs
+pub mod PlanPoints
+pub mod RangeFilters
 pub mod SpanSums
