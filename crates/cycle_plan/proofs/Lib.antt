@@ -1,3 +1,4 @@
+pub mod CycleEnds
 pub mod DeadlineOrder
 pub mod MovedJobs
 pub mod PlanPoints

@@ -118,12 +118,11 @@ interval_start-lt cycle jobs j in_cycle h =
     omega (arith, some.0, least_start-most jobs j.est j.dl)
 
 -- a planned point: a deadline, a start above 0, or the cycle
-IsPlanned : ℕ → List Job → ℕ → Type 0
+abbrev pub IsPlanned : ℕ → List Job → ℕ → Type 0
 IsPlanned cycle jobs q =
     ((j : Job) × Has jobs j × (j.dl ≡ q)) ⊎ (((j : Job) × Has jobs j × (interval_start jobs j ≡ q) × (0 < q)) ⊎ (cycle ≡ q))
 
-IsPlanned-from_points : (cycle : ℕ) (jobs : List Job) (q : ℕ) → Has (plan_points cycle jobs) q → IsPlanned cycle jobs q
-unfolding IsPlanned
+pub IsPlanned-from_points : (cycle : ℕ) (jobs : List Job) (q : ℕ) → Has (plan_points cycle jobs) q → IsPlanned cycle jobs q
 IsPlanned-from_points cycle jobs q h =
     let ends = map (λ (j : Job). j.dl) jobs in
     let starts = filter (nat_lt 0) (map (interval_start jobs) jobs) in
@@ -139,7 +138,6 @@ IsPlanned-from_points cycle jobs q h =
 
 -- each planned point is in the cycle
 pub planned-bounds : (cycle : ℕ) (jobs : List Job) (q : ℕ) → 1 ≤ cycle → AreInCycle cycle jobs → Has (plan_points cycle jobs) q → (1 ≤ q) × (q ≤ cycle)
-unfolding IsPlanned
 planned-bounds cycle jobs q some in_cycle h =
     elim (IsPlanned-from_points cycle jobs q h) [
       | inl due ↦ let fits = in_cycle due.0 due.1 in (omega (arith, due.2, fits.0), omega (arith, due.2, fits.1))
@@ -178,3 +176,21 @@ planned-from_point cycle planned x some within passes =
           subst (Has planned) (same_in_cycle cycle q x (some q listed) within at) listed
       | inr none ↦ absurd (false≢true none)
     ]
+
+-- deadlines, starts above 0 and the cycle are planned points
+pub Has-deadline : (cycle : ℕ) (jobs : List Job) (j : Job) → Has jobs j → Has (plan_points cycle jobs) j.dl
+Has-deadline cycle jobs j h =
+    let ends = map (λ (j : Job). j.dl) jobs in
+    let starts = filter (nat_lt 0) (map (interval_start jobs) jobs) in
+    Has-append_left (ends ++ starts) (cycle ∷ []) j.dl (Has-append_left ends starts j.dl (Has-map (λ (j : Job). j.dl) jobs j h))
+
+pub Has-interval_start : (cycle : ℕ) (jobs : List Job) (j : Job) → Has jobs j → 0 < interval_start jobs j → Has (plan_points cycle jobs) (interval_start jobs j)
+Has-interval_start cycle jobs j h some =
+    let ends = map (λ (j : Job). j.dl) jobs in
+    let starts = filter (nat_lt 0) (map (interval_start jobs) jobs) in
+    let start = interval_start jobs j in
+    Has-append_left (ends ++ starts) (cycle ∷ []) start (Has-append_right ends starts start (Has-filter (nat_lt 0) (map (interval_start jobs) jobs) start (Has-map (interval_start jobs) jobs j h) (lt-ltb 0 start some)))
+
+pub Has-cycle : (cycle : ℕ) (jobs : List Job) → Has (plan_points cycle jobs) cycle
+Has-cycle cycle jobs =
+    Has-append_right (map (λ (j : Job). j.dl) jobs ++ filter (nat_lt 0) (map (interval_start jobs) jobs)) (cycle ∷ []) cycle (inl refl)
