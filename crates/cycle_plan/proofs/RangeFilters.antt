@@ -14,6 +14,10 @@ range-parts a b (suc m) n e =
     let all : suc m + n ≡ suc (m + n) = omega arith in
     ap (range_with_len a) all ∙ ap (λ xs. a ∷ xs) (range-parts (a + 1) b m n (omega arith))
 
+-- one more number
+pub range-more : (n : ℕ) → range_with_len 0 (n + 1) ≡ range_with_len 0 n ++ n ∷ []
+range-more n = range-parts 0 n n 1 (omega arith)
+
 -- the numbers that pass in a range are those of the two ranges that make it
 pub filter-parts : (p : ℕ → Bool) (a b m n k : ℕ) → b ≡ a + m → k ≡ m + n → filter p (range_with_len a k) ≡ filter p (range_with_len a m) ++ filter p (range_with_len b n)
 filter-parts p a b m n k at_b at_k =
