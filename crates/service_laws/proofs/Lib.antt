@@ -1,3 +1,10 @@
+pub mod CounterexampleLemmas
+pub mod FailingWindows
 pub mod LaterCycles
+pub mod LaterDemand
 pub mod OneSlot
+pub mod PlaceCounts
+pub mod SchedulePlaces
+pub mod ScheduleWindows
 pub mod ServedTraces
+pub mod TraceSchedules

@@ -47,7 +47,6 @@ pub enum Status {
     BadTable,
 }
 
-
 /// Does what the words ask for: reads the files that they name, writes to `out`, and puts one line on `err`
 /// where it ends otherwise than Done. The order of work is that of `expected`: tasks read, set read, cycle
 /// test, arrivals read, replay. What the cycle test's outcome means is told by

@@ -1,6 +1,6 @@
 //! The first spans after an entry.
 
-ghost use Rattle.std.specs.Prelude.{◌≡◌, ◌<◌, [], ◌∷◌, ◌++◌, length};
+ghost use Rattle.std.specs.Prelude.{◌≡◌, ◌<◌, ◌≤◌, [], ◌∷◌, ◌++◌, length};
 
 use crate::jobs::Span;
 use arrayvec::ArrayVec;
@@ -42,7 +42,8 @@ impl Shown {
 
     /// The spans that are shown.
     pub fn spans(&self) -> &[Span]
-        ensures { result.now ≡ self.now.spans }
+        ensures spans { result.now ≡ self.now.spans }
+        ensures few { length self.now.spans ≤ 8 }
     {
         self.first.as_slice()
     }

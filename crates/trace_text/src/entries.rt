@@ -1,18 +1,39 @@
 //! The texts of entries and keys.
 
-ghost use Rattle.std.specs.Prelude.{◌≡◌, ◌≤◌, true, length};
+ghost use Rattle.std.specs.Prelude.{◌≡◌, ◌≤◌, ◌+◌, ◌++◌, true, length};
 ghost use Rattle.slot_core.specs.Arrivals.{key_in_set, what_in_set};
-ghost use Rattle.slot_core.specs.Texts.{entry_line, key_text};
+ghost use Rattle.slot_core.specs.Texts.{entry_line, key_text, spans_text};
 
+use crate::keys::push_key;
 use crate::line::Line;
-use slot_core::{Entry, Key, TaskSet};
+use crate::spans::push_shown;
+use crate::words::push_what;
+use slot_core::{Entry, Key, Shown, TaskSet, What};
 
 /// The line of an entry, with its line feed. What it names lies in the task set.
 pub fn entry_line(entry: &Entry, tasks: &TaskSet) -> Line
     requires named { what_in_set tasks.now entry.now.what ≡ true }
     ensures { result ≡ entry_line tasks.now entry.now }
 {
-    Line::new()
+    let mut line = Line::new();
+    line.number(entry.time);
+    line.push(b" ");
+    push_what(&mut line, entry.what, tasks);
+    push_tail(&mut line, entry.what, &entry.shown);
+    line.push(b"\n");
+    line
+}
+
+/// Appends what stands after the words of an entry: nothing at the end, else the spans.
+fn push_tail(line: &mut Line, what: What, shown: &Shown)
+    requires { length line.old + 536 ≤ 1024 }
+    ensures text { line.new ≡ line.old ++ spans_text what shown.now }
+    ensures short { length line.new ≤ length line.old + 536 }
+{
+    if what != What::End {
+        line.push(b" |");
+        push_shown(line, shown);
+    }
 }
 
 /// The text of a key, whose graph, task or sporadic task lies in the task set.
@@ -21,5 +42,7 @@ pub fn key_text(key: Key, tasks: &TaskSet) -> Line
     ensures text { result ≡ key_text tasks.now key }
     ensures short { length result ≤ 70 }
 {
-    Line::new()
+    let mut line = Line::new();
+    push_key(&mut line, key, tasks);
+    line
 }

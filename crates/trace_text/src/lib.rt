@@ -2,7 +2,12 @@
 #![tactic(auto)]
 
 pub mod entries;
+mod keys;
 pub mod line;
+mod spans;
+#[cfg(test)]
+mod tests;
+mod words;
 
 pub use entries::{entry_line, key_text};
 pub use line::Line;

@@ -1,6 +1,7 @@
 //! A line in the making.
 
 ghost use Rattle.std.specs.Prelude.{◌≡◌, ◌≤◌, ◌+◌, [], ◌++◌, length, decimal};
+ghost use Rattle.std.specs.Fmt.{signed_decimal};
 
 use arrayvec::ArrayVec;
 use std::marker::Model;
@@ -42,7 +43,18 @@ impl Line {
     /// Appends the number in decimal digits.
     pub fn number(&mut self, n: u64)
         requires { length self.old + 20 ≤ 1024 }
-        ensures { self.new ≡ self.old ++ decimal n }
+        ensures text { self.new ≡ self.old ++ decimal n }
+        ensures short { length self.new ≤ length self.old + 20 }
+    {
+        let mut buffer = itoa::Buffer::new();
+        self.push(buffer.format(n).as_bytes());
+    }
+
+    /// Appends the number in decimal digits, after a `-` where it is below 0.
+    pub fn signed_number(&mut self, n: i64)
+        requires { length self.old + 20 ≤ 1024 }
+        ensures text { self.new ≡ self.old ++ signed_decimal n }
+        ensures short { length self.new ≤ length self.old + 20 }
     {
         let mut buffer = itoa::Buffer::new();
         self.push(buffer.format(n).as_bytes());

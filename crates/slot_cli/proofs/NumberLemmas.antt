@@ -1,0 +1,23 @@
+-- What `parse` gives of a number on the command line.
+use Rattle.std.proofs.Common.{◌≡◌, ℕ, ◌<◌, ◌≤◌, ◌+◌, ◌^◌, true, not, ◌&&◌, ◌==◌, nat_le, List, [], ◌∷◌, length, Result, Ok, arith, rules}
+use Rattle.std.specs.Char.{is_ascii_digit}
+use Rattle.std.specs.List.{list_all}
+use Rattle.std.specs.Str.Parse.{digits_value, ParsesUnsigned}
+use Rattle.std.proofs.lemmas.Bool.{and_parts}
+use Rattle.std.proofs.lemmas.Bool.Decides.{nat_tests}
+use Rattle.std.proofs.lemmas.Str.Parse.{IsNumeralModel, numerals_by_value, parse_gives, digits_value_short}
+use Rattle.slot_cli.specs.Commands.{is_number}
+
+-- digits are read as `digits_value` reads them
+digits : IsNumeralModel (λ ds. list_all is_ascii_digit ds ≡ true) (digits_value 10)
+digits = numerals_by_value _ (search rules)
+
+-- a number of at most 6 digits is read whole
+pub parse_number : {E : Type 0} (bs : List ℕ) (r : Result ℕ E) → is_number bs ≡ true → ParsesUnsigned 32 10 bs r → r ≡ Ok (digits_value 10 bs)
+parse_number [] r number parsed = cc
+parse_number (b ∷ bs) r number parsed =
+    let parts = and_parts (nat_le (length bs) 5 && not (b == 48)) (list_all is_ascii_digit (b ∷ bs)) number in
+    let short = and_parts (nat_le (length bs) 5) (not (b == 48)) parts.0 in
+    let few : length (b ∷ bs) ≤ 6 = grind (arith, nat_tests, short.0) in
+    let small : digits_value 10 (b ∷ bs) < 10 ^ 6 = digits_value_short digits (b ∷ bs) 6 parts.1 few in
+    parse_gives digits 32 (b ∷ bs) r parsed parts.1 (omega arith) (omega arith)
