@@ -22,6 +22,7 @@ use Rattle.slot_core.specs.Feasible.{IsFeasible}
 use Rattle.slot_core.proofs.ListMembers.{Contains-from_Has, AllByRecursion-from_Has}
 use Rattle.slot_core.proofs.OfflineJobLemmas.{offline_from_cycle}
 use Rattle.slot_core.proofs.MovedCycles.{IsMoved, IsMoved-from_instance, job_of}
+use Rattle.cycle_plan.specs.InCycles.{jobs_in_cycles}
 use Rattle.cycle_plan.proofs.DeadlineOrder.{AllByRecursion-append, AreInDeadlineOrder-moved, AreInDeadlineOrder-append}
 
 -- a map over lists joined end to end
@@ -106,11 +107,6 @@ all_fit set jobs sound feasible h =
     (FitsInCycle (cycle_of set))
     jobs
     (λ job at. FitsInCycle-from_first set job sound feasible (Contains-permutation jobs first job back (Contains-from_Has jobs job at)))
-
--- the jobs of the first n cycles, from those of the first one
-abbrev pub jobs_in_cycles : TaskSet → ℕ → List Job → ℕ → List Job
-jobs_in_cycles set cycle jobs zero = []
-jobs_in_cycles set cycle jobs (suc n) = jobs_in_cycles set cycle jobs n ++ map (moved_job set cycle n) jobs
 
 -- moved, a permutation of the first cycle is one of the other cycle
 pub moved-permutation : (set : TaskSet) (jobs : List Job) (n : ℕ) → is_sound set ≡ true → IsFeasible set (cycle_of set) → IsPermutation (cycle_jobs set (cycle_of set) 0) jobs → IsPermutation (cycle_jobs set (cycle_of set) n) (map (moved_job set (cycle_of set) n) jobs)
