@@ -3,6 +3,8 @@ pub mod DeadlineOrder
 pub mod MovedJobs
 pub mod MovedPoints
 pub mod PlanPoints
+pub mod PlanSpans
 pub mod PointsInAnyOrder
 pub mod RangeFilters
+pub mod RisingEnds
 pub mod SpanSums
