@@ -1,1 +1,2 @@
 pub mod InCycles
+pub mod NearJobs
