@@ -7,7 +7,7 @@ use Rattle.std.proofs.lemmas.List.{append_assoc}
 use Rattle.slot_core.specs.declared.jobs.Job.{Job}
 use Rattle.slot_core.specs.Points.{end_before, least_start, interval_start, plan_points, is_point}
 use Rattle.slot_core.proofs.ListMembers.{Has}
-use Rattle.cycle_plan.proofs.PlanPoints.{IsPlanned, IsPlanned-from_points, AreInCycle, end_before-at, end_before-le, least_start-at, due-from_least_start, interval_start-is, interval_start-lt, planned-bounds, planned-from_point, point-from_planned, Has-deadline, Has-interval_start, Has-cycle}
+use Rattle.cycle_plan.proofs.PlanPoints.{IsPlannedPoint, IsPlannedPoint-from_points, AreInCycle, end_before-at, end_before-le, least_start-at, due-from_least_start, interval_start-is, interval_start-lt, planned-bounds, planned-from_point, point-from_planned, Has-deadline, Has-interval_start, Has-cycle}
 use Rattle.cycle_plan.proofs.RangeFilters.{filter-parts, filter-last}
 
 -- whether a slot of the first cycle is a point, and the points up to e
@@ -43,9 +43,9 @@ ends-between p before start end low below at_end at_start only =
         filter-parts p (before + 1) (start + 1) (start - before) (end - start) (end - before) (omega arith) (omega arith) ∙ (ap₂ (λ xs ys. xs ++ ys) first second ∙ ap (λ xs. xs ++ end ∷ []) (sym (cond-true (nat_lt before start) (start ∷ []) [] (lt-ltb before start later))))
 
 -- a point of the cycle is a planned one
-planned-from_end : (cycle : ℕ) (jobs : List Job) (x : ℕ) → 1 ≤ cycle → AreInCycle cycle jobs → x ≤ cycle → is_end cycle jobs x ≡ true → IsPlanned cycle jobs x
+planned-from_end : (cycle : ℕ) (jobs : List Job) (x : ℕ) → 1 ≤ cycle → AreInCycle cycle jobs → x ≤ cycle → is_end cycle jobs x ≡ true → IsPlannedPoint cycle jobs x
 planned-from_end cycle jobs x some in_cycle within passes =
-    IsPlanned-from_points cycle jobs x (planned-from_point cycle (plan_points cycle jobs) x (λ q h. (planned-bounds cycle jobs q some in_cycle h).0) within passes)
+    IsPlannedPoint-from_points cycle jobs x (planned-from_point cycle (plan_points cycle jobs) x (λ q h. (planned-bounds cycle jobs q some in_cycle h).0) within passes)
 
 -- jobs of one deadline have one interval
 interval_start-same : (cycle : ℕ) (jobs : List Job) (a b : Job) → AreInCycle cycle jobs → Has jobs a → Has jobs b → a.dl ≡ b.dl → interval_start jobs a ≡ interval_start jobs b

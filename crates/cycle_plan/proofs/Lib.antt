@@ -1,5 +1,6 @@
 pub mod CycleEnds
 pub mod DeadlineOrder
+pub mod FirstJobFacts
 pub mod MovedJobs
 pub mod MovedPoints
 pub mod PlanPoints

@@ -118,12 +118,12 @@ interval_start-lt cycle jobs j in_cycle h =
     omega (arith, some.0, least_start-most jobs j.est j.dl)
 
 -- a planned point: a deadline, a start above 0, or the cycle
-abbrev pub IsPlanned : ℕ → List Job → ℕ → Type 0
-IsPlanned cycle jobs q =
+abbrev pub IsPlannedPoint : ℕ → List Job → ℕ → Type 0
+IsPlannedPoint cycle jobs q =
     ((j : Job) × Has jobs j × (j.dl ≡ q)) ⊎ (((j : Job) × Has jobs j × (interval_start jobs j ≡ q) × (0 < q)) ⊎ (cycle ≡ q))
 
-pub IsPlanned-from_points : (cycle : ℕ) (jobs : List Job) (q : ℕ) → Has (plan_points cycle jobs) q → IsPlanned cycle jobs q
-IsPlanned-from_points cycle jobs q h =
+pub IsPlannedPoint-from_points : (cycle : ℕ) (jobs : List Job) (q : ℕ) → Has (plan_points cycle jobs) q → IsPlannedPoint cycle jobs q
+IsPlannedPoint-from_points cycle jobs q h =
     let ends = map (λ (j : Job). j.dl) jobs in
     let starts = filter (nat_lt 0) (map (interval_start jobs) jobs) in
     elim (Has-append_cases (ends ++ starts) (cycle ∷ []) q h) [
@@ -139,7 +139,7 @@ IsPlanned-from_points cycle jobs q h =
 -- each planned point is in the cycle
 pub planned-bounds : (cycle : ℕ) (jobs : List Job) (q : ℕ) → 1 ≤ cycle → AreInCycle cycle jobs → Has (plan_points cycle jobs) q → (1 ≤ q) × (q ≤ cycle)
 planned-bounds cycle jobs q some in_cycle h =
-    elim (IsPlanned-from_points cycle jobs q h) [
+    elim (IsPlannedPoint-from_points cycle jobs q h) [
       | inl due ↦ let fits = in_cycle due.0 due.1 in (omega (arith, due.2, fits.0), omega (arith, due.2, fits.1))
       | inr r ↦ elim r [
         | inl start ↦ let fits = in_cycle start.0 start.1 in

@@ -23,6 +23,7 @@ use Rattle.slot_core.proofs.ListMembers.{Has, Has-from_Contains, Contains-from_H
 use Rattle.slot_core.proofs.HistoryLemmas.{IsAmong, Contains-from_among, unended-start}
 use Rattle.slot_core.proofs.OfflineJobLemmas.{cycle-positive}
 use Rattle.slot_core.proofs.OfflineWindows.{IsOfCycle-from_offline}
+use Rattle.cycle_plan.specs.FirstJobs.{AreFirstJobs}
 use Rattle.cycle_plan.specs.InCycles.{jobs_in_cycles, ends_in_cycles}
 use Rattle.cycle_plan.proofs.PlanPoints.{AreInCycle, planned-bounds, point-from_planned, Has-cycle}
 use Rattle.cycle_plan.proofs.PointsInAnyOrder.{is_point-among}
@@ -63,12 +64,6 @@ points_of-start set n e =
     let reach : horizon (cycle_of set) 0 - 0 ≡ n = rw none (omega arith) in
     ap (λ k. filter (is_point (cycle_of set) (plan_points (cycle_of set) (cycle_jobs set (cycle_of set) 0)) []) (range_with_len 1 k)) reach
 
--- a set that is sound and feasible, and the jobs of its first cycle in some order
-pub record IsPlanned (set : TaskSet) (jobs : List Job) : Type 0 where
-  pub sound : is_sound set ≡ true
-  pub feasible : IsFeasible set (cycle_of set)
-  pub listed : IsPermutation (cycle_jobs set (cycle_of set) 0) jobs
-
 -- the test for a point, from these jobs, and the points of the first cycle
 abbrev pub is_end_of : TaskSet → List Job → ℕ → Bool
 is_end_of set jobs = is_point (cycle_of set) (plan_points (cycle_of set) jobs) []
@@ -76,51 +71,51 @@ is_end_of set jobs = is_point (cycle_of set) (plan_points (cycle_of set) jobs) [
 abbrev pub ends_of : TaskSet → List Job → List ℕ
 ends_of set jobs = filter (is_end_of set jobs) (range_with_len 1 (cycle_of set))
 
--- the jobs lie in the cycle, so that the planned points do
-pub in_cycle-from_planned : (set : TaskSet) (jobs : List Job) → IsPlanned set jobs → AreInCycle (cycle_of set) jobs
-in_cycle-from_planned set jobs planned j listed =
+-- the jobs lie in the cycle, so that the these points do
+pub in_cycle-from_first : (set : TaskSet) (jobs : List Job) → AreFirstJobs set jobs → AreInCycle (cycle_of set) jobs
+in_cycle-from_first set jobs these j listed =
     let first = cycle_jobs set (cycle_of set) 0 in
-    let at = Contains-permutation jobs first j (IsPermutation-sym first jobs planned.listed) (Contains-from_Has jobs j listed) in
-    let fits = FitsInCycle-from_first set j planned.sound planned.feasible at in
+    let at = Contains-permutation jobs first j (IsPermutation-sym first jobs these.listed) (Contains-from_Has jobs j listed) in
+    let fits = FitsInCycle-from_first set j these.sound these.feasible at in
     (omega (arith, fits.some, fits.room), fits.within)
 
-planned-within : (set : TaskSet) (jobs : List Job) → IsPlanned set jobs → (q : ℕ) → Has (plan_points (cycle_of set) jobs) q → q ≤ cycle_of set
-planned-within set jobs planned q h =
-    (planned-bounds (cycle_of set) jobs q (cycle-positive set planned.sound) (in_cycle-from_planned set jobs planned) h).1
+planned-within : (set : TaskSet) (jobs : List Job) → AreFirstJobs set jobs → (q : ℕ) → Has (plan_points (cycle_of set) jobs) q → q ≤ cycle_of set
+planned-within set jobs these q h =
+    (planned-bounds (cycle_of set) jobs q (cycle-positive set these.sound) (in_cycle-from_first set jobs these) h).1
 
 -- the points of three cycles, from these jobs
-pub ends_of_three : (set : TaskSet) (jobs : List Job) (n : ℕ) → IsPlanned set jobs → n ≡ 3 * cycle_of set → ends_in_cycles (cycle_of set) (ends_of set jobs) 3 ≡ filter (is_end_of set jobs) (range_with_len 1 n)
-ends_of_three set jobs n planned e =
-    ends_in_cycles-points (cycle_of set) (plan_points (cycle_of set) jobs) 3 n (planned-within set jobs planned) e
+pub ends_of_three : (set : TaskSet) (jobs : List Job) (n : ℕ) → AreFirstJobs set jobs → n ≡ 3 * cycle_of set → ends_in_cycles (cycle_of set) (ends_of set jobs) 3 ≡ filter (is_end_of set jobs) (range_with_len 1 n)
+ends_of_three set jobs n these e =
+    ends_in_cycles-points (cycle_of set) (plan_points (cycle_of set) jobs) 3 n (planned-within set jobs these) e
 
 -- each list of the jobs of the first cycle has the same points
-same_points : (set : TaskSet) (jobs : List Job) → IsPlanned set jobs → (p : ℕ) → is_end_of set jobs p ≡ is_end_of set (cycle_jobs set (cycle_of set) 0) p
-same_points set jobs planned =
+same_points : (set : TaskSet) (jobs : List Job) → AreFirstJobs set jobs → (p : ℕ) → is_end_of set jobs p ≡ is_end_of set (cycle_jobs set (cycle_of set) 0) p
+same_points set jobs these =
     let first = cycle_jobs set (cycle_of set) 0 in
     is_point-among
     (cycle_of set)
     jobs
     first
-    (λ j h. Has-from_Contains first j (Contains-permutation jobs first j (IsPermutation-sym first jobs planned.listed) (Contains-from_Has jobs j h)))
-    (λ j h. Has-from_Contains jobs j (Contains-permutation first jobs j planned.listed (Contains-from_Has first j h)))
+    (λ j h. Has-from_Contains first j (Contains-permutation jobs first j (IsPermutation-sym first jobs these.listed) (Contains-from_Has jobs j h)))
+    (λ j h. Has-from_Contains jobs j (Contains-permutation first jobs j these.listed (Contains-from_Has first j h)))
 
 -- the last point of three cycles is their end
-pub last_of_three : (set : TaskSet) (jobs : List Job) (n : ℕ) → IsPlanned set jobs → n ≡ 3 * cycle_of set → last_end 0 (ends_in_cycles (cycle_of set) (ends_of set jobs) 3) ≡ n
-last_of_three set jobs n planned e =
+pub last_of_three : (set : TaskSet) (jobs : List Job) (n : ℕ) → AreFirstJobs set jobs → n ≡ 3 * cycle_of set → last_end 0 (ends_in_cycles (cycle_of set) (ends_of set jobs) 3) ≡ n
+last_of_three set jobs n these e =
     let cycle = cycle_of set in
-    let positive = cycle-positive set planned.sound in
+    let positive = cycle-positive set these.sound in
     let first : is_end_of set jobs cycle ≡ true = point-from_planned cycle (plan_points cycle jobs) [] cycle (Has-cycle cycle jobs) in
-    let later : is_end_of set jobs (cycle + 2 * cycle) ≡ true = is_point-moved cycle (plan_points cycle jobs) 2 cycle (planned-within set jobs planned) positive ∙ first in
+    let later : is_end_of set jobs (cycle + 2 * cycle) ≡ true = is_point-moved cycle (plan_points cycle jobs) 2 cycle (planned-within set jobs these) positive ∙ first in
     let at : cycle + 2 * cycle ≡ n = omega arith in
-    ap (last_end 0) (ends_of_three set jobs n planned e) ∙ last_end-filter (is_end_of set jobs) 0 n (omega arith) (subst (λ m. is_end_of set jobs m ≡ true) at later)
+    ap (last_end 0) (ends_of_three set jobs n these e) ∙ last_end-filter (is_end_of set jobs) 0 n (omega arith) (subst (λ m. is_end_of set jobs m ≡ true) at later)
 
 -- the plan's spans are those between the points of three cycles, from these jobs, that end in the first
-plan_spans-is : (set : TaskSet) (jobs : List Job) (n : ℕ) → IsPlanned set jobs → n ≡ 3 * cycle_of set → filter (λ (s : Span). nat_le s.end (cycle_of set)) (spans_between (offline_jobs set (cycle_of set) 3) n 0 (filter (is_end_of set jobs) (range_with_len 1 n))) ≡ plan_spans set (cycle_of set)
-plan_spans-is set jobs n planned e =
+plan_spans-is : (set : TaskSet) (jobs : List Job) (n : ℕ) → AreFirstJobs set jobs → n ≡ 3 * cycle_of set → filter (λ (s : Span). nat_le s.end (cycle_of set)) (spans_between (offline_jobs set (cycle_of set) 3) n 0 (filter (is_end_of set jobs) (range_with_len 1 n))) ≡ plan_spans set (cycle_of set)
+plan_spans-is set jobs n these e =
     let none : 0 / cycle_of set ≡ 0 = zero-div (cycle_of set) in
     let reach : n ≡ horizon (cycle_of set) 0 = rw none (omega arith) in
-    let points = filter_agree (is_end_of set jobs) (is_end_of set (cycle_jobs set (cycle_of set) 0)) (same_points set jobs planned) (range_with_len 1 n) ∙ sym (points_of-start set n e) in
-    let all = sym (remaining-start set planned.sound) in
+    let points = filter_agree (is_end_of set jobs) (is_end_of set (cycle_jobs set (cycle_of set) 0)) (same_points set jobs these) (range_with_len 1 n) ∙ sym (points_of-start set n e) in
+    let all = sym (remaining-start set these.sound) in
     λ i. filter (λ (s : Span). nat_le s.end (cycle_of set)) (spans_between (all i) (reach i) 0 (points i))
 
 -- those between these points that end in the first cycle stand in front
@@ -141,13 +136,13 @@ first_of_three set jobs all n e =
     ap (λ points. take (length ends) (spans_between all n 0 points)) split ∙ (sym (first_spans all n 0 cycle ends rest early later) ∙ ap (λ points. filter (λ (s : Span). nat_le s.end cycle) (spans_between all n 0 points)) (sym split))
 
 -- of the spans of three cycles, the first ones are the plan's
-pub plan_spans-first : (set : TaskSet) (jobs : List Job) → IsPlanned set jobs → take (length (ends_of set jobs)) (spans_between (jobs_in_cycles set (cycle_of set) jobs 3) (last_end 0 (ends_in_cycles (cycle_of set) (ends_of set jobs) 3)) 0 (ends_in_cycles (cycle_of set) (ends_of set jobs) 3)) ≡ plan_spans set (cycle_of set)
-plan_spans-first set jobs planned =
+pub plan_spans-first : (set : TaskSet) (jobs : List Job) → AreFirstJobs set jobs → take (length (ends_of set jobs)) (spans_between (jobs_in_cycles set (cycle_of set) jobs 3) (last_end 0 (ends_in_cycles (cycle_of set) (ends_of set jobs) 3)) 0 (ends_in_cycles (cycle_of set) (ends_of set jobs) 3)) ≡ plan_spans set (cycle_of set)
+plan_spans-first set jobs these =
     let cycle = cycle_of set in
     let all = offline_jobs set cycle 3 in
     let moved = jobs_in_cycles set cycle jobs 3 in
     let points = filter (is_end_of set jobs) (range_with_len 1 (3 * cycle)) in
-    let permuted = jobs_in_cycles-permutation set jobs 3 planned.sound planned.feasible planned.listed in
-    let there = ap₂ (λ end ends. take (length (ends_of set jobs)) (spans_between moved end 0 ends)) (last_of_three set jobs (3 * cycle) planned refl) (ends_of_three set jobs (3 * cycle) planned refl) in
+    let permuted = jobs_in_cycles-permutation set jobs 3 these.sound these.feasible these.listed in
+    let there = ap₂ (λ end ends. take (length (ends_of set jobs)) (spans_between moved end 0 ends)) (last_of_three set jobs (3 * cycle) these refl) (ends_of_three set jobs (3 * cycle) these refl) in
     let same = ap (take (length (ends_of set jobs))) (sym (spans_between-permutation all moved permuted (3 * cycle) 0 points)) in
-    there ∙ (same ∙ (first_of_three set jobs all (3 * cycle) refl ∙ plan_spans-is set jobs (3 * cycle) planned refl))
+    there ∙ (same ∙ (first_of_three set jobs all (3 * cycle) refl ∙ plan_spans-is set jobs (3 * cycle) these refl))

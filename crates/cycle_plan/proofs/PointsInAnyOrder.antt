@@ -6,7 +6,7 @@ use Rattle.std.proofs.lemmas.Bool.{true_from_ne_false, false_from_ne_true, cases
 use Rattle.slot_core.specs.declared.jobs.Job.{Job}
 use Rattle.slot_core.specs.Points.{end_before, least_start, interval_start, plan_points, is_point}
 use Rattle.slot_core.proofs.ListMembers.{Has, list_any-from_Has, Has-from_list_any}
-use Rattle.cycle_plan.proofs.PlanPoints.{IsPlanned-from_points, Has-deadline, Has-interval_start, Has-cycle, end_before-at, end_before-le, least_start-at, least_start-most, least_start-le}
+use Rattle.cycle_plan.proofs.PlanPoints.{IsPlannedPoint-from_points, Has-deadline, Has-interval_start, Has-cycle, end_before-at, end_before-le, least_start-at, least_start-most, least_start-le}
 
 -- each job of the first list is one of the second
 abbrev pub AreAmong : List Job → List Job → Type 0
@@ -28,7 +28,7 @@ interval_start-among jobs others j to from =
 -- a planned point of the one list is one of the other
 planned-among : (cycle : ℕ) (jobs others : List Job) (q : ℕ) → AreAmong jobs others → AreAmong others jobs → Has (plan_points cycle jobs) q → Has (plan_points cycle others) q
 planned-among cycle jobs others q to from h =
-    elim (IsPlanned-from_points cycle jobs q h) [
+    elim (IsPlannedPoint-from_points cycle jobs q h) [
       | inl due ↦ subst (Has (plan_points cycle others)) due.2 (Has-deadline cycle others due.0 (to due.0 due.1))
       | inr r ↦ elim r [
         | inl start ↦

@@ -1,2 +1,3 @@
+pub mod FirstJobs
 pub mod InCycles
 pub mod NearJobs
