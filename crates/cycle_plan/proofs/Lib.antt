@@ -3,6 +3,7 @@ pub mod DeadlineOrder
 pub mod FirstJobFacts
 pub mod MovedJobs
 pub mod MovedPoints
+pub mod PlanFacts
 pub mod PlanPoints
 pub mod PlanSpans
 pub mod PointsInAnyOrder

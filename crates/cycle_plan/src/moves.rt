@@ -60,7 +60,12 @@ fn instances(tasks: &TaskSet, cycle: u32, graph: u16) -> u64
 }
 
 /// The jobs of the first three cycles, from those of the first.
-pub fn jobs_of_three(alloc: Global, tasks: &TaskSet, cycle: u32, jobs: &[Job]) -> Result<Vec<Job>, Memory>
+pub fn jobs_of_three(
+    alloc: Global,
+    tasks: &TaskSet,
+    cycle: u32,
+    jobs: &[Job],
+) -> Result<Vec<Job>, Memory>
     requires sound { is_sound tasks.now ≡ true }
     requires cycle { cycle ≤ 4096 }
     requires near { All IsNear jobs.now }
@@ -74,7 +79,13 @@ pub fn jobs_of_three(alloc: Global, tasks: &TaskSet, cycle: u32, jobs: &[Job]) -
 }
 
 /// Appends the jobs, each so many cycles later.
-fn push_moved_jobs(all: &mut Vec<Job>, tasks: &TaskSet, cycle: u32, cycles: u64, jobs: &[Job]) -> Result<(), Memory>
+fn push_moved_jobs(
+    all: &mut Vec<Job>,
+    tasks: &TaskSet,
+    cycle: u32,
+    cycles: u64,
+    jobs: &[Job],
+) -> Result<(), Memory>
     requires sound { is_sound tasks.now ≡ true }
     requires cycle { cycle ≤ 4096 }
     requires cycles { cycles ≤ 1048576 }

@@ -13,7 +13,12 @@ use std::alloc::Global;
 
 /// The spans of the first cycle before the first slot. Their capacities look ahead to the end of the third
 /// cycle, so that the spans of three are built.
-pub fn first_spans(alloc: Global, tasks: &TaskSet, cycle: u32, jobs: &[Job]) -> Result<Vec<Span>, Memory>
+pub fn first_spans(
+    alloc: Global,
+    tasks: &TaskSet,
+    cycle: u32,
+    jobs: &[Job],
+) -> Result<Vec<Span>, Memory>
     requires cycle { cycle ≡ cycle_of tasks.now }
     requires jobs { AreFirstJobs tasks.now jobs.now }
     ensures { IfOk result (λ spans. spans.items ≡ plan_spans tasks.now cycle) }
