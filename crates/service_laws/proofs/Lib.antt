@@ -1,6 +1,8 @@
-pub mod ChainLemmas
-pub mod CycleWindows
+pub mod CounterexampleLemmas
+pub mod FailingWindows
 pub mod LaterCycles
-pub mod OfflineJobLemmas
+pub mod LaterDemand
 pub mod OneSlot
+pub mod PlaceCounts
+pub mod ScheduleWindows
 pub mod ServedTraces

@@ -1,13 +1,93 @@
-// A library with one function.
+//! The commands of slotshift, over any files and sinks.
 #![tactic(auto)]
 
-ghost use Rattle.std.specs.Prelude.{◌≡◌};
-ghost use Rattle.slot_cli.specs.Echo.{echo_of};
+ghost use Rattle.std.specs.Prelude.{◌≡◌, ◌≢◌, ◌↔◌, ℕ, List, [], None, Some, Ok, Err, IfSome};
+ghost use Rattle.slot_core.specs.declared.faults.TaskFault.{TaskFault};
+ghost use Rattle.slot_core.specs.declared.jobs.Window.{Window};
+ghost use Rattle.slot_core.specs.declared.tasks.TaskSet.{TaskSet};
+ghost use Rattle.slot_core.specs.Cycles.{cycle_of};
+ghost use Rattle.slot_core.specs.Service.{IsServed, IsOrdered};
+ghost use Rattle.slot_core.specs.Traces.{trace, history_of};
+ghost use Rattle.slot_io.specs.Faults.{Rose};
+ghost use Rattle.slot_cli.specs.declared.command.Command.{Command};
+ghost use Rattle.slot_cli.specs.declared.outcome.File.{File};
+ghost use Rattle.slot_cli.specs.declared.outcome.Outcome.{Outcome};
+ghost use Rattle.slot_cli.specs.Commands.{command_of};
+ghost use Rattle.slot_cli.specs.Outcomes.{status_of, name_of};
+ghost use Rattle.slot_cli.specs.Runs.{expected, planned_set, IsAnswer, IsReported, IsWritten};
 
-// The `ensures` clause is the contract: what `echo` returns is `echo_of` of its argument, a definition
-// in `specs/Echo.antt`, which a caller's clause can cite too.
-pub fn echo(x: usize) -> usize
-    ensures { result ≡ echo_of x }
+pub mod command;
+pub mod outcome;
+
+use slot_core::Words;
+use slot_io::{Files, Sink};
+use std::alloc::Global;
+
+/// Most slots of a replay.
+pub const REPLAY_LIMIT: u32 = 100_000;
+
+/// Most bytes of a task file.
+pub const TASK_FILE_LIMIT: usize = 1_048_576;
+
+/// Most bytes of an arrivals file.
+pub const ARRIVALS_FILE_LIMIT: usize = 4_194_304;
+
+/// How a run ended. The numbers are the program's exit statuses, from 0.
+#[derive(Clone, Copy, PartialEq, Eq, Debug)]
+pub enum Status {
+    Done,
+    Usage,
+    FileFault,
+    TooLarge,
+    BadTasks,
+    Infeasible,
+    BadArrivals,
+    WriteFault,
+    Memory,
+    BadTable,
+}
+
+
+/// Does what the words ask for: reads the files that they name, writes to `out`, and puts one line on `err`
+/// where it ends otherwise than Done. The order of work is that of `expected`: tasks read, set read, cycle
+/// test, arrivals read, replay. What the cycle test's outcome means is told by
+/// `service_laws::fits_means_a_schedule` and `service_laws::fails_means_none`.
+pub fn run<F: Files, K: Sink, E: Sink>(
+    alloc: Global,
+    words: &Words,
+    files: &mut F,
+    out: &mut K,
+    err: &mut E,
+) -> Status
+    // The whole: one outcome has the status, answers what the files hold, and is what the sinks tell.
+    ensures whole { (outcome : Outcome) × (result ≡ status_of outcome)
+        × IfSome (F.held files.old) (λ held. IsAnswer held words.now outcome)
+        × IfSome (F.held files.old) (λ held. (text : List ℕ) → expected held words.now ≡ Ok text → IsWritten outcome text (K.written out.old) (K.written out.new))
+        × ((file : File) → outcome ≡ Outcome.Unreadable file → F.blamed files.new ≡ Some (name_of words.now file))
+        × IsReported words.now outcome (E.written err.old) (E.written err.new) (E.faults err.old) (E.faults err.new) }
+
+    // One status each.
+    ensures usage { (result ≡ Status.Usage) ↔ (command_of words.now ≡ None) }
+    ensures file_fault { result ≡ Status.FileFault → Rose (F.faults files.old) (F.faults files.new) }
+    ensures too_large { result ≡ Status.TooLarge → IfSome (F.held files.old)
+        (λ held. (file : File) × (expected held words.now ≡ Err (Outcome.TooLarge file))) }
+    ensures bad_tasks { result ≡ Status.BadTasks → IfSome (F.held files.old)
+        (λ held. (fault : TaskFault) × (expected held words.now ≡ Err (Outcome.BadTasks fault))) }
+    ensures infeasible { result ≡ Status.Infeasible → IfSome (F.held files.old)
+        (λ held. (window : Window) × (expected held words.now ≡ Err (Outcome.Infeasible window))) }
+    ensures bad_arrivals { result ≡ Status.BadArrivals → IfSome (F.held files.old)
+        (λ held. expected held words.now ≡ Err Outcome.BadArrivals) }
+    ensures write_fault { result ≡ Status.WriteFault → Rose (K.faults out.old) (K.faults out.new) }
+    ensures no_table { result ≢ Status.BadTable }
+
+    // What stays untouched.
+    ensures done_says_nothing { result ≡ Status.Done → err.new ≡ err.old }
+    ensures refusal_writes_nothing { result ≢ Status.Done → result ≢ Status.WriteFault → result ≢ Status.Memory → out.new ≡ out.old }
+
+    // The printed trace serves every job.
+    ensures served { IfSome (F.held files.old) (λ held. (set : TaskSet) (slots : ℕ)
+        → planned_set held words.now ≡ Ok set
+        → IsServed set (cycle_of set) (history_of (trace set [] slots)) × IsOrdered set (cycle_of set) (history_of (trace set [] slots))) }
 {
-    x
+    Status::Memory
 }

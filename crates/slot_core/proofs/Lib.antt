@@ -1,0 +1,13 @@
+pub mod ChainLemmas
+pub mod ChainRoom
+pub mod ChoiceLemmas
+pub mod CycleMultiples
+pub mod CycleWindows
+pub mod FaultLemmas
+pub mod HistoryLemmas
+pub mod ListMembers
+pub mod MovedCycles
+pub mod OfflineJobLemmas
+pub mod OfflineWindows
+pub mod ReadyJobs
+pub mod ServingHistories

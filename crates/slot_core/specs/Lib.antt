@@ -5,6 +5,7 @@ pub mod Cycles
 pub mod Demand
 pub mod ExampleFirm
 pub mod ExampleFlight
+pub mod ExamplePlans
 pub mod ExampleSets
 pub mod ExampleSoft
 pub mod ExampleTraces
@@ -19,6 +20,7 @@ pub mod Plans
 pub mod Points
 pub mod Precedence
 pub mod Ranges
+pub mod Reports
 pub mod Scenes
 pub mod Schedules
 pub mod Service

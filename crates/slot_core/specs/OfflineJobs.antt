@@ -63,3 +63,14 @@ cycle_jobs set cycle n = map (derived_job set) (raw_jobs set cycle n)
 abbrev pub offline_jobs : TaskSet → ℕ → ℕ → List Job
 offline_jobs set cycle zero = []
 offline_jobs set cycle (suc n) = offline_jobs set cycle n ++ cycle_jobs set cycle n
+
+-- the key of the same task n cycles later
+abbrev pub moved_key : TaskSet → ℕ → ℕ → Key → Key
+moved_key set cycle n (Offline graph task instance) =
+    Offline graph task (instance + n * option_map_or (λ (g : Graph). cycle / g.period) (slice_get set.graphs graph) 0)
+moved_key set cycle n key = key
+
+-- the job of the same task n cycles later
+abbrev pub moved_job : TaskSet → ℕ → ℕ → Job → Job
+moved_job set cycle n job =
+    record job { key = moved_key set cycle n job.key; est = job.est + n * cycle; dl = job.dl + n * cycle }

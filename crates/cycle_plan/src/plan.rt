@@ -1,0 +1,103 @@
+//! Plans and how they are made.
+
+ghost use Rattle.std.specs.Prelude.{◌≡◌, ◌≤◌, ◌<◌, ◌*◌, ◌+◌, true, Some, length, slice_get, IfOk, IfSome};
+ghost use Rattle.slot_core.specs.declared.jobs.Job.{Job};
+ghost use Rattle.slot_core.specs.declared.jobs.Window.{Window};
+ghost use Rattle.slot_core.specs.Cycles.{cycle_of};
+ghost use Rattle.slot_core.specs.Feasible.{counterexample};
+ghost use Rattle.slot_core.specs.OfflineJobs.{moved_job};
+ghost use Rattle.slot_core.specs.Plans.{IsPlan};
+ghost use Rattle.slot_core.specs.Ranges.{is_sound};
+
+use slot_core::{Job, Span, Sporadic, TaskSet, Window};
+use std::alloc::Global;
+use std::marker::Model;
+
+/// A sound and feasible task set with its cycle, the offline jobs of the first cycle in deadline order, and
+/// the spans of the first cycle before the first slot. Its type keeps that all agree.
+#[derive(Drop)]
+pub struct Plan {
+    tasks: TaskSet,
+    cycle: u32,
+    jobs: Vec<Job>,
+    spans: Vec<Span>,
+}
+
+impl Model for Plan {
+    ghost use Rattle.slot_core.specs.Plans.{PlanParts, IsPlan};
+
+    ghost Value = { PlanParts };
+
+    ghost view = { λ p. record { tasks = p.tasks; cycle = p.cycle; jobs = p.jobs.items; spans = p.spans.items } };
+
+    ghost invariant = { λ p. IsPlan (record { tasks = p.tasks; cycle = p.cycle; jobs = p.jobs.items; spans = p.spans.items }) };
+}
+
+/// Why a set has no plan.
+#[derive(Clone, Copy, PartialEq, Eq, Debug)]
+pub enum PlanFault {
+    /// Memory ran out.
+    Memory,
+    /// A window with more demand than slots: the whole cycle where it is too short, else the first one.
+    Infeasible(Window),
+}
+
+/// The plan of a sound set, or the counterexample to its feasibility.
+pub fn make_plan(alloc: Global, tasks: TaskSet) -> Result<Plan, PlanFault>
+    requires { is_sound tasks ≡ true }
+    ensures tasks { IfOk result (λ plan. plan.tasks ≡ tasks) }
+    ensures plan { IfOk result IsPlan }
+    ensures infeasible { (w : Window) → result ≡ Err (PlanFault.Infeasible w) → counterexample tasks (cycle_of tasks) ≡ Some w }
+{
+    Err(PlanFault::Memory)
+}
+
+impl Plan {
+    /// The cycle in slots: 1 to 4096.
+    pub fn cycle(&self) -> u32
+        ensures cycle { result ≡ self.now.cycle }
+        ensures plan { IsPlan self.now }
+    {
+        self.cycle
+    }
+
+    /// The task set that the plan was made of.
+    pub fn tasks(&self) -> &TaskSet
+        ensures tasks { result.now ≡ self.now.tasks }
+        ensures plan { IsPlan self.now }
+    {
+        &self.tasks
+    }
+
+    /// The offline jobs of the first cycle, by deadline and then by key.
+    pub fn jobs(&self) -> &[Job]
+        ensures jobs { result.now ≡ self.now.jobs }
+        ensures plan { IsPlan self.now }
+    {
+        self.jobs.as_slice()
+    }
+
+    /// The spans of the first cycle before the first slot.
+    pub fn spans(&self) -> &[Span]
+        ensures spans { result.now ≡ self.now.spans }
+        ensures plan { IsPlan self.now }
+    {
+        self.spans.as_slice()
+    }
+
+    /// The sporadic tasks of the set.
+    pub fn sporadics(&self) -> &[Sporadic]
+        ensures sporadics { result.now ≡ self.now.tasks.sporadics }
+    {
+        self.tasks.sporadics.items()
+    }
+
+    /// The job at this place of the first cycle, as it stands so many cycles later.
+    pub fn job_in_cycle(&self, i: usize, cycles: u64) -> Job
+        requires place { i < length self.now.jobs }
+        requires near { cycles ≤ 1048576 }
+        ensures { IfSome (slice_get self.now.jobs i) (λ job. result ≡ moved_job self.now.tasks self.now.cycle cycles job) }
+    {
+        self.jobs[i]
+    }
+}

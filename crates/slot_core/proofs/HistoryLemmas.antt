@@ -1,0 +1,149 @@
+-- The jobs that have not ended in a history, and what a slot changes in them.
+use Rattle.std.proofs.Common.{◌≡◌, ℕ, zero, suc, ◌+◌, ◌-◌, ◌<◌, ◌≤◌, Bool, true, false, not, cond, List, [], ◌∷◌, map, filter, refl, ap, sym, ◌∙◌, inl, inr, ◌⊎◌, nat_le, arith}
+use Rattle.std.proofs.lemmas.Bool.{not-true}
+use Rattle.std.proofs.lemmas.List.Elements.{All-map, All-weaker, filter_passes}
+use Rattle.std.proofs.lemmas.List.Sums.{sum_by-cons}
+use Rattle.std.proofs.lemmas.Bool.Decides.{nat_tests}
+use Rattle.std.specs.Prelude.{Contains, All}
+use Rattle.slot_core.specs.declared.jobs.Key.{Key}
+use Rattle.slot_core.specs.declared.jobs.Job.{Job}
+use Rattle.slot_core.specs.declared.events.What.TheVariants.{Run}
+use Rattle.slot_core.specs.Histories.{History, executed}
+use Rattle.slot_core.specs.Scenes.{has_ended, with_left, unended}
+use Rattle.slot_core.specs.Demand.{work_by}
+use Rattle.slot_core.specs.Steps.{after_run}
+
+-- the job is one of the list, by recursion
+abbrev pub IsAmong : Job → List Job → Type 0
+IsAmong job [] = ⊥
+IsAmong job (j ∷ js) = (job ≡ j) ⊎ IsAmong job js
+
+-- the two ways to say that a job is in a list
+pub IsAmong-from_contains : (jobs : List Job) (job : Job) → Contains jobs job → IsAmong job jobs
+IsAmong-from_contains [] job (k, below, at) = absurd (omega arith)
+IsAmong-from_contains (j ∷ js) job (zero, below, at) = inl (sym at)
+IsAmong-from_contains (j ∷ js) job (suc k, below, at) = inr (IsAmong-from_contains js job (k, omega arith, at))
+
+pub Contains-from_among : (jobs : List Job) (job : Job) → IsAmong job jobs → Contains jobs job
+Contains-from_among [] job h = absurd h
+Contains-from_among (j ∷ js) job (inl e) = (zero, omega arith, sym e)
+Contains-from_among (j ∷ js) job (inr h) =
+    let c = Contains-from_among js job h in
+    (suc c.0, omega (arith, c.1), c.2)
+
+-- a filter keeps the jobs that pass
+pub IsAmong-filter : (test : Job → Bool) (jobs : List Job) (job : Job) → test job ≡ true → IsAmong job jobs → IsAmong job (filter test jobs)
+IsAmong-filter test [] job passes h = h
+IsAmong-filter test (j ∷ js) job passes (inl e) = rw (ap test (sym e) ∙ passes) (inl e)
+IsAmong-filter test (j ∷ js) job passes (inr h) =
+    let more : IsAmong job (filter test js) = IsAmong-filter test js job passes h in
+    elim (test j) as (λ b. IsAmong job (cond b (j ∷ filter test js) (filter test js))) [ true ↦ inr more | false ↦ more ]
+
+-- what a filter keeps passes, and is of the list
+pub filter-IsAmong : (test : Job → Bool) (jobs : List Job) (job : Job) → IsAmong job (filter test jobs) → (test job ≡ true) × IsAmong job jobs
+filter-IsAmong test [] job h = absurd h
+filter-IsAmong test (j ∷ js) job h =
+    elim (test j) as (λ b. test j ≡ b → IsAmong job (cond b (j ∷ filter test js) (filter test js)) → (test job ≡ true) × ((job ≡ j) ⊎ IsAmong job js)) [
+      | true ↦ λ t r.
+          elim r [
+            | inl e ↦ (ap test e ∙ t, inl e)
+            | inr i ↦ let m = filter-IsAmong test js job i in (m.0, inr m.1)
+          ]
+      | false ↦ λ t r. let m = filter-IsAmong test js job r in (m.0, inr m.1)
+    ] refl h
+
+-- the mapped list has what each job becomes
+pub IsAmong-map : (f : Job → Job) (jobs : List Job) (job : Job) → IsAmong job jobs → IsAmong (f job) (map f jobs)
+IsAmong-map f [] job h = h
+IsAmong-map f (j ∷ js) job (inl e) = inl (ap f e)
+IsAmong-map f (j ∷ js) job (inr h) = inr (IsAmong-map f js job h)
+
+-- a job of the mapped list comes from one of the list
+pub map-IsAmong : (f : Job → Job) (jobs : List Job) (job : Job) → IsAmong job (map f jobs) → (own : Job) × (job ≡ f own) × IsAmong own jobs
+map-IsAmong f [] job h = absurd h
+map-IsAmong f (j ∷ js) job (inl e) = (j, e, inl refl)
+map-IsAmong f (j ∷ js) job (inr h) = let m = map-IsAmong f js job h in (m.0, m.1, inr m.2)
+
+-- a job that has not ended is among the unended ones, with its slots left
+pub IsAmong-unended : (h : History) (jobs : List Job) (job : Job) → has_ended h job ≡ false → IsAmong job jobs → IsAmong (with_left h job) (unended h jobs)
+IsAmong-unended h jobs job runs at =
+    IsAmong-map (with_left h) _ job (IsAmong-filter (λ j. not (has_ended h j)) jobs job (ap not runs) at)
+
+-- the job is one of the list that has not ended, with its slots left
+pub record IsUnended (h : History) (jobs : List Job) (job own : Job) : Type 0 where
+  pub listed : IsAmong own jobs
+  pub runs : has_ended h own ≡ false
+  pub same : job ≡ with_left h own
+
+-- each unended job is one of the list
+pub unended_own : (h : History) (jobs : List Job) (job : Job) → IsAmong job (unended h jobs) → (own : Job) × IsUnended h jobs job own
+unended_own h jobs job at =
+    let m = map-IsAmong (with_left h) (filter (λ j. not (has_ended h j)) jobs) job at in
+    let f = filter-IsAmong (λ j. not (has_ended h j)) jobs m.0 m.2 in
+    (m.0, record { listed = f.1; runs = not-true (has_ended h m.0) f.0; same = m.1 })
+
+-- a job that has not ended has a slot left
+some_left : (h : History) (job : Job) → has_ended h job ≡ false → 1 ≤ job.declared - executed job.key h
+some_left h job runs = grind (arith, nat_tests)
+
+-- every unended job has a slot left
+pub unended_have_left : (h : History) (jobs : List Job) → All (λ (j : Job). 1 ≤ j.left) (unended h jobs)
+unended_have_left h jobs =
+    let test = λ (j : Job). not (has_ended h j) in
+    All-map
+    (λ (j : Job). 1 ≤ j.left)
+    (with_left h)
+    (filter test jobs)
+    (All-weaker
+    (λ (j : Job). test j ≡ true)
+    (λ (j : Job). 1 ≤ j.declared - executed j.key h)
+    (λ j passes. some_left h j (not-true (has_ended h j) passes))
+    (filter test jobs)
+    (filter_passes test jobs))
+
+-- the work that is due, one job at a time
+work_by-cons : (j : Job) (js : List Job) (x : ℕ) → work_by (j ∷ js) x ≡ (cond (nat_le j.dl x) j.left 0) + work_by js x
+work_by-cons j js x = sum_by-cons (λ (j : Job). cond (nat_le j.dl x) j.left 0) j js
+
+-- where no work is due by x, each job with a slot left is due later
+due_later : (dl left x rest : ℕ) → cond (nat_le dl x) left 0 + rest ≤ 0 → 1 ≤ left → x < dl
+due_later dl left x rest none some = grind (arith, nat_tests)
+
+later-from_no_work : (jobs : List Job) (job : Job) (x : ℕ) → work_by jobs x ≤ 0 → IsAmong job jobs → 1 ≤ job.left → x < job.dl
+later-from_no_work [] job x none at some = absurd at
+later-from_no_work (j ∷ js) job x none (inl e) some =
+    let split = work_by-cons j js x in
+    due_later job.dl job.left x (work_by js x) (rw e (rw split at none)) some
+later-from_no_work (j ∷ js) job x none (inr at) some =
+    let split = work_by-cons j js x in
+    later-from_no_work js job x (omega (arith, split)) at some
+
+-- where no work that is left is due by x, a job that has not ended is due later
+pub unended_due : (h : History) (jobs : List Job) (job : Job) (x : ℕ) → work_by (unended h jobs) x ≤ 0 → IsAmong job jobs → has_ended h job ≡ false → x < job.dl
+unended_due h jobs job x none at runs =
+    later-from_no_work (unended h jobs) (with_left h job) x none (IsAmong-unended h jobs job runs at) (some_left h job runs)
+
+-- before the first entry a job has all its slots left
+with_left-start : (job : Job) → job.left ≡ job.declared → with_left [] job ≡ job
+with_left-start job whole =
+    let e : job.declared - 0 ≡ job.left = omega arith in
+    ap (λ n. record job { left = n }) e
+
+-- before the first entry no job has ended
+unended_start-cons : (j : Job) (js : List Job) → 1 ≤ j.declared → with_left [] j ≡ j → unended [] js ≡ js → unended [] (j ∷ js) ≡ j ∷ js
+unended_start-cons j js some same rest = grind (arith, nat_tests)
+
+pub unended-start : (jobs : List Job) → ((job : Job) → IsAmong job jobs → (1 ≤ job.declared) × (job.left ≡ job.declared)) → unended [] jobs ≡ jobs
+unended-start [] fresh = refl
+unended-start (j ∷ js) fresh =
+    let own = fresh j (inl refl) in
+    unended_start-cons j js own.0 (with_left-start j own.1) (unended-start js (λ job at. fresh job (inr at)))
+
+-- the jobs after a run, one job at a time
+after_run-cons : (key : Key) (h : History) (job : Job) (jobs : List Job) → after_run key (unended h jobs) ≡ unended (Run key ∷ h) jobs → after_run key (unended h (job ∷ jobs)) ≡ unended (Run key ∷ h) (job ∷ jobs)
+after_run-cons key h job jobs more = grind (arith, nat_tests)
+
+-- the jobs after a run are the unended jobs of the longer history
+pub after_run-unended : (key : Key) (h : History) (jobs : List Job) → after_run key (unended h jobs) ≡ unended (Run key ∷ h) jobs
+after_run-unended key h [] = refl
+after_run-unended key h (job ∷ jobs) = after_run-cons key h job jobs (after_run-unended key h jobs)
