@@ -4,5 +4,7 @@ pub mod LaterCycles
 pub mod LaterDemand
 pub mod OneSlot
 pub mod PlaceCounts
+pub mod SchedulePlaces
 pub mod ScheduleWindows
 pub mod ServedTraces
+pub mod TraceSchedules

@@ -31,16 +31,16 @@ use Rattle.slot_core.proofs.OfflineJobLemmas.{cycle-positive}
 use Rattle.slot_core.proofs.OfflineWindows.{IsOfCycle-from_offline, same_offline-from_key, IsBefore-from_precedes}
 use Rattle.service_laws.proofs.OneSlot.{one_slot}
 use Rattle.slot_core.proofs.ReadyJobs.{ready_in, ready_in-cycles}
-use Rattle.slot_core.proofs.ServingHistories.{IsPlanned, MayRun, IsServing, IsQuiet, empty, start, end, idle, run, IsQuiet-from_serving, at_most_declared, time_of-at_start, has_ended-at_start, IsServing-at_start, MayRun-from_serving, not_freed-from_serving}
+use Rattle.slot_core.proofs.ServingHistories.{IsPlanned, MayRun, IsServing, IsQuiet, empty, end, idle, run, IsQuiet-from_serving, at_most_declared, time_of-at_start, has_ended-at_start, IsServing-at_start, MayRun-from_serving, not_freed-from_serving}
 
 -- after the slots of a history each run so far was of a job that may run, and no deadline of so many
 -- cycles is at risk
-record IsKept (set : TaskSet) (h : History) (cycles : ℕ) : Type 0 where
-  serving : IsServing set cycles h
-  safe : IsSafe [] [] (unended h (offline_jobs set (cycle_of set) cycles)) (time_of h) (cycles * cycle_of set)
+pub record IsKept (set : TaskSet) (h : History) (cycles : ℕ) : Type 0 where
+  pub serving : IsServing set cycles h
+  pub safe : IsSafe [] [] (unended h (offline_jobs set (cycle_of set) cycles)) (time_of h) (cycles * cycle_of set)
 
 -- the cycles reach past the time
-abbrev Reaches : TaskSet → History → ℕ → Type 0
+abbrev pub Reaches : TaskSet → History → ℕ → Type 0
 Reaches set h cycles = time_of h / cycle_of set + 3 ≤ cycles
 
 -- a time that the cycles reach past is below their end
@@ -77,7 +77,7 @@ entry-chosen set h cycles sound quiet reaches =
     entry-quiet set h quiet ∙ ap (λ js. ran_entry (ran_of (earliest js))) jobs
 
 -- no deadline is at risk now: a job that has not ended is due later
-due_now : (set : TaskSet) (h : History) (cycles : ℕ) → is_sound set ≡ true → Reaches set h cycles → IsKept set h cycles → (job : Job) → IsPlanned set cycles job → has_ended h job ≡ false → time_of h < job.dl
+pub due_now : (set : TaskSet) (h : History) (cycles : ℕ) → is_sound set ≡ true → Reaches set h cycles → IsKept set h cycles → (job : Job) → IsPlanned set cycles job → has_ended h job ≡ false → time_of h < job.dl
 due_now set h cycles sound reaches kept job at runs =
     let jobs = offline_jobs set (cycle_of set) cycles in
     let early = below_end (time_of h) (cycle_of set) cycles (cycle-positive set sound) reaches in
@@ -164,11 +164,11 @@ kept-after_slot set h cycles (Some best) sound reaches kept e =
     }
 
 -- kept for every number of cycles that reach past the time
-abbrev IsAlwaysKept : TaskSet → History → Type 0
+abbrev pub IsAlwaysKept : TaskSet → History → Type 0
 IsAlwaysKept set h = (cycles : ℕ) → Reaches set h cycles → IsKept set h cycles
 
 -- the entry of a slot adds one to the time
-time_of-ran : (ran : Ran) (h : History) → time_of (ran_entry ran ∷ h) ≡ suc (time_of h)
+pub time_of-ran : (ran : Ran) (h : History) → time_of (ran_entry ran ∷ h) ≡ suc (time_of h)
 time_of-ran RanIdle h = refl
 time_of-ran (RanKey key) h = refl
 
@@ -186,13 +186,13 @@ kept-after_entry set h sound always cycles reaches =
     (kept-after_slot set h cycles (earliest (ready_in (time_of h) h jobs)) sound reaches_h kept refl)
 
 -- so do any number of slots
-kept-after_slots : (set : TaskSet) (h : History) (times : List ℕ) → is_sound set ≡ true → IsAlwaysKept set h → IsAlwaysKept set (history_after set (cycle_of set) h (flat_map (slot_steps []) times))
+pub kept-after_slots : (set : TaskSet) (h : History) (times : List ℕ) → is_sound set ≡ true → IsAlwaysKept set h → IsAlwaysKept set (history_after set (cycle_of set) h (flat_map (slot_steps []) times))
 kept-after_slots set h [] sound always = always
 kept-after_slots set h (time ∷ times) sound always =
     kept-after_slots set (entry_of set (cycle_of set) h slot ∷ h) times sound (kept-after_entry set h sound always)
 
 -- it holds before the first slot
-kept-at_start : (set : TaskSet) → is_sound set ≡ true → set.sporadics ≡ [] → IsFeasible set (cycle_of set) → IsAlwaysKept set []
+pub kept-at_start : (set : TaskSet) → is_sound set ≡ true → set.sporadics ≡ [] → IsFeasible set (cycle_of set) → IsAlwaysKept set []
 kept-at_start set sound none feasible cycles reaches =
     let jobs = offline_jobs set (cycle_of set) cycles in
     let fresh = unended-start jobs (λ job at.

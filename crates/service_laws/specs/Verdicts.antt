@@ -1,6 +1,6 @@
 -- What the outcome of the cycle test means, over slot schedules. Neither derived windows nor any order of
 -- choice occur in it.
-use Rattle.std.specs.Prelude.{◌≡◌, ℕ, ◌*◌, true, [], Some}
+use Rattle.std.specs.Prelude.{◌≡◌, ◌*◌, true, [], Some}
 use Rattle.slot_core.specs.declared.jobs.Window.{Window}
 use Rattle.slot_core.specs.declared.tasks.TaskSet.{TaskSet}
 use Rattle.slot_core.specs.Cycles.{cycle_of}

@@ -3,6 +3,7 @@ pub mod ChainRoom
 pub mod ChoiceLemmas
 pub mod CycleMultiples
 pub mod CycleWindows
+pub mod DistinctKeys
 pub mod FaultLemmas
 pub mod HistoryLemmas
 pub mod ListMembers
