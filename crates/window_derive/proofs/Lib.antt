@@ -1,2 +1,4 @@
+pub mod BoolLists
 pub mod LoopLemmas
 pub mod OrderLemmas
+pub mod StuckLemmas

@@ -26,9 +26,9 @@ pub marked_other : (marks : List Bool) (i t : ℕ) (b : Bool) → (t ≡ i → �
 marked_other marks i t b apart = get_or-set_other marks i t b false apart
 
 -- a task of the list has the entries of its place
-pub after_of-at : (tasks : List Task) (i : ℕ) (task : Task) → i < length tasks → task ≡ get_or tasks i task → after_of tasks i ≡ task.after
-after_of-at tasks i task within is =
-    ap (λ o. option_map_or (λ (t : Task). t.after) o []) (slice_get-get_or tasks i task within) ∙ ap (λ (t : Task). t.after) (sym is)
+pub after_of-at : (tasks : List Task) (i : ℕ) (d : Task) → i < length tasks → after_of tasks i ≡ (get_or tasks i d).after
+after_of-at tasks i d within =
+    ap (λ o. option_map_or (λ (t : Task). t.after) o []) (slice_get-get_or tasks i d within)
 
 -- past the end there are none
 pub after_of-past : (tasks : List Task) (i : ℕ) → length tasks ≤ i → after_of tasks i ≡ []
@@ -38,16 +38,16 @@ after_of-past tasks i past = ap (λ o. option_map_or (λ (t : Task). t.after) o 
 abbrev pub IsNamed : List Task → Type 0
 IsNamed tasks = (t p : ℕ) → comes_after tasks t p ≡ true → p < length tasks
 
-pub entries_below : (tasks : List Task) (i n : ℕ) (task : Task) → IsNamed tasks → length tasks ≤ n → i < length tasks → task ≡ get_or tasks i task → All (λ p. p < n) task.after
-entries_below tasks i n task named count within is =
+pub entries_below : (tasks : List Task) (i n : ℕ) (entries : List ℕ) → IsNamed tasks → length tasks ≤ n → entries ≡ after_of tasks i → All (λ p. p < n) entries
+entries_below tasks i n entries named count is =
     λ k d at.
-    let p = get_or task.after k d in
-    let has = Has-from_Contains task.after p (Contains-get_or task.after k d at) in
-    let listed = list_any-from_Has (λ a. a == p) task.after p has (eq-eqb p p refl) in
-    let below : p < length tasks = named i p (ap (list_any (λ a. a == p)) (after_of-at tasks i task within is) ∙ listed) in
+    let p = get_or entries k d in
+    let has = Has-from_Contains entries p (Contains-get_or entries k d at) in
+    let listed = list_any-from_Has (λ a. a == p) entries p has (eq-eqb p p refl) in
+    let below : p < length tasks = named i p (sym (ap (list_any (λ a. a == p)) is) ∙ listed) in
     omega arith
 
--- two tests that agree find the same
+-- two tests that agree have one answer
 pub list_any-same : {X : Type 0} (p q : X → Bool) (xs : List X) → ((x : X) → p x ≡ q x) → list_any p xs ≡ list_any q xs
 list_any-same p q [] same = refl
 list_any-same p q (x ∷ xs) same = ap (λ b. b || list_any p xs) (same x) ∙ ap (λ b. q x || b) (list_any-same p q xs same)

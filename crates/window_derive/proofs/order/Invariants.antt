@@ -10,5 +10,5 @@ invariant-loop-place l = record {
   long : length l.placed ≡ 32;
   marked : (t : ℕ) → is_marked l.placed t ≡ is_listed l.order.items t;
   places : length l.order.items ≡ l._place;
-  ordered : IsOrdered l.tasks l.order.items
+  ordered : IsOrdered l.tasks l.order.items;
 }

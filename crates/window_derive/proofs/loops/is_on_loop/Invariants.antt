@@ -9,5 +9,5 @@ abbrev pub invariant-loop-entries : goal.invariant-loop-entries
 invariant-loop-entries l = record {
   long : length l.leading ≡ 32;
   leads : (t : ℕ) → is_marked l.leading t ≡ leads_to l.tasks l._entries t l.task;
-  left : list_any (λ n. leads_to l.tasks n l.task l.task) (range_with_len (l._entries + 1) (length l.tasks - l._entries)) ≡ is_on_loop l.tasks l.task
+  left : list_any (λ n. leads_to l.tasks n l.task l.task) (range_with_len (l._entries + 1) (length l.tasks - l._entries)) ≡ is_on_loop l.tasks l.task;
 }

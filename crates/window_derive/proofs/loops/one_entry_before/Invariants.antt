@@ -9,5 +9,5 @@ abbrev pub invariant-loop-place : goal.invariant-loop-place
 invariant-loop-place l = record {
   long : length l.before ≡ 32;
   done : (t : ℕ) → t < l.place → is_marked l.before t ≡ list_any (is_marked l.leading) (after_of l.tasks t);
-  left : (t : ℕ) → l.place ≤ t → is_marked l.before t ≡ false
+  left : (t : ℕ) → l.place ≤ t → is_marked l.before t ≡ false;
 }
