@@ -8,7 +8,7 @@ use Rattle.std.proofs.lemmas.List.{get_or-set_same, get_or-set_other}
 use Rattle.std.proofs.lemmas.List.Elements.{Contains-get_or}
 use Rattle.std.proofs.lemmas.Option.{slice_get-get_or, slice_get_past}
 use Rattle.slot_core.specs.declared.tasks.Task.{Task}
-use Rattle.slot_core.specs.Precedence.{after_of, comes_after, leads_to, is_on_loop}
+use Rattle.slot_core.specs.Precedence.{after_of, wcet_of, comes_after, leads_to, is_on_loop}
 use Rattle.slot_core.proofs.ListMembers.{Has, Has-from_Contains, list_any-from_Has}
 use Rattle.window_derive.specs.Marks.{is_marked}
 
@@ -29,6 +29,11 @@ marked_other marks i t b apart = get_or-set_other marks i t b false apart
 pub after_of-at : (tasks : List Task) (i : ℕ) (d : Task) → i < length tasks → after_of tasks i ≡ (get_or tasks i d).after
 after_of-at tasks i d within =
     ap (λ o. option_map_or (λ (t : Task). t.after) o []) (slice_get-get_or tasks i d within)
+
+-- and its slots
+pub wcet_of-at : (tasks : List Task) (i : ℕ) (task : Task) → i < length tasks → task ≡ get_or tasks i task → wcet_of tasks i ≡ task.wcet
+wcet_of-at tasks i task within is =
+    ap (λ o. option_map_or (λ (t : Task). t.wcet) o 0) (slice_get-get_or tasks i task within) ∙ ap (λ (t : Task). t.wcet) (sym is)
 
 -- past the end there are none
 pub after_of-past : (tasks : List Task) (i : ℕ) → length tasks ≤ i → after_of tasks i ≡ []

@@ -9,6 +9,7 @@ ghost use Rattle.slot_core.specs.Precedence.{comes_after};
 ghost use Rattle.slot_core.specs.Ranges.{is_sound};
 ghost use Rattle.window_derive.specs.Orders.{IsOrder, first_on_loop};
 
+mod chains;
 mod loops;
 mod places;
 
