@@ -1,0 +1,2 @@
+pub mod FeasibleLemmas
+pub mod FirstSome
