@@ -1,2 +1,3 @@
+pub mod ArrivalCounts
 pub mod FeasibleLemmas
 pub mod FirstSome
