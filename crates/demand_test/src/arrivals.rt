@@ -4,7 +4,7 @@ ghost use Rattle.std.specs.Prelude.{◌≡◌, ◌+◌, ◌-◌, ◌*◌, ◌^�
 ghost use Rattle.std.specs.List.{range_with_len};
 ghost use Rattle.slot_core.specs.Sporadics.{arrivals_due, sporadic_demand};
 
-use slot_core::{Memory, Sporadic};
+use slot_core::{List, Memory, Sporadic};
 use std::alloc::Global;
 
 /// Demand from here on is not counted, so that sums with it fit 64 bits.
@@ -41,16 +41,18 @@ pub fn needed_by(sporadics: &[Sporadic], end: u32) -> Option<u64>
 }
 
 /// What the densest arrivals from slot 0 on need by each end from 0 to `last`.
-pub fn needed_table(alloc: Global, sporadics: &[Sporadic], last: u32) -> Result<Vec<u64>, Memory>
+pub fn needed_table(alloc: Global, sporadics: &[Sporadic], last: u32) -> Result<List<u64>, Memory>
     requires { last < 2 ^ 32 - 1 }
     ensures values { IfOk result
-        (λ v. v.items ≡ map (λ x. sporadic_demand sporadics.now [] 0 x) (range_with_len 0 (last + 1))) }
-    ensures small { IfOk result (λ v. All (λ n. n < 2 ^ 63) v.items) }
+        (λ table. table ≡ map (λ x. sporadic_demand sporadics.now [] 0 x) (range_with_len 0 (last + 1))) }
+    ensures small { IfOk result (λ table. All (λ n. n < 2 ^ 63) table) }
 {
-    let mut table = Vec::new(alloc);
+    let mut table = List::new(alloc);
     for end in 0..last + 1 {
-        let needed = needed_by(sporadics, end).ok_or(Memory)?;
-        table.push(needed).map_err(|_| Memory)?;
+        let Some(needed) = needed_by(sporadics, end) else {
+            return Err(Memory);
+        };
+        table.push(needed)?;
     }
     Ok(table)
 }

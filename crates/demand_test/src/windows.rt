@@ -69,7 +69,7 @@ pub fn first_failing(
     let arrivals = needed_table(alloc, sporadics, 2 * cycle)?;
     let mut passed = 0;
     for from in 0..cycle {
-        let failing = failing_from(due.as_slice(), arrivals.as_slice(), from as usize);
+        let failing = failing_from(due.as_slice(), arrivals.items(), from as usize);
         if failing.is_some() {
             return Ok(failing);
         }
