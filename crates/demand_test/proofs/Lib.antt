@@ -1,3 +1,4 @@
 pub mod ArrivalCounts
 pub mod FeasibleLemmas
 pub mod FirstSome
+pub mod SoundSets
