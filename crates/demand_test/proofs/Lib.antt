@@ -1,4 +1,5 @@
 pub mod ArrivalCounts
+pub mod CycleTotals
 pub mod FeasibleLemmas
 pub mod FirstSome
 pub mod SoundSets
