@@ -3,9 +3,9 @@ use Rattle.std.proofs.Common.{◌≡◌, ℕ, zero, suc, ◌+◌, ◌-◌, ◌*�
 use Rattle.std.specs.Prelude.{All, sum_by, nat_le, is_none, ◌&&◌}
 use Rattle.std.specs.List.{list_all, AllPass}
 use Rattle.std.proofs.lemmas.Bool.{and_parts, leb-true}
-use Rattle.std.proofs.lemmas.List.Elements.{All-weaker}
+use Rattle.std.proofs.lemmas.List.Elements.{All-weaker, All-head, All-tail}
 use Rattle.std.proofs.lemmas.List.Sums.{sum_by-le, AllPass-from_list_all}
-use Rattle.std.proofs.Math.Nat.{mul-le-mul_right, mul-le-mul_left}
+use Rattle.std.proofs.Math.Nat.{mul-le-mul_right}
 use Rattle.std.proofs.lemmas.Nat.{mul-le}
 use Rattle.slot_core.specs.declared.TheConstants.{GRAPH_LIMIT, TASK_LIMIT, AFTER_LIMIT, SPORADIC_LIMIT, SLOT_LIMIT, SOFT_LIMIT}
 use Rattle.slot_core.specs.declared.tasks.Task.{Task}
@@ -14,7 +14,9 @@ use Rattle.slot_core.specs.declared.tasks.Sporadic.{Sporadic}
 use Rattle.slot_core.specs.declared.tasks.TaskSet.{TaskSet}
 use Rattle.slot_core.specs.Faults.{set_fault}
 use Rattle.slot_core.specs.Names.{is_name}
+use Rattle.slot_core.specs.Sporadics.{arrivals_due, sporadic_demand}
 use Rattle.slot_core.specs.Ranges.{is_between, task_in_range, graph_in_range, sporadic_in_range, is_in_range, is_sound}
+use Rattle.demand_test.proofs.ArrivalCounts.{arrivals_due-le}
 
 -- the limits that are used here are no higher
 TASK_LIMIT-le : TASK_LIMIT ≤ 32
@@ -89,3 +91,18 @@ IsSoundSet-from_test set sound =
       few_sporadics = omega arith;
       wcets = All-weaker (λ s. sporadic_in_range s ≡ true) (λ (s : Sporadic). s.wcet ≤ 4096) sporadic_wcet-le set.sporadics (AllPass-from_list_all sporadic_in_range set.sporadics sporadics);
     }
+
+-- the arrivals of few tasks need few slots
+sporadic_demand-le : (ss : List Sporadic) (x : ℕ) → All (λ (s : Sporadic). s.wcet ≤ 4096) ss → sporadic_demand ss [] 0 x ≤ length ss * (4096 * (x + 1))
+sporadic_demand-le [] x small = omega arith
+sporadic_demand-le (s ∷ ss) x small =
+    let here = mul-le s.wcet (arrivals_due s 0 0 x) 4096 (x + 1) (All-head (λ (s : Sporadic). s.wcet ≤ 4096) s ss small) (arrivals_due-le s 0 x) in
+    let others = sporadic_demand-le ss x (All-tail (λ (s : Sporadic). s.wcet ≤ 4096) s ss small) in
+    omega arith
+
+pub sporadic_demand-small : (set : TaskSet) (x : ℕ) → is_sound set ≡ true → x < 2 ^ 32 → sporadic_demand set.sporadics [] 0 x < 2 ^ 63
+sporadic_demand-small set x sound low =
+    let facts = IsSoundSet-from_test set sound in
+    let each = sporadic_demand-le set.sporadics x facts.wcets in
+    let all : length set.sporadics * (4096 * (x + 1)) ≤ 8 * (4096 * (x + 1)) = mul-le-mul_right (4096 * (x + 1)) facts.few_sporadics in
+    omega arith
