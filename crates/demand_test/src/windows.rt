@@ -1,17 +1,34 @@
 //! The search for a window with more demand than slots.
 
+ghost use Rattle.std.specs.Prelude.{◌≡◌, ℕ, ◌+◌, ◌-◌, ◌*◌, ◌^◌, ◌<◌, ◌≤◌, All, IfOk, length, drop, sum, sum_by, slice_index, slice_set};
+ghost use Rattle.std.specs.List.{range_with_len};
+ghost use Rattle.std.specs.List.Sorted.{IsNonDecreasingBy};
+ghost use Rattle.slot_core.specs.declared.jobs.Job.{Job};
+ghost use Rattle.slot_core.specs.Feasible.{first_some, first_failing_from};
+ghost use Rattle.demand_test.specs.Ends.{ending_at, first_end, IsDue, IsStart, failing_in};
+
 use crate::arrivals::needed_table;
 use slot_core::{Job, Memory, Sporadic, Window};
 use std::alloc::Global;
 
 /// Adds slots to those that begin to count at this end.
-fn count_from(due: &mut [u64], end: usize, slots: u32) {
+fn count_from(due: &mut [u64], end: usize, slots: u32)
+    requires within { end < length due.old }
+    requires fits { slice_index due.old end < 2 ^ 63 }
+    ensures { due.new ≡ slice_set due.old end (slice_index due.old end + slots) }
+{
     due[end] += u64::from(slots);
 }
 
 /// For each end, 0 to two cycles, the slots that begin to count there: those of a job of the first cycle at
-/// its deadline, and of the same job of the next cycle at its deadline, past the end of the first.
-fn due_table(alloc: Global, jobs: &[Job], cycle: u32) -> Result<Vec<u64>, Memory> {
+/// its deadline, and those of the same job of the next cycle at its deadline, past the end of the first.
+fn due_table(alloc: Global, jobs: &[Job], cycle: u32) -> Result<Vec<u64>, Memory>
+    requires positive { 0 < cycle }
+    requires cycle { cycle ≤ 4096 }
+    requires within { All (λ (j : Job). j.dl ≤ cycle) jobs.now }
+    requires few { sum_by (λ (j : Job). j.declared) jobs.now ≤ cycle }
+    ensures { IfOk result (λ due. IsDue jobs.now jobs.now cycle due.items) }
+{
     let cycle = cycle as usize;
     let Ok(mut due) = vec![in alloc; 0u64; 2 * cycle + 1] else {
         return Err(Memory);
@@ -25,23 +42,42 @@ fn due_table(alloc: Global, jobs: &[Job], cycle: u32) -> Result<Vec<u64>, Memory
 }
 
 /// Takes out the jobs that start by `from`, of which the first `passed` are out, and tells how many are out then.
-fn leave(due: &mut [u64], jobs: &[Job], passed: usize, from: u32) -> usize {
-    let mut passed = passed;
-    while passed < jobs.len() && jobs[passed].est <= u64::from(from) {
-        let end = jobs[passed].dl as usize;
-        due[end] -= u64::from(jobs[passed].declared);
-        passed += 1;
+fn leave(due: &mut [u64], jobs: &[Job], passed: usize, from: u32) -> usize
+    requires ordered { IsNonDecreasingBy (λ (j : Job). j.est) jobs.now }
+    requires start { IsStart jobs.now from passed }
+    requires within { All (λ (j : Job). j.dl < length due.old) jobs.now }
+    requires counted { (b : ℕ) → ending_at first_end (drop passed jobs.now) b ≤ slice_index due.old b }
+    ensures start { IsStart jobs.now (from + 1) result }
+    ensures taken { (b : ℕ)
+        → slice_index due.new b + ending_at first_end (drop passed jobs.now) b
+        ≡ slice_index due.old b + ending_at first_end (drop result jobs.now) b }
+{
+    let mut next = passed;
+    while next < jobs.len() && jobs[next].est <= u64::from(from) {
+        let job = jobs[next];
+        due[job.dl as usize] -= u64::from(job.declared);
+        next += 1;
     }
-    passed
+    next
 }
 
 /// The sum of the numbers.
-fn sum_of(numbers: &[u64]) -> u64 {
+fn sum_of(numbers: &[u64]) -> u64
+    requires { sum numbers.now < 2 ^ 64 }
+    ensures { result ≡ sum numbers.now }
+{
     numbers.iter().sum()
 }
 
 /// The failing window of least end that starts at `from`, or none.
-fn failing_from(due: &[u64], arrivals: &[u64], from: usize) -> Option<Window> {
+fn failing_from(due: &[u64], arrivals: &[u64], from: usize) -> Option<Window>
+    requires within { from < length due.now }
+    requires same { length arrivals.now ≡ length due.now }
+    requires few { sum due.now < 2 ^ 63 }
+    requires small { All (λ n. n < 2 ^ 63) arrivals.now }
+    ensures { result
+        ≡ first_some (failing_in due.now arrivals.now from) (range_with_len (from + 1) (length due.now - 1 - from)) }
+{
     let mut sum = sum_of(&due[..from + 1]);
     for until in from + 1..due.len() {
         sum += due[until];
@@ -64,7 +100,15 @@ pub fn first_failing(
     jobs: &[Job],
     sporadics: &[Sporadic],
     cycle: u32,
-) -> Result<Option<Window>, Memory> {
+) -> Result<Option<Window>, Memory>
+    requires positive { 0 < cycle }
+    requires cycle { cycle ≤ 4096 }
+    requires within { All (λ (j : Job). j.dl ≤ cycle) jobs.now }
+    requires few { sum_by (λ (j : Job). j.declared) jobs.now ≤ cycle }
+    requires ordered { IsNonDecreasingBy (λ (j : Job). j.est) jobs.now }
+    ensures { IfOk result
+        (λ w. w ≡ first_some (first_failing_from jobs.now sporadics.now cycle) (range_with_len 0 cycle)) }
+{
     let mut due = due_table(alloc, jobs, cycle)?;
     let arrivals = needed_table(alloc, sporadics, 2 * cycle)?;
     let mut passed = 0;
