@@ -1,5 +1,6 @@
 pub mod ArrivalCounts
 pub mod CycleTotals
+pub mod EndCounts
 pub mod FeasibleLemmas
 pub mod FirstSome
 pub mod SoundSets

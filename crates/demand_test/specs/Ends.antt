@@ -1,5 +1,5 @@
 -- The ends at which jobs begin to count, along the windows that have one start.
-use Rattle.std.specs.Prelude.{◌≡◌, ℕ, ◌+◌, ◌-◌, ◌*◌, ◌≤◌, ◌<◌, max, ◌==◌, List, length, take, sum, sum_by, slice_index, Option, Some, None, nat_lt, if◌then◌else◌}
+use Rattle.std.specs.Prelude.{◌≡◌, ℕ, ◌+◌, ◌-◌, ◌*◌, ◌≤◌, ◌<◌, max, ◌==◌, List, length, take, sum, sum_by, slice_index, slice_set, Option, Some, None, nat_lt, if◌then◌else◌}
 use Rattle.std.specs.List.{AllWithin}
 use Rattle.slot_core.specs.declared.jobs.Job.{Job}
 use Rattle.slot_core.specs.declared.jobs.Window.{Window}
@@ -15,6 +15,10 @@ first_end j = j.dl
 -- the same job of the next cycle counts from its deadline there on, in windows that end past the first
 abbrev pub next_end : ℕ → Job → ℕ
 next_end cycle j = max (j.dl + cycle) (cycle + 1)
+
+-- the numbers, with one of them raised
+abbrev pub raised : List ℕ → ℕ → ℕ → List ℕ
+raised numbers place by = slice_set numbers place (slice_index numbers place + by)
 
 -- what begins to count at each end from 0 to two cycles: slots of these jobs of the first cycle, and of
 -- those of the next

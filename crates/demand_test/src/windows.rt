@@ -1,27 +1,34 @@
 //! The search for a window with more demand than slots.
 
-ghost use Rattle.std.specs.Prelude.{◌≡◌, ℕ, ◌+◌, ◌-◌, ◌*◌, ◌^◌, ◌<◌, ◌≤◌, All, IfOk, length, drop, sum, sum_by, slice_index, slice_set};
+ghost use Rattle.std.specs.Prelude.{◌≡◌, ℕ, ◌+◌, ◌-◌, ◌*◌, ◌^◌, ◌<◌, ◌≤◌, All, IfOk, length, drop, sum, sum_by, slice_index};
 ghost use Rattle.std.specs.List.{range_with_len};
 ghost use Rattle.std.specs.List.Sorted.{IsNonDecreasingBy};
 ghost use Rattle.slot_core.specs.declared.jobs.Job.{Job};
 ghost use Rattle.slot_core.specs.Feasible.{first_some, first_failing_from};
-ghost use Rattle.demand_test.specs.Ends.{ending_at, first_end, IsDue, IsStart, failing_in};
+ghost use Rattle.demand_test.specs.Ends.{ending_at, first_end, next_end, raised, IsDue, IsStart, failing_in};
 
 use crate::arrivals::needed_table;
 use slot_core::{Job, Memory, Sporadic, Window};
 use std::alloc::Global;
 
-/// Adds slots to those that begin to count at this end.
-fn count_from(due: &mut [u64], end: usize, slots: u32)
-    requires within { end < length due.old }
-    requires fits { slice_index due.old end < 2 ^ 63 }
-    ensures { due.new ≡ slice_set due.old end (slice_index due.old end + slots) }
+/// Adds the declared slots of a job at its ends: its deadline in the first cycle, and its deadline in the next,
+/// past the end of the first.
+fn count_job(due: &mut [u64], job: &Job, cycle: usize)
+    requires positive { 0 < cycle }
+    requires len { length due.old ≡ 2 * cycle + 1 }
+    requires within { job.now.dl ≤ cycle }
+    requires small { All (λ n. n < 2 ^ 63) due.old }
+    ensures { due.new
+        ≡ raised (raised due.old (first_end job.now) job.now.declared) (next_end cycle job.now) job.now.declared }
 {
-    due[end] += u64::from(slots);
+    let end = job.dl as usize;
+    let next = (end + cycle).max(cycle + 1);
+    due[end] += u64::from(job.declared);
+    due[next] += u64::from(job.declared);
 }
 
-/// For each end, 0 to two cycles, the slots that begin to count there: those of a job of the first cycle at
-/// its deadline, and those of the same job of the next cycle at its deadline, past the end of the first.
+/// For each end, 0 to two cycles, the slots of the jobs of the first cycle and of the next that begin to count
+/// there.
 fn due_table(alloc: Global, jobs: &[Job], cycle: u32) -> Result<Vec<u64>, Memory>
     requires positive { 0 < cycle }
     requires cycle { cycle ≤ 4096 }
@@ -29,14 +36,12 @@ fn due_table(alloc: Global, jobs: &[Job], cycle: u32) -> Result<Vec<u64>, Memory
     requires few { sum_by (λ (j : Job). j.declared) jobs.now ≤ cycle }
     ensures { IfOk result (λ due. IsDue jobs.now jobs.now cycle due.items) }
 {
-    let cycle = cycle as usize;
-    let Ok(mut due) = vec![in alloc; 0u64; 2 * cycle + 1] else {
+    let length = cycle as usize;
+    let Ok(mut due) = vec![in alloc; 0u64; 2 * length + 1] else {
         return Err(Memory);
     };
     for job in jobs {
-        let end = job.dl as usize;
-        count_from(&mut due, end, job.declared);
-        count_from(&mut due, (end + cycle).max(cycle + 1), job.declared);
+        count_job(&mut due, job, length);
     }
     Ok(due)
 }
