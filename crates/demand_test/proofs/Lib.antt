@@ -4,3 +4,4 @@ pub mod EndCounts
 pub mod FeasibleLemmas
 pub mod FirstSome
 pub mod SoundSets
+pub mod WindowSums

@@ -1,0 +1,118 @@
+-- The sums of the table of ends are the offline demand of the windows from a start.
+use Rattle.std.proofs.Common.{◌≡◌, ℕ, zero, suc, ◌+◌, ◌-◌, ◌*◌, ◌<◌, ◌≤◌, max, Bool, true, false, cond, List, [], ◌∷◌, length, map, take, drop, get_or, sum, Option, Some, None, refl, sym, ap, ◌∙◌, inl, inr, zero-add, arith}
+use Rattle.std.specs.Prelude.{All, sum_by, nat_le, nat_lt, ◌==◌, ◌&&◌, if◌then◌else◌}
+use Rattle.std.specs.List.{AllWithin, range_with_len}
+use Rattle.std.proofs.lemmas.Bool.{cases_lt, le-ltb, lt-ltb}
+use Rattle.std.proofs.lemmas.Bool.Decides.{nat_tests}
+use Rattle.std.proofs.lemmas.List.{get_or-take, get_or-drop, length-take, length-drop, take_all}
+use Rattle.std.proofs.lemmas.List.Elements.{All-head, All-tail}
+use Rattle.std.proofs.lemmas.List.FromFn.{get_or-map-range_with_len}
+use Rattle.std.proofs.lemmas.List.Sums.{sum_by-cons, sum_by_more, sum_by-take-drop, sum_by-le-sum_by}
+use Rattle.slot_core.specs.declared.jobs.Job.{Job}
+use Rattle.slot_core.specs.declared.tasks.Sporadic.{Sporadic}
+use Rattle.slot_core.specs.Sporadics.{sporadic_demand}
+use Rattle.slot_core.specs.Feasible.{declared_within, window_demand, failing_window, first_some, first_failing_from}
+use Rattle.demand_test.specs.Ends.{ending_at, first_end, next_end, IsDue, IsStart, failing_in}
+use Rattle.demand_test.proofs.ArrivalCounts.{sporadic_demand-moved}
+use Rattle.demand_test.proofs.FeasibleLemmas.{fits-from_first_failing}
+use Rattle.demand_test.proofs.FirstSome.{first_some-agree}
+
+-- the declared slots of the jobs whose end is at most b
+ending_by : (Job → ℕ) → List Job → ℕ → ℕ
+ending_by end jobs b = sum_by (λ (j : Job). if nat_le (end j) b then j.declared else 0) jobs
+
+-- sums of terms that agree
+sum_by-agree : {X : Type 0} (f g : X → ℕ) (xs : List X) → All (λ x. f x ≡ g x) xs → sum_by f xs ≡ sum_by g xs
+sum_by-agree f g [] same = refl
+sum_by-agree f g (x ∷ xs) same =
+    let here = All-head (λ x. f x ≡ g x) x xs same in
+    let others = sum_by-agree f g xs (All-tail (λ x. f x ≡ g x) x xs same) in
+    sum_by-cons f x xs ∙ ap (λ n. n + sum_by f xs) here ∙ ap (λ n. g x + n) others ∙ sym (sum_by-cons g x xs)
+
+sum_by-none : {X : Type 0} (f : X → ℕ) (xs : List X) → All (λ x. f x ≡ 0) xs → sum_by f xs ≡ 0
+sum_by-none f [] none = refl
+sum_by-none f (x ∷ xs) none =
+    let here = All-head (λ x. f x ≡ 0) x xs none in
+    let others = sum_by-none f xs (All-tail (λ x. f x ≡ 0) x xs none) in
+    sum_by-cons f x xs ∙ omega arith
+
+sum_by-plus : {X : Type 0} (f g h : X → ℕ) (xs : List X) → ((x : X) → f x + g x ≡ h x) → sum_by f xs + sum_by g xs ≡ sum_by h xs
+sum_by-plus f g h [] same = refl
+sum_by-plus f g h (x ∷ xs) same =
+    omega (arith, sum_by-cons f x xs, sum_by-cons g x xs, sum_by-cons h x xs, same x, sum_by-plus f g h xs same)
+
+-- by the first end, and by one end more
+by_zero : (e d : ℕ) → (if e == 0 then d else 0) ≡ (if nat_le e 0 then d else 0)
+by_zero e d = grind (arith, nat_tests)
+
+by_more : (e d b : ℕ) → (if nat_le e b then d else 0) + (if e == b + 1 then d else 0) ≡ (if nat_le e (b + 1) then d else 0)
+by_more e d b = grind (arith, nat_tests)
+
+ending_by-zero : (end : Job → ℕ) (jobs : List Job) → ending_at end jobs 0 ≡ ending_by end jobs 0
+unfolding ending_by
+ending_by-zero end jobs =
+    sum_by-agree (λ (j : Job). if end j == 0 then j.declared else 0) (λ (j : Job). if nat_le (end j) 0 then j.declared else 0) jobs (λ k d low. by_zero (end (get_or jobs k d)) (get_or jobs k d).declared)
+
+ending_by-more : (end : Job → ℕ) (jobs : List Job) (b : ℕ) → ending_by end jobs b + ending_at end jobs (b + 1) ≡ ending_by end jobs (b + 1)
+unfolding ending_by
+ending_by-more end jobs b =
+    sum_by-plus
+    (λ (j : Job). if nat_le (end j) b then j.declared else 0)
+    (λ (j : Job). if end j == b + 1 then j.declared else 0)
+    (λ (j : Job). if nat_le (end j) (b + 1) then j.declared else 0)
+    jobs
+    (λ j. by_more (end j) j.declared b)
+
+-- what begins to count up to an end is what is due by it
+sum_take-IsDue : (first next : List Job) (cycle : ℕ) (due : List ℕ) → IsDue first next cycle due → (b : ℕ) → b ≤ 2 * cycle → sum (take (b + 1) due) ≡ ending_by first_end first b + ending_by (next_end cycle) next b
+sum_take-IsDue first next cycle due h zero low =
+    let len = h.len in
+    let step = sum_by_more (λ x. x) due 0 0 (omega arith) in
+    omega (arith, h.ends 0 low, ending_by-zero first_end first, ending_by-zero (next_end cycle) next)
+sum_take-IsDue first next cycle due h (suc b) low =
+    let len = h.len in
+    let before = sum_take-IsDue first next cycle due h b (omega arith) in
+    let step = sum_by_more (λ x. x) due (b + 1) 0 (omega arith) in
+    let here = h.ends (b + 1) (omega arith) in
+    let one = ending_by-more first_end first b in
+    let two = ending_by-more (next_end cycle) next b in
+    let same : suc b ≡ b + 1 = omega arith in
+    rw same (omega arith)
+
+-- the first jobs, which start before a, do not count from a on, and the others all do
+before_start : (est a dl b d : ℕ) → est < a → (if nat_le a (est + 0) && nat_le (dl + 0) b then d else 0) ≡ 0
+before_start est a dl b d low = grind (arith, nat_tests)
+
+after_start : (est a dl b d : ℕ) → a ≤ est → (if nat_le a (est + 0) && nat_le (dl + 0) b then d else 0) ≡ (if nat_le dl b then d else 0)
+after_start est a dl b d low = grind (arith, nat_tests)
+
+declared_within-IsStart : (jobs : List Job) (a n b : ℕ) → IsStart jobs a n → declared_within jobs 0 a b ≡ ending_by first_end (drop n jobs) b
+unfolding ending_by
+declared_within-IsStart jobs a n b start =
+    let f = λ (j : Job). if nat_le a (j.est + 0) && nat_le (j.dl + 0) b then j.declared else 0 in
+    let g = λ (j : Job). if nat_le j.dl b then j.declared else 0 in
+    let within = start.within in
+    let front = sum_by-none f (take n jobs) (λ k d low.
+      let short : k < n = omega (arith, length-take n jobs) in
+      rw (get_or-take n jobs k d short) (before_start (get_or jobs k d).est a (get_or jobs k d).dl b (get_or jobs k d).declared (start.before k d (omega arith) short))) in
+    let rest = sum_by-agree f g (drop n jobs) (λ k d low.
+      let short : n + k < length jobs = omega (arith, length-drop n jobs) in
+      rw (get_or-drop n jobs k d) (after_start (get_or jobs (n + k) d).est a (get_or jobs (n + k) d).dl b (get_or jobs (n + k) d).declared (start.later (n + k) d (omega arith) short))) in
+    omega (arith, sum_by-take-drop f jobs n)
+
+-- all jobs of the next cycle start at a or later, and count in the windows that end past the first cycle
+next_past : (est dl a b cycle d : ℕ) → a < cycle → cycle < b → (if nat_le a (est + cycle) && nat_le (dl + cycle) b then d else 0) ≡ (if nat_le (max (dl + cycle) (cycle + 1)) b then d else 0)
+next_past est dl a b cycle d low past = grind (arith, nat_tests)
+
+next_not_past : (dl b cycle d : ℕ) → b ≤ cycle → (if nat_le (max (dl + cycle) (cycle + 1)) b then d else 0) ≡ 0
+next_not_past dl b cycle d within = grind (arith, nat_tests)
+
+declared_within-next : (jobs : List Job) (cycle a b : ℕ) → a < cycle → (if nat_lt cycle b then declared_within jobs cycle a b else 0) ≡ ending_by (next_end cycle) jobs b
+unfolding ending_by
+declared_within-next jobs cycle a b low =
+    let f = λ (j : Job). if nat_le a (j.est + cycle) && nat_le (j.dl + cycle) b then j.declared else 0 in
+    let g = λ (j : Job). if nat_le (next_end cycle j) b then j.declared else 0 in
+    elim (cases_lt cycle b) [
+      | inl past ↦ rw (lt-ltb cycle b past) (sum_by-agree f g jobs (λ k d _. next_past (get_or jobs k d).est (get_or jobs k d).dl a b cycle (get_or jobs k d).declared low past))
+      | inr within ↦ rw (le-ltb cycle b within) (sym (sum_by-none g jobs (λ k d _. next_not_past (get_or jobs k d).dl b cycle (get_or jobs k d).declared within)))
+    ]
