@@ -9,6 +9,7 @@ use Rattle.std.proofs.lemmas.List.Elements.{All-head, All-tail}
 use Rattle.std.proofs.lemmas.List.FromFn.{get_or-map-range_with_len}
 use Rattle.std.proofs.lemmas.List.Sums.{sum_by-cons, sum_by_more, sum_by-take-drop, sum_by-le-sum_by}
 use Rattle.slot_core.specs.declared.jobs.Job.{Job}
+use Rattle.slot_core.specs.declared.jobs.Window.{Window}
 use Rattle.slot_core.specs.declared.tasks.Sporadic.{Sporadic}
 use Rattle.slot_core.specs.Sporadics.{sporadic_demand}
 use Rattle.slot_core.specs.Feasible.{declared_within, window_demand, failing_window, first_some, first_failing_from}
@@ -116,3 +117,72 @@ declared_within-next jobs cycle a b low =
       | inl past ↦ rw (lt-ltb cycle b past) (sum_by-agree f g jobs (λ k d _. next_past (get_or jobs k d).est (get_or jobs k d).dl a b cycle (get_or jobs k d).declared low past))
       | inr within ↦ rw (le-ltb cycle b within) (sym (sum_by-none g jobs (λ k d _. next_not_past (get_or jobs k d).dl b cycle (get_or jobs k d).declared within)))
     ]
+
+-- the sums of the table are the offline demand
+offline-IsDue : (jobs : List Job) (cycle a n : ℕ) (due : List ℕ) → IsDue (drop n jobs) jobs cycle due → IsStart jobs a n → a < cycle → (b : ℕ) → b ≤ 2 * cycle → sum (take (b + 1) due) ≡ declared_within jobs 0 a b + (if nat_lt cycle b then declared_within jobs cycle a b else 0)
+offline-IsDue jobs cycle a n due h start low b high =
+    omega (
+      arith,
+      sum_take-IsDue (drop n jobs) jobs cycle due h b high,
+      declared_within-IsStart jobs a n b start,
+      declared_within-next jobs cycle a b low
+    )
+
+-- where no window from an earlier start fails, the arrivals from a on need what those from 0 on need
+arrivals-moved : (jobs : List Job) (ss : List Sporadic) (cycle a b : ℕ) → ((k : ℕ) → k < a → first_failing_from jobs ss cycle k ≡ None) → a ≤ b → b ≤ 2 * cycle → 0 < cycle → sporadic_demand ss [] a b ≡ sporadic_demand ss [] 0 (b - a)
+arrivals-moved jobs ss cycle zero b none low high positive =
+    let same : b - 0 ≡ b = omega arith in
+    ap (λ x. sporadic_demand ss [] 0 x) (sym same)
+arrivals-moved jobs ss cycle (suc a) b none low high positive =
+    sporadic_demand-moved
+    ss
+    (suc a)
+    b
+    (2 * cycle)
+    low
+    high
+    (omega arith)
+    (λ x some most. omega (arith, fits-from_first_failing jobs ss cycle 0 (none 0 (omega arith)) x some most))
+
+-- the tables at a start: the ends of the jobs that start at a or later, the arrivals, and no failing window
+-- from an earlier start
+pub record AreTables (jobs : List Job) (ss : List Sporadic) (cycle a n : ℕ) (due arrivals : List ℕ) : Type 0 where
+  pub ends : IsDue (drop n jobs) jobs cycle due
+  pub start : IsStart jobs a n
+  pub needs : arrivals ≡ map (λ x. sporadic_demand ss [] 0 x) (range_with_len 0 (2 * cycle + 1))
+  pub none : (k : ℕ) → k < a → first_failing_from jobs ss cycle k ≡ None
+
+window_demand-AreTables : (jobs : List Job) (ss : List Sporadic) (cycle a n : ℕ) (due arrivals : List ℕ) → AreTables jobs ss cycle a n due arrivals → a < cycle → (b : ℕ) → a < b → b ≤ 2 * cycle → sum (take (b + 1) due) + get_or arrivals (b - a) 0 ≡ window_demand jobs ss cycle a b
+window_demand-AreTables jobs ss cycle a n due arrivals h start b low high =
+    let at : get_or arrivals (b - a) 0 ≡ sporadic_demand ss [] 0 (b - a) = ap (λ xs. get_or xs (b - a) 0) h.needs ∙ get_or-map-range_with_len (λ x. sporadic_demand ss [] 0 x) 0 (2 * cycle + 1) (b - a) (b - a) 0 (omega arith) (omega arith) in
+    omega (
+      arith,
+      offline-IsDue jobs cycle a n due h.ends h.start start b high,
+      arrivals-moved jobs ss cycle a b h.none (omega arith) high (omega arith)
+    )
+
+-- so the search in the tables is the search among the windows
+abbrev window : ℕ → ℕ → ℕ → Window
+window a b needed = record { from = a; until = b; demand = needed }
+
+pub first_failing_from-AreTables : (jobs : List Job) (ss : List Sporadic) (cycle a n : ℕ) (due arrivals : List ℕ) → AreTables jobs ss cycle a n due arrivals → a < cycle → first_some (failing_in due arrivals a) (range_with_len (a + 1) (length due - 1 - a)) ≡ first_failing_from jobs ss cycle a
+first_failing_from-AreTables jobs ss cycle a n due arrivals h start =
+    let len = h.ends.len in
+    let count : length due - 1 - a ≡ 2 * cycle - a = omega arith in
+    rw count (first_some-agree (failing_in due arrivals a) (failing_window jobs ss cycle a) (a + 1) (2 * cycle - a) (λ b low high.
+      ap
+      (λ (needed : ℕ). if nat_lt (b - a) needed then Some (window a b needed) else None)
+      (window_demand-AreTables jobs ss cycle a n due arrivals h start b (omega arith) (omega arith))))
+
+-- the whole table sums to little
+pub sum-IsDue-le : (first next : List Job) (cycle m : ℕ) (due : List ℕ) → IsDue first next cycle due → sum_by (λ (j : Job). j.declared) first ≤ m → sum_by (λ (j : Job). j.declared) next ≤ m → sum due ≤ 2 * m
+unfolding ending_by
+sum-IsDue-le first next cycle m due h few_first few_next =
+    let len = h.len in
+    let whole = ap sum (take_all (2 * cycle + 1) due (omega arith)) in
+    let most = λ (end : Job → ℕ) (jobs : List Job). sum_by-le-sum_by (λ (j : Job). if nat_le (end j) (2 * cycle) then j.declared else 0) (λ (j : Job). j.declared) jobs (λ j. part (nat_le (end j) (2 * cycle)) j.declared) in
+    omega (arith, sum_take-IsDue first next cycle due h (2 * cycle) (omega arith), most first_end first, most (next_end cycle) next)
+  where
+    part : (test : Bool) (n : ℕ) → (if test then n else 0) ≤ n
+    part true n = omega arith
+    part false n = omega arith

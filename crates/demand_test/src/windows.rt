@@ -51,7 +51,9 @@ fn leave(due: &mut [u64], jobs: &[Job], passed: usize, from: u32) -> usize
     requires ordered { IsNonDecreasingBy (λ (j : Job). j.est) jobs.now }
     requires start { IsStart jobs.now from passed }
     requires within { All (λ (j : Job). j.dl < length due.old) jobs.now }
-    requires counted { (b : ℕ) → ending_at first_end (drop passed jobs.now) b ≤ slice_index due.old b }
+    requires counted { (b : ℕ)
+        → b < length due.old
+        → ending_at first_end (drop passed jobs.now) b ≤ slice_index due.old b }
     ensures start { IsStart jobs.now (from + 1) result }
     ensures taken { (b : ℕ)
         → slice_index due.new b + ending_at first_end (drop passed jobs.now) b
@@ -115,10 +117,11 @@ pub fn first_failing(
         (λ w. w ≡ first_some (first_failing_from jobs.now sporadics.now cycle) (range_with_len 0 cycle)) }
 {
     let mut due = due_table(alloc, jobs, cycle)?;
-    let arrivals = needed_table(alloc, sporadics, 2 * cycle)?;
+    let needed = needed_table(alloc, sporadics, 2 * cycle)?;
+    let arrivals = needed.items();
     let mut passed = 0;
     for from in 0..cycle {
-        let failing = failing_from(due.as_slice(), arrivals.items(), from as usize);
+        let failing = failing_from(due.as_slice(), arrivals, from as usize);
         if failing.is_some() {
             return Ok(failing);
         }
