@@ -117,7 +117,7 @@ declared_within-permutation : (jobs others : List Job) (moved a b : ℕ) → IsP
 declared_within-permutation jobs others moved a b h =
     sym (sum_by-IsPermutation (λ (j : Job). if nat_le a (j.est + moved) && nat_le (j.dl + moved) b then j.declared else 0) jobs others h)
 
-failing_window-permutation : (jobs others : List Job) (sporadics : List Sporadic) (cycle a b : ℕ) → IsPermutation jobs others → failing_window jobs sporadics cycle a b ≡ failing_window others sporadics cycle a b
+pub failing_window-permutation : (jobs others : List Job) (sporadics : List Sporadic) (cycle a b : ℕ) → IsPermutation jobs others → failing_window jobs sporadics cycle a b ≡ failing_window others sporadics cycle a b
 failing_window-permutation jobs others sporadics cycle a b h =
     let first : declared_within jobs 0 a b ≡ declared_within others 0 a b = declared_within-permutation jobs others 0 a b h in
     let next : declared_within jobs cycle a b ≡ declared_within others cycle a b = declared_within-permutation jobs others cycle a b h in

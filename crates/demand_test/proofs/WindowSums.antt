@@ -23,7 +23,7 @@ ending_by : (Job → ℕ) → List Job → ℕ → ℕ
 ending_by end jobs b = sum_by (λ (j : Job). if nat_le (end j) b then j.declared else 0) jobs
 
 -- sums of terms that agree
-sum_by-agree : {X : Type 0} (f g : X → ℕ) (xs : List X) → All (λ x. f x ≡ g x) xs → sum_by f xs ≡ sum_by g xs
+pub sum_by-agree : {X : Type 0} (f g : X → ℕ) (xs : List X) → All (λ x. f x ≡ g x) xs → sum_by f xs ≡ sum_by g xs
 sum_by-agree f g [] same = refl
 sum_by-agree f g (x ∷ xs) same =
     let here = All-head (λ x. f x ≡ g x) x xs same in
