@@ -4,4 +4,5 @@ pub mod EndCounts
 pub mod FeasibleLemmas
 pub mod FirstSome
 pub mod SoundSets
+pub mod SumLemmas
 pub mod WindowSums

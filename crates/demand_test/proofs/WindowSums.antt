@@ -17,30 +17,11 @@ use Rattle.demand_test.specs.Ends.{ending_at, first_end, next_end, IsDue, IsStar
 use Rattle.demand_test.proofs.ArrivalCounts.{sporadic_demand-moved}
 use Rattle.demand_test.proofs.FeasibleLemmas.{fits-from_first_failing}
 use Rattle.demand_test.proofs.FirstSome.{first_some-agree}
+use Rattle.demand_test.proofs.SumLemmas.{sum_by-agree, sum_by-none, sum_by-plus}
 
 -- the declared slots of the jobs whose end is at most b
 ending_by : (Job → ℕ) → List Job → ℕ → ℕ
 ending_by end jobs b = sum_by (λ (j : Job). if nat_le (end j) b then j.declared else 0) jobs
-
--- sums of terms that agree
-pub sum_by-agree : {X : Type 0} (f g : X → ℕ) (xs : List X) → All (λ x. f x ≡ g x) xs → sum_by f xs ≡ sum_by g xs
-sum_by-agree f g [] same = refl
-sum_by-agree f g (x ∷ xs) same =
-    let here = All-head (λ x. f x ≡ g x) x xs same in
-    let others = sum_by-agree f g xs (All-tail (λ x. f x ≡ g x) x xs same) in
-    sum_by-cons f x xs ∙ ap (λ n. n + sum_by f xs) here ∙ ap (λ n. g x + n) others ∙ sym (sum_by-cons g x xs)
-
-sum_by-none : {X : Type 0} (f : X → ℕ) (xs : List X) → All (λ x. f x ≡ 0) xs → sum_by f xs ≡ 0
-sum_by-none f [] none = refl
-sum_by-none f (x ∷ xs) none =
-    let here = All-head (λ x. f x ≡ 0) x xs none in
-    let others = sum_by-none f xs (All-tail (λ x. f x ≡ 0) x xs none) in
-    sum_by-cons f x xs ∙ omega arith
-
-sum_by-plus : {X : Type 0} (f g h : X → ℕ) (xs : List X) → ((x : X) → f x + g x ≡ h x) → sum_by f xs + sum_by g xs ≡ sum_by h xs
-sum_by-plus f g h [] same = refl
-sum_by-plus f g h (x ∷ xs) same =
-    omega (arith, sum_by-cons f x xs, sum_by-cons g x xs, sum_by-cons h x xs, same x, sum_by-plus f g h xs same)
 
 -- by the first end, and by one end more
 by_zero : (e d : ℕ) → (if e == 0 then d else 0) ≡ (if nat_le e 0 then d else 0)

@@ -12,17 +12,8 @@ use Rattle.slot_core.specs.Feasible.{declared_within, window_demand, failing_win
 use Rattle.demand_test.specs.declared.Verdict.{Verdict}
 use Rattle.demand_test.specs.Verdicts.{verdict_of}
 use Rattle.demand_test.proofs.FeasibleLemmas.{failing_window-permutation, counterexample_in-permutation}
-use Rattle.demand_test.proofs.WindowSums.{sum_by-agree}
+use Rattle.demand_test.proofs.CycleTotals.{window_demand-cycle}
 use Rattle.demand_test.proofs.test.Goals as goal
-
--- a cycle whose demand fits it has at least the declared slots of its jobs
-few-from_fits : (jobs : List Job) (ss : List Sporadic) (cycle : ℕ) → All (λ (j : Job). j.dl ≤ cycle) jobs → window_demand jobs ss cycle 0 cycle ≤ cycle → sum_by (λ (j : Job). j.declared) jobs ≤ cycle
-few-from_fits jobs ss cycle within fits =
-    let all = sum_by-agree (λ (j : Job). if nat_le 0 (j.est + 0) && nat_le (j.dl + 0) cycle then j.declared else 0) (λ (j : Job). j.declared) jobs (λ k d low.
-      let j = get_or jobs k d in
-      let due = within k d low in
-      ap (λ b. if b then j.declared else 0) (and_from (nat_le 0 (j.est + 0)) (nat_le (j.dl + 0) cycle) (le-leb 0 (j.est + 0) (omega arith)) (le-leb (j.dl + 0) cycle (omega arith)))) in
-    omega arith
 
 -- the whole cycle is no failing window
 none-from_fits : (jobs : List Job) (ss : List Sporadic) (cycle : ℕ) → window_demand jobs ss cycle 0 cycle ≤ cycle → failing_window jobs ss cycle 0 cycle ≡ None
@@ -52,7 +43,7 @@ first_failing-requires-clause-few c =
     omega (
       arith,
       sum_by-IsPermutation (λ (j : Job). j.declared) c.args.jobs.now c.as_slice.result.now same,
-      few-from_fits c.args.jobs.now c.args.sporadics.now c.args.cycle c.requires.within c.requires.fits
+      window_demand-cycle c.args.jobs.now c.args.sporadics.now c.args.cycle c.requires.within
     )
 
 pub first_failing-requires-clause-ordered : goal.first_failing-requires-clause-ordered

@@ -41,5 +41,5 @@ returns c =
     let offline : sum_by (graph_work cycle) c.items-2.result.now ≡ sum_by (graph_work cycle) set.graphs = ap (sum_by (graph_work cycle)) c.items-2.ensures in
     let arriving = MatchOption-at_some (2 ^ 63 ≤ sporadic_demand c.items.result.now [] 0 cycle) (λ n. (n ≡ sporadic_demand c.items.result.now [] 0 cycle) × (n < 2 ^ 63)) c.unwrap-arriving.result c.unwrap-arriving.ensures c.needed_by.ensures in
     let same : sporadic_demand c.items.result.now [] 0 cycle ≡ sporadic_demand set.sporadics [] 0 cycle = ap (λ ss. sporadic_demand ss [] 0 cycle) c.items.ensures in
-    let whole = demand-cycle set cycle (IsSoundSet-from_test set c.requires.sound).graphs in
+    let whole = demand-cycle set cycle c.requires.sound in
     omega arith
