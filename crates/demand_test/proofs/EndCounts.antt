@@ -42,14 +42,14 @@ IsDue-more first next cycle due j h first_within next_within =
     record {
       len = omega arith;
       ends = λ b low.
-        let at_once = get_or-raised due (first_end j) b j.declared (omega arith) in
-        let at_twice = get_or-raised once (next_end cycle j) b j.declared (omega arith) in
-        omega (
-          arith,
-          h.ends b low,
-          sum_by_push (λ (i : Job). if first_end i == b then i.declared else 0) first j,
-          sum_by_push (λ (i : Job). if next_end cycle i == b then i.declared else 0) next j
-        );
+          let at_once = get_or-raised due (first_end j) b j.declared (omega arith) in
+          let at_twice = get_or-raised once (next_end cycle j) b j.declared (omega arith) in
+          omega (
+            arith,
+            h.ends b low,
+            sum_by_push (λ (i : Job). if first_end i == b then i.declared else 0) first j,
+            sum_by_push (λ (i : Job). if next_end cycle i == b then i.declared else 0) next j,
+          );
     }
 
 -- no entry of the table is more than all that is declared, twice
@@ -61,7 +61,7 @@ IsDue-small first next cycle due m h few_first few_next k d low =
       h.ends k (omega arith),
       ending_at-le first_end first k,
       ending_at-le (next_end cycle) next k,
-      get_or_default due k d 0 low
+      get_or_default due k d 0 low,
     )
 
 -- the table of the jobs so far, and of the next

@@ -43,7 +43,7 @@ first_failing-requires-clause-few c =
     omega (
       arith,
       sum_by-IsPermutation (λ (j : Job). j.declared) c.args.jobs.now c.as_slice.result.now same,
-      window_demand-cycle c.args.jobs.now c.args.sporadics.now c.args.cycle c.requires.within
+      window_demand-cycle c.args.jobs.now c.args.sporadics.now c.args.cycle c.requires.within,
     )
 
 pub first_failing-requires-clause-ordered : goal.first_failing-requires-clause-ordered

@@ -20,7 +20,7 @@ little_work : (cycle : ℕ) (graph : Graph) → cycle < 2 ^ 32 → sum_by (λ (t
 little_work cycle graph low few =
     omega (
       arith,
-      mul-le (cycle / graph.period) (sum_by (λ (t : Task). t.wcet) graph.tasks) (2 ^ 32) (2 ^ 17) (omega (arith, div-le_self cycle graph.period)) few
+      mul-le (cycle / graph.period) (sum_by (λ (t : Task). t.wcet) graph.tasks) (2 ^ 32) (2 ^ 17) (omega (arith, div-le_self cycle graph.period)) few,
     )
 
 -- the work of the graphs so far, and of the next
