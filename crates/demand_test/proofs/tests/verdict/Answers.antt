@@ -1,4 +1,4 @@
-use Rattle.std.proofs.Common.{◌≡◌, ◌≤◌, All, arith, rules}
+use Rattle.std.proofs.Common.{◌≤◌, All, arith, rules}
 use Rattle.slot_core.specs.declared.jobs.Job.{Job}
 use Rattle.demand_test.proofs.CycleTotals.{window_demand-cycle}
 use Rattle.demand_test.proofs.tests.verdict.Goals as goal
