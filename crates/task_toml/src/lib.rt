@@ -5,6 +5,8 @@ ghost use Rattle.std.specs.Prelude.{◌≡◌, ◌≢◌, Ok, Err, true, IfOk, I
 ghost use Rattle.slot_core.specs.Ranges.{is_sound};
 ghost use Rattle.task_toml.specs.Reading.{reading_of_tasks};
 
+mod fields;
+
 use slot_core::{TaskFault, TaskSet};
 use std::alloc::Global;
 
