@@ -107,3 +107,17 @@ pub fn name(table: &Table, place: Place) -> Result<Name, TaskFault>
         Some(_) => Err(TaskFault::WrongKind(place)),
     }
 }
+
+/// Refuses a table that has a key which a table of this part does not know.
+pub fn check_keys(part: Part, table: &Table) -> Result<(), TaskFault>
+    ensures { MatchResult result
+        (λ _. known_keys part (table_view table.now) ≡ Ok (table_view table.now))
+        (λ e. known_keys part (table_view table.now) ≡ Err e) }
+{
+    for (key, _) in table {
+        if !knows_key(part, key.as_str()) {
+            return Err(TaskFault::UnknownKey(part));
+        }
+    }
+    Ok(())
+}
