@@ -71,7 +71,7 @@ fn knows_key(part: Part, key: &str) -> bool
 }
 
 /// The number at the key, from `low` to `high`, or `absent` where the key is not there.
-pub fn number(
+pub fn number_at(
     table: &Table,
     place: Place,
     low: u32,
@@ -98,7 +98,7 @@ fn in_range(place: Place, low: u32, high: u32, number: i64) -> Result<u32, TaskF
 }
 
 /// The name at the key.
-pub fn name(table: &Table, place: Place) -> Result<Name, TaskFault>
+pub fn name_at(table: &Table, place: Place) -> Result<Name, TaskFault>
     ensures { result ≡ name_at place (at_key place.field (table_view table.now)) }
 {
     match value_at(table, place.field) {

@@ -6,6 +6,7 @@ ghost use Rattle.slot_core.specs.Ranges.{is_sound};
 ghost use Rattle.task_toml.specs.Reading.{reading_of_tasks};
 
 mod fields;
+mod graphs;
 mod tables;
 
 use slot_core::{TaskFault, TaskSet};

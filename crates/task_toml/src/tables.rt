@@ -1,31 +1,52 @@
 //! Arrays of a task file: tables, and texts.
 
-ghost use Rattle.std.specs.Prelude.{◌≡◌, ◌≢◌, ◌≤◌, Ok, Err, map, min, nat_lt, true, false, vec_len, IfOk, MatchResult};
+ghost use Rattle.std.specs.Prelude.{◌≡◌, ◌≤◌, ◌++◌, [], ◌∷◌, length, map, min, nat_lt, true, false, IfOk, IfErr, OnOk, MatchResult};
 ghost use Rattle.task_toml.specs.Reading.{all_tables, all_texts, tables_at, tables_or_none_at, texts_at};
-ghost use Rattle.task_toml.specs.TomlFields.{at_key, or_fault};
+ghost use Rattle.task_toml.specs.TomlFields.{AnswersAs, at_key, or_fault};
 ghost use Rattle.toml.specs.View.{items_view, table_view};
 
 use crate::fields::value_at;
-use slot_core::{Place, TaskFault};
+use slot_core::{List, Place, TaskFault};
 use std::alloc::Global;
 use toml::{Table, Value};
 
-/// The items as tables.
-fn all_tables<'a>(alloc: Global, place: Place, items: &'a [Value]) -> Result<Vec<&'a Table>, TaskFault>
-    ensures { MatchResult result
-        (λ tables. or_fault (TaskFault.WrongKind place) (all_tables (items_view items.now)) ≡ Ok (map (λ t. table_view t.now) tables.items))
-        (λ e. e ≢ TaskFault.Memory → or_fault (TaskFault.WrongKind place) (all_tables (items_view items.now)) ≡ Err e) }
+/// Appends the item.
+pub fn append<T: Drop>(list: &mut List<T>, item: T) -> Result<(), TaskFault>
+    ensures ok { OnOk result (list.new ≡ list.old ++ item ∷ []) }
+    ensures memory { IfErr result (λ e. e ≡ TaskFault.Memory) }
 {
-    let mut tables = Vec::new(alloc);
+    match list.push(item) {
+        Ok(()) => Ok(()),
+        Err(_) => Err(TaskFault::Memory),
+    }
+}
+
+/// The items as tables.
+fn all_tables<'a>(alloc: Global, place: Place, items: &'a [Value]) -> Result<List<&'a Table>, TaskFault>
+    ensures { AnswersAs (map (λ t. table_view t.now)) result (or_fault (TaskFault.WrongKind place) (all_tables (items_view items.now))) }
+{
+    let mut tables = List::new(alloc);
     for item in items {
         let Value::Table(table) = item else {
             return Err(TaskFault::WrongKind(place));
         };
-        if tables.push(table).is_err() {
-            return Err(TaskFault::Memory);
-        }
+        append(&mut tables, table)?;
     }
     Ok(tables)
+}
+
+/// The items as texts.
+fn all_texts<'a>(alloc: Global, place: Place, items: &'a [Value]) -> Result<List<&'a str>, TaskFault>
+    ensures { AnswersAs (map (λ t. t.now)) result (or_fault (TaskFault.WrongKind place) (all_texts (items_view items.now))) }
+{
+    let mut texts = List::new(alloc);
+    for item in items {
+        let Value::String(text) = item else {
+            return Err(TaskFault::WrongKind(place));
+        };
+        append(&mut texts, text.as_str())?;
+    }
+    Ok(texts)
 }
 
 /// Refuses a count above the limit.
@@ -42,11 +63,14 @@ fn check_count(place: Place, limit: usize, count: usize) -> Result<(), TaskFault
 }
 
 /// The tables of the array at the key, 1 to `limit` of them.
-pub fn tables_at<'a>(alloc: Global, table: &'a Table, place: Place, limit: usize) -> Result<Vec<&'a Table>, TaskFault>
-    ensures reading { MatchResult result
-        (λ tables. tables_at place limit (at_key place.field (table_view table.now)) ≡ Ok (map (λ t. table_view t.now) tables.items))
-        (λ e. e ≢ TaskFault.Memory → tables_at place limit (at_key place.field (table_view table.now)) ≡ Err e) }
-    ensures limit { IfOk result (λ tables. vec_len tables ≤ limit) }
+pub fn tables_at<'a>(
+    alloc: Global,
+    table: &'a Table,
+    place: Place,
+    limit: usize,
+) -> Result<List<&'a Table>, TaskFault>
+    ensures reading { AnswersAs (map (λ t. table_view t.now)) result (tables_at place limit (at_key place.field (table_view table.now))) }
+    ensures limit { IfOk result (λ tables. length tables ≤ limit) }
 {
     let tables = match value_at(table, place.field) {
         None => return Err(TaskFault::Missing(place)),
@@ -61,14 +85,17 @@ pub fn tables_at<'a>(alloc: Global, table: &'a Table, place: Place, limit: usize
 }
 
 /// The tables of the array at the key, at most `limit` of them; none where the key is not there.
-pub fn tables_or_none_at<'a>(alloc: Global, table: &'a Table, place: Place, limit: usize) -> Result<Vec<&'a Table>, TaskFault>
-    ensures reading { MatchResult result
-        (λ tables. tables_or_none_at place limit (at_key place.field (table_view table.now)) ≡ Ok (map (λ t. table_view t.now) tables.items))
-        (λ e. e ≢ TaskFault.Memory → tables_or_none_at place limit (at_key place.field (table_view table.now)) ≡ Err e) }
-    ensures limit { IfOk result (λ tables. vec_len tables ≤ limit) }
+pub fn tables_or_none_at<'a>(
+    alloc: Global,
+    table: &'a Table,
+    place: Place,
+    limit: usize,
+) -> Result<List<&'a Table>, TaskFault>
+    ensures reading { AnswersAs (map (λ t. table_view t.now)) result (tables_or_none_at place limit (at_key place.field (table_view table.now))) }
+    ensures limit { IfOk result (λ tables. length tables ≤ limit) }
 {
     let tables = match value_at(table, place.field) {
-        None => return Ok(Vec::new(alloc)),
+        None => return Ok(List::new(alloc)),
         Some(Value::Array(items)) => all_tables(alloc, place, items)?,
         Some(_) => return Err(TaskFault::WrongKind(place)),
     };
@@ -76,33 +103,18 @@ pub fn tables_or_none_at<'a>(alloc: Global, table: &'a Table, place: Place, limi
     Ok(tables)
 }
 
-/// The items as texts.
-fn all_texts<'a>(alloc: Global, place: Place, items: &'a [Value]) -> Result<Vec<&'a str>, TaskFault>
-    ensures { MatchResult result
-        (λ texts. or_fault (TaskFault.WrongKind place) (all_texts (items_view items.now)) ≡ Ok (map (λ t. t.now) texts.items))
-        (λ e. e ≢ TaskFault.Memory → or_fault (TaskFault.WrongKind place) (all_texts (items_view items.now)) ≡ Err e) }
-{
-    let mut texts = Vec::new(alloc);
-    for item in items {
-        let Value::String(text) = item else {
-            return Err(TaskFault::WrongKind(place));
-        };
-        if texts.push(text.as_str()).is_err() {
-            return Err(TaskFault::Memory);
-        }
-    }
-    Ok(texts)
-}
-
 /// The texts of the array at the key, at most `limit` of them; none where the key is not there.
-pub fn texts_at<'a>(alloc: Global, table: &'a Table, place: Place, limit: usize) -> Result<Vec<&'a str>, TaskFault>
-    ensures reading { MatchResult result
-        (λ texts. texts_at place limit (at_key place.field (table_view table.now)) ≡ Ok (map (λ t. t.now) texts.items))
-        (λ e. e ≢ TaskFault.Memory → texts_at place limit (at_key place.field (table_view table.now)) ≡ Err e) }
-    ensures limit { IfOk result (λ texts. vec_len texts ≤ limit) }
+pub fn texts_at<'a>(
+    alloc: Global,
+    table: &'a Table,
+    place: Place,
+    limit: usize,
+) -> Result<List<&'a str>, TaskFault>
+    ensures reading { AnswersAs (map (λ t. t.now)) result (texts_at place limit (at_key place.field (table_view table.now))) }
+    ensures limit { IfOk result (λ texts. length texts ≤ limit) }
 {
     let texts = match value_at(table, place.field) {
-        None => return Ok(Vec::new(alloc)),
+        None => return Ok(List::new(alloc)),
         Some(Value::Array(items)) => all_texts(alloc, place, items)?,
         Some(_) => return Err(TaskFault::WrongKind(place)),
     };

@@ -5,4 +5,4 @@ use Rattle.task_toml.proofs.tables.all_tables.Given as goal
 
 abbrev pub invariant-loop-item : goal.invariant-loop-item
 invariant-loop-item l =
-    all_tables (items_view l.items) ≡ option_map (λ ts. map (λ t. table_view t.now) l.tables.items ++ ts) (all_tables (items_view (drop l.item-index l.items)))
+    all_tables (items_view l.items) ≡ option_map (λ ts. map (λ t. table_view t.now) l.tables ++ ts) (all_tables (items_view (drop l.item-index l.items)))

@@ -5,4 +5,4 @@ use Rattle.task_toml.proofs.tables.all_texts.Given as goal
 
 abbrev pub invariant-loop-item : goal.invariant-loop-item
 invariant-loop-item l =
-    all_texts (items_view l.items) ≡ option_map (λ ts. map (λ t. t.now) l.texts.items ++ ts) (all_texts (items_view (drop l.item-index l.items)))
+    all_texts (items_view l.items) ≡ option_map (λ ts. map (λ t. t.now) l.texts ++ ts) (all_texts (items_view (drop l.item-index l.items)))
