@@ -1,13 +1,14 @@
 //! Tasks, graphs and sporadic tasks of a task file.
 
-ghost use Rattle.std.specs.Prelude.{◌≡◌, ◌≤◌, length, map};
-ghost use Rattle.task_toml.specs.Reading.{each, task_of, graph_of, sporadic_of};
+ghost use Rattle.std.specs.Prelude.{◌≡◌, ◌≢◌, ◌≤◌, length, map, IfOk, IfErr, OnOk};
+ghost use Rattle.slot_core.specs.Faults.{same_name};
+ghost use Rattle.task_toml.specs.Reading.{each, task_of, graph_of, sporadic_of, place_of_name, with_indexes};
 ghost use Rattle.task_toml.specs.TomlFields.{Answers};
 ghost use Rattle.toml.specs.View.{table_view};
 
 use crate::fields::{check_keys, name_at, number_at};
 use crate::tables::{append, texts_at};
-use slot_core::{AFTER_LIMIT, Field, List, Name, Part, Place, SLOT_LIMIT, TASK_LIMIT, TaskFault};
+use slot_core::{AFTER_LIMIT, Afters, Field, List, Name, Part, Place, SLOT_LIMIT, TASK_LIMIT, TaskFault};
 use std::alloc::Global;
 use std::marker::Model;
 use toml::Table;
@@ -52,4 +53,38 @@ fn read_named_tasks<'a>(alloc: Global, graph: u16, tables: &[&'a Table]) -> Resu
         append(&mut tasks, task)?;
     }
     Ok(tasks)
+}
+
+/// Whether the task has this name.
+#[tactic(auto, using(crate::proofs::Lookups::lookups))]
+fn is_named(task: &NamedTask, name: &str) -> bool
+    ensures { result ≡ same_name task.now.name name.now }
+{
+    task.name.bytes() == name.as_bytes()
+}
+
+/// The place of the first task of this name, or the number of tasks where there is none.
+fn place_of_name(tasks: &[NamedTask], name: &str) -> u16
+    requires { length tasks.now ≤ TASK_LIMIT }
+    ensures { result ≡ place_of_name tasks.now name.now }
+{
+    for (t, task) in tasks.iter().enumerate() {
+        if is_named(task, name) {
+            return t as u16;
+        }
+    }
+    tasks.len() as u16
+}
+
+/// The places of the tasks of these names.
+fn places_of_names(alloc: Global, tasks: &[NamedTask], names: &[&str]) -> Result<Afters, TaskFault>
+    requires { length tasks.now ≤ TASK_LIMIT }
+    ensures ok { IfOk result (λ places. places ≡ map (place_of_name tasks.now) (map (λ name. name.now) names.now)) }
+    ensures memory { IfErr result (λ e. e ≡ TaskFault.Memory) }
+{
+    let mut places = Afters::new(alloc);
+    for name in names {
+        append(&mut places, place_of_name(tasks, name))?;
+    }
+    Ok(places)
 }
