@@ -1,2 +1,3 @@
 pub mod Eachs
+pub mod JoinedTasks
 pub mod Lookups

@@ -3,12 +3,12 @@
 ghost use Rattle.std.specs.Prelude.{◌≡◌, ◌≢◌, ◌≤◌, length, map, IfOk, IfErr, OnOk};
 ghost use Rattle.slot_core.specs.Faults.{same_name};
 ghost use Rattle.task_toml.specs.Reading.{each, task_of, graph_of, sporadic_of, place_of_name, with_indexes};
-ghost use Rattle.task_toml.specs.TomlFields.{Answers};
+ghost use Rattle.task_toml.specs.TomlFields.{Answers, AnswersAs};
 ghost use Rattle.toml.specs.View.{table_view};
 
 use crate::fields::{check_keys, name_at, number_at};
 use crate::tables::{append, texts_at};
-use slot_core::{AFTER_LIMIT, Afters, Field, List, Name, Part, Place, SLOT_LIMIT, TASK_LIMIT, TaskFault};
+use slot_core::{AFTER_LIMIT, Afters, Field, List, Name, Part, Place, SLOT_LIMIT, TASK_LIMIT, Task, TaskFault, Tasks};
 use std::alloc::Global;
 use std::marker::Model;
 use toml::Table;
@@ -43,14 +43,16 @@ fn read_task<'a>(alloc: Global, graph: u16, task: u16, table: &'a Table) -> Resu
 }
 
 /// The tasks of the tables of a graph.
-fn read_named_tasks<'a>(alloc: Global, graph: u16, tables: &[&'a Table]) -> Result<List<NamedTask<'a>>, TaskFault>
+fn read_named_tasks<'a>(alloc: Global, graph: u16, tables: &[&'a Table]) -> Result<Vec<NamedTask<'a>>, TaskFault>
     requires { length tables.now ≤ TASK_LIMIT }
-    ensures { Answers result (each (task_of graph) 0 (map (λ t. table_view t.now) tables.now)) }
+    ensures { AnswersAs (λ tasks. tasks.items) result (each (task_of graph) 0 (map (λ t. table_view t.now) tables.now)) }
 {
-    let mut tasks = List::new(alloc);
+    let mut tasks = Vec::new(alloc);
     for (t, table) in tables.iter().enumerate() {
         let task = read_task(alloc, graph, t as u16, table)?;
-        append(&mut tasks, task)?;
+        if tasks.push(task).is_err() {
+            return Err(TaskFault::Memory);
+        }
     }
     Ok(tasks)
 }
@@ -87,4 +89,35 @@ fn places_of_names(alloc: Global, tasks: &[NamedTask], names: &[&str]) -> Result
         append(&mut places, place_of_name(tasks, name))?;
     }
     Ok(places)
+}
+
+/// The `after` lists of the tasks as places.
+fn places_after(alloc: Global, tasks: &[NamedTask]) -> Result<Vec<Afters>, TaskFault>
+    requires { length tasks.now ≤ TASK_LIMIT }
+    ensures ok { IfOk result (λ lists. lists.items ≡ map (λ t. map (place_of_name tasks.now) t.after) tasks.now) }
+    ensures memory { IfErr result (λ e. e ≡ TaskFault.Memory) }
+{
+    let mut lists = Vec::new(alloc);
+    for task in tasks {
+        let places = places_of_names(alloc, tasks, task.after.items())?;
+        if lists.push(places).is_err() {
+            return Err(TaskFault::Memory);
+        }
+    }
+    Ok(lists)
+}
+
+/// The tasks, with places in their `after` lists.
+fn with_places(alloc: Global, named: Vec<NamedTask>) -> Result<Tasks, TaskFault>
+    requires { length named.items ≤ TASK_LIMIT }
+    ensures ok { IfOk result (λ tasks. tasks ≡ map (with_indexes named.entry.items) named.entry.items) }
+    ensures memory { IfErr result (λ e. e ≡ TaskFault.Memory) }
+{
+    let lists = places_after(alloc, &named)?;
+    let mut tasks = Tasks::new(alloc);
+    for (task, after) in named.into_iter().zip(lists) {
+        let NamedTask { name, wcet, after: _ } = task;
+        append(&mut tasks, Task { name, wcet, after })?;
+    }
+    Ok(tasks)
 }

@@ -6,4 +6,4 @@ use Rattle.task_toml.proofs.graphs.read_named_tasks.Given as goal
 
 abbrev pub invariant-loop-t : goal.invariant-loop-t
 invariant-loop-t l =
-    each (task_of l.graph) 0 (map (λ t. table_view t.now) l.tables) ≡ with_before l.tasks (each (task_of l.graph) l.t (map (λ t. table_view t.now) (drop l.t l.tables)))
+    each (task_of l.graph) 0 (map (λ t. table_view t.now) l.tables) ≡ with_before l.tasks.items (each (task_of l.graph) l.t (map (λ t. table_view t.now) (drop l.t l.tables)))
