@@ -1,6 +1,7 @@
 //! What stands at a key of a table of the task file.
 
-ghost use Rattle.std.specs.Prelude.{◌≡◌, ◌≢◌, ◌&&◌, pos, nat_abs, int_le, Ok, Err, option_map, if◌then◌else◌, MatchResult};
+ghost use Rattle.std.specs.Prelude.{◌≡◌, ◌≤◌, ◌&&◌, pos, nat_abs, int_le, Ok, Err, option_map, if◌then◌else◌, IfOk, MatchResult};
+ghost use Rattle.std.specs.Option.{ForSome};
 ghost use Rattle.slot_core.specs.FaultTexts.{field_word};
 ghost use Rattle.slot_core.specs.Faults.{same_name};
 ghost use Rattle.task_toml.specs.TomlFields.{known_keys, knows_key, number_at, name_at, at_key};
@@ -78,7 +79,9 @@ pub fn number_at(
     high: u32,
     absent: Option<u32>,
 ) -> Result<u32, TaskFault>
-    ensures { result ≡ number_at place low high absent (at_key place.field (table_view table.now)) }
+    requires { ForSome absent (λ n. (low ≤ n) × (n ≤ high)) }
+    ensures reading { result ≡ number_at place low high absent (at_key place.field (table_view table.now)) }
+    ensures range { IfOk result (λ n. (low ≤ n) × (n ≤ high)) }
 {
     match value_at(table, place.field) {
         None => absent.ok_or(TaskFault::Missing(place)),
@@ -89,7 +92,8 @@ pub fn number_at(
 
 /// The number, where it is from `low` to `high`.
 fn in_range(place: Place, low: u32, high: u32, number: i64) -> Result<u32, TaskFault>
-    ensures { result ≡ (if int_le (pos low) number && int_le number (pos high) then Ok (nat_abs number) else Err (TaskFault.OutOfRange place number)) }
+    ensures range { IfOk result (λ n. (low ≤ n) × (n ≤ high)) }
+    ensures reading { result ≡ (if int_le (pos low) number && int_le number (pos high) then Ok (nat_abs number) else Err (TaskFault.OutOfRange place number)) }
 {
     if number < i64::from(low) || number > i64::from(high) {
         return Err(TaskFault::OutOfRange(place, number));

@@ -7,8 +7,8 @@ ghost use Rattle.task_toml.specs.TomlFields.{Answers, AnswersAs};
 ghost use Rattle.toml.specs.View.{table_view};
 
 use crate::fields::{check_keys, name_at, number_at};
-use crate::tables::{append, texts_at};
-use slot_core::{AFTER_LIMIT, Afters, Field, List, Name, Part, Place, SLOT_LIMIT, TASK_LIMIT, Task, TaskFault, Tasks};
+use crate::tables::{append, tables_at, texts_at};
+use slot_core::{AFTER_LIMIT, Afters, Field, Graph, List, Name, Part, Place, SLOT_LIMIT, TASK_LIMIT, Task, TaskFault, Tasks};
 use std::alloc::Global;
 use std::marker::Model;
 use toml::Table;
@@ -45,7 +45,8 @@ fn read_task<'a>(alloc: Global, graph: u16, task: u16, table: &'a Table) -> Resu
 /// The tasks of the tables of a graph.
 fn read_named_tasks<'a>(alloc: Global, graph: u16, tables: &[&'a Table]) -> Result<Vec<NamedTask<'a>>, TaskFault>
     requires { length tables.now ≤ TASK_LIMIT }
-    ensures { AnswersAs (λ tasks. tasks.items) result (each (task_of graph) 0 (map (λ t. table_view t.now) tables.now)) }
+    ensures reading { AnswersAs (λ tasks. tasks.items) result (each (task_of graph) 0 (map (λ t. table_view t.now) tables.now)) }
+    ensures count { IfOk result (λ tasks. length tasks.items ≡ length tables.now) }
 {
     let mut tasks = Vec::new(alloc);
     for (t, table) in tables.iter().enumerate() {
@@ -120,4 +121,21 @@ fn with_places(alloc: Global, named: Vec<NamedTask>) -> Result<Tasks, TaskFault>
         append(&mut tasks, Task { name, wcet, after })?;
     }
     Ok(tasks)
+}
+
+/// The graph of a table.
+fn read_graph(alloc: Global, graph: u16, table: &Table) -> Result<Graph, TaskFault>
+    ensures { Answers result (graph_of graph (table_view table.now)) }
+{
+    let part = Part::Graph(graph);
+    check_keys(part, table)?;
+    let name = name_at(table, Place { part, field: Field::Name })?;
+    let period = number_at(table, Place { part, field: Field::Period }, 1, SLOT_LIMIT, None)?;
+    let offset = number_at(table, Place { part, field: Field::Offset }, 0, period - 1, Some(0))?;
+    let longest = period - offset;
+    let deadline = number_at(table, Place { part, field: Field::Deadline }, 1, longest, Some(longest))?;
+    let tables = tables_at(alloc, table, Place { part, field: Field::Task }, TASK_LIMIT)?;
+    let named = read_named_tasks(alloc, graph, tables.items())?;
+    let tasks = with_places(alloc, named)?;
+    Ok(Graph { name, period, offset, deadline, tasks })
 }
