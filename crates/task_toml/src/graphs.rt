@@ -8,7 +8,9 @@ ghost use Rattle.toml.specs.View.{table_view};
 
 use crate::fields::{check_keys, name_at, number_at};
 use crate::tables::{append, tables_at, texts_at};
-use slot_core::{AFTER_LIMIT, Afters, Field, Graph, List, Name, Part, Place, SLOT_LIMIT, TASK_LIMIT, Task, TaskFault, Tasks};
+use slot_core::{AFTER_LIMIT, GRAPH_LIMIT, SLOT_LIMIT, SPORADIC_LIMIT, TASK_LIMIT};
+use slot_core::{Afters, Field, Graph, Graphs, List, Name, Part, Place, Sporadic, Sporadics, Task};
+use slot_core::{TaskFault, Tasks};
 use std::alloc::Global;
 use std::marker::Model;
 use toml::Table;
@@ -138,4 +140,43 @@ fn read_graph(alloc: Global, graph: u16, table: &Table) -> Result<Graph, TaskFau
     let named = read_named_tasks(alloc, graph, tables.items())?;
     let tasks = with_places(alloc, named)?;
     Ok(Graph { name, period, offset, deadline, tasks })
+}
+
+/// The graphs of the tables.
+pub fn read_graphs(alloc: Global, tables: &[&Table]) -> Result<Graphs, TaskFault>
+    requires { length tables.now ≤ GRAPH_LIMIT }
+    ensures { Answers result (each graph_of 0 (map (λ t. table_view t.now) tables.now)) }
+{
+    let mut graphs = Graphs::new(alloc);
+    for (g, table) in tables.iter().enumerate() {
+        let graph = read_graph(alloc, g as u16, table)?;
+        append(&mut graphs, graph)?;
+    }
+    Ok(graphs)
+}
+
+/// The sporadic task of a table.
+fn read_sporadic(sporadic: u8, table: &Table) -> Result<Sporadic, TaskFault>
+    ensures { Answers result (sporadic_of sporadic (table_view table.now)) }
+{
+    let part = Part::Sporadic(sporadic);
+    check_keys(part, table)?;
+    let name = name_at(table, Place { part, field: Field::Name })?;
+    let wcet = number_at(table, Place { part, field: Field::Wcet }, 1, SLOT_LIMIT, None)?;
+    let separation = number_at(table, Place { part, field: Field::Separation }, 1, SLOT_LIMIT, None)?;
+    let deadline = number_at(table, Place { part, field: Field::Deadline }, 1, separation, Some(separation))?;
+    Ok(Sporadic { name, wcet, separation, deadline })
+}
+
+/// The sporadic tasks of the tables.
+pub fn read_sporadics(alloc: Global, tables: &[&Table]) -> Result<Sporadics, TaskFault>
+    requires { length tables.now ≤ SPORADIC_LIMIT }
+    ensures { Answers result (each sporadic_of 0 (map (λ t. table_view t.now) tables.now)) }
+{
+    let mut sporadics = Sporadics::new(alloc);
+    for (s, table) in tables.iter().enumerate() {
+        let sporadic = read_sporadic(s as u8, table)?;
+        append(&mut sporadics, sporadic)?;
+    }
+    Ok(sporadics)
 }
