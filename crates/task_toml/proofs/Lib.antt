@@ -1,3 +1,6 @@
+pub mod Documents
 pub mod Eachs
+pub mod FieldRanges
 pub mod JoinedTasks
 pub mod Lookups
+pub mod ShapeRanges

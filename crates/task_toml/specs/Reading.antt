@@ -117,11 +117,13 @@ set_of members = do
 abbrev pub without_fault : TaskSet → Read TaskSet
 without_fault set = option_map_or (λ fault. Err fault) (set_fault set) (Ok set)
 
--- the set of a document, or its first fault
-abbrev pub document_set : Option Members → Read TaskSet
-document_set None = Err NotToml
-document_set (Some members) = set_of members >>= without_fault
+-- the top table of the bytes
+abbrev pub document_of : List ℕ → Read Members
+document_of bytes = if is_utf8 bytes then or_fault NotToml (parse_document bytes) else Err NotToml
 
 -- the reading of the bytes of a task file
 abbrev pub reading_of_tasks : List ℕ → Read TaskSet
-reading_of_tasks bytes = if is_utf8 bytes then document_set (parse_document bytes) else Err NotToml
+reading_of_tasks bytes = do
+  members ← document_of bytes
+  set ← set_of members
+  without_fault set
