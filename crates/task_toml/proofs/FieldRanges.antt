@@ -1,5 +1,5 @@
 -- What is read at a key is in its range.
-use Rattle.std.proofs.Common.{◌≡◌, ◌⊎◌, ℕ, Bool, true, false, ◌&&◌, nat_le, nat_lt, if◌then◌else◌, List, [], ◌∷◌, length, Option, Some, None, Ok, Err, ℤ, pos, negsuc, ◌==◌, refl, ap, inl, inr, arith}
+use Rattle.std.proofs.Common.{◌≡◌, ℕ, Bool, true, false, nat_le, nat_lt, if◌then◌else◌, List, [], length, Option, Some, None, Ok, Err, pos, negsuc, ◌==◌, refl, ap, inl, inr, arith}
 use Rattle.std.proofs.lemmas.Bool.{cases_Bool}
 use Rattle.std.proofs.lemmas.Bool.Decides.{nat_tests}
 use Rattle.std.specs.Option.{ForSome}
@@ -9,7 +9,7 @@ use Rattle.slot_core.specs.declared.faults.TaskFault.{TaskFault}
 use Rattle.slot_core.specs.declared.faults.TaskFault.TheVariants.{WrongKind}
 use Rattle.slot_core.specs.Names.{is_name}
 use Rattle.slot_core.specs.Ranges.{is_between}
-use Rattle.task_toml.specs.TomlFields.{Read, ◌>>=◌, or_fault, number_at, name_at}
+use Rattle.task_toml.specs.TomlFields.{◌>>=◌, or_fault, number_at, name_at}
 use Rattle.task_toml.specs.Reading.{all_tables, at_most, some_tables, texts_at, tables_at, tables_or_none_at}
 
 -- a choice between a value and a fault that gave a value

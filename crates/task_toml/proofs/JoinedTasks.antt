@@ -1,5 +1,5 @@
 -- A loop that joins each task with its list of places.
-use Rattle.std.proofs.Common.{◌≡◌, ℕ, ◌+◌, List, [], ◌∷◌, ◌++◌, length, map, Option, None, Some, append_assoc, append-nil, refl, sym, ap, ◌∙◌, inl, inr, arith}
+use Rattle.std.proofs.Common.{◌≡◌, ℕ, List, [], ◌∷◌, length, map, refl, ap, arith}
 use Rattle.std.specs.List.{zip}
 use Rattle.slot_core.specs.declared.tasks.Task.{Task}
 use Rattle.task_toml.specs.Reading.{NamedTask}

@@ -2,5 +2,5 @@ pub mod Documents
 pub mod Eachs
 pub mod FieldRanges
 pub mod JoinedTasks
-pub mod Lookups
+pub mod SameTexts
 pub mod ShapeRanges

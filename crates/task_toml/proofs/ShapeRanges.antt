@@ -1,6 +1,5 @@
 -- A set of the right shape is in range.
-use Rattle.std.proofs.Common.{◌≡◌, ◌⊎◌, ℕ, Bool, true, false, ◌&&◌, ◌+◌, ◌-◌, nat_le, suc, List, [], ◌∷◌, length, map, Option, Some, None, Ok, Err, ap, refl, arith}
-use Rattle.std.proofs.lemmas.Bool.{cases_Bool}
+use Rattle.std.proofs.Common.{◌≡◌, ℕ, Bool, true, ◌&&◌, ◌+◌, ◌-◌, nat_le, suc, List, [], ◌∷◌, length, map, Some, None, Ok, Err, ap, refl, arith}
 use Rattle.std.proofs.lemmas.Bool.Decides.{nat_tests}
 use Rattle.std.proofs.lemmas.List.{length-map}
 use Rattle.std.specs.List.{list_all}
@@ -16,7 +15,7 @@ use Rattle.slot_core.specs.declared.faults.Field.TheVariants.{Soft, Graph as Gra
 use Rattle.slot_core.specs.declared.faults.Place.{Place}
 use Rattle.slot_core.specs.Names.{is_name}
 use Rattle.slot_core.specs.Ranges.{is_between, task_in_range, graph_in_range, sporadic_in_range, is_in_range}
-use Rattle.task_toml.specs.TomlFields.{Read, ◌>>=◌, known_keys, at_key, name_at, number_at}
+use Rattle.task_toml.specs.TomlFields.{Read, ◌>>=◌, known_keys, at_key}
 use Rattle.task_toml.specs.Reading.{NamedTask, each, task_of, with_indexes, graph_of, sporadic_of, set_of}
 use Rattle.task_toml.proofs.FieldRanges.{number_at-Ok, name_at-Ok, texts_at-Ok, tables_at-Ok, tables_or_none_at-Ok}
 

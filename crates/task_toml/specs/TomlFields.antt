@@ -1,13 +1,13 @@
 -- What stands at a key of a table of the task file, or the fault there.
-use Rattle.std.specs.Prelude.{◌≡◌, ◌≢◌, MatchResult, ℕ, ◌&&◌, ◌||◌, ◌==◌, ◌+◌, Bool, true, false, ℤ, pos, nat_abs, int_le, List, [], ◌∷◌, length, min, nat_lt, if◌then◌else◌, Option, Some, None, Result, Ok, Err, option_map}
-use Rattle.toml.specs.Data.{Data, string, integer, array, table, Items, no_items, item, Members, no_members, member, get_member}
+use Rattle.std.specs.Prelude.{◌≡◌, ◌≢◌, MatchResult, ℕ, ◌&&◌, ◌||◌, Bool, true, pos, nat_abs, int_le, List, if◌then◌else◌, Option, Some, None, Result, Ok, Err}
+use Rattle.toml.specs.Data.{Data, string, integer, Members, no_members, member, get_member}
 use Rattle.slot_core.specs.declared.faults.Part.{Part}
 use Rattle.slot_core.specs.declared.faults.Part.TheVariants.{Top, Graph as GraphPart, Task as TaskPart, Sporadic as SporadicPart}
 use Rattle.slot_core.specs.declared.faults.Field.{Field}
 use Rattle.slot_core.specs.declared.faults.Field.TheVariants.{Soft, Graph, Sporadic, Name, Period, Offset, Deadline, Task, Wcet, After, Separation}
 use Rattle.slot_core.specs.declared.faults.Place.{Place}
 use Rattle.slot_core.specs.declared.faults.TaskFault.{TaskFault}
-use Rattle.slot_core.specs.declared.faults.TaskFault.TheVariants.{Memory, UnknownKey, Missing, WrongKind, OutOfRange, BadName, TooMany}
+use Rattle.slot_core.specs.declared.faults.TaskFault.TheVariants.{Memory, UnknownKey, Missing, WrongKind, OutOfRange, BadName}
 use Rattle.slot_core.specs.Names.{is_name}
 use Rattle.slot_core.specs.Faults.{same_name}
 use Rattle.slot_core.specs.FaultTexts.{field_word}

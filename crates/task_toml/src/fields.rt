@@ -1,6 +1,7 @@
 //! What stands at a key of a table of the task file.
 
-ghost use Rattle.std.specs.Prelude.{◌≡◌, ◌≤◌, ◌&&◌, pos, nat_abs, int_le, Ok, Err, option_map, if◌then◌else◌, IfOk, MatchResult};
+ghost use Rattle.std.specs.Prelude.{◌≡◌, ◌≤◌, ◌&&◌, pos, nat_abs, int_le, Ok, Err, option_map};
+ghost use Rattle.std.specs.Prelude.{if◌then◌else◌, IfOk, MatchResult};
 ghost use Rattle.std.specs.Option.{ForSome};
 ghost use Rattle.slot_core.specs.FaultTexts.{field_word};
 ghost use Rattle.slot_core.specs.Faults.{same_name};
@@ -30,7 +31,7 @@ fn word(field: Field) -> &'static str
 }
 
 /// Whether the text is the key's word.
-#[tactic(auto, using(crate::proofs::Lookups::lookups))]
+#[tactic(auto, using(crate::proofs::SameTexts::same_texts))]
 fn is_word(field: Field, text: &str) -> bool
     ensures { result ≡ same_name (field_word field) text.now }
 {
@@ -74,16 +75,19 @@ fn knows_key(part: Part, key: &str) -> bool
 /// The number at the key, from `low` to `high`, or `absent` where the key is not there.
 pub fn number_at(
     table: &Table,
-    place: Place,
+    part: Part,
+    field: Field,
     low: u32,
     high: u32,
     absent: Option<u32>,
 ) -> Result<u32, TaskFault>
     requires { ForSome absent (λ n. (low ≤ n) × (n ≤ high)) }
-    ensures reading { result ≡ number_at place low high absent (at_key place.field (table_view table.now)) }
+    ensures reading { result ≡ number_at (record { part = part; field = field }) low high absent
+        (at_key field (table_view table.now)) }
     ensures range { IfOk result (λ n. (low ≤ n) × (n ≤ high)) }
 {
-    match value_at(table, place.field) {
+    let place = Place { part, field };
+    match value_at(table, field) {
         None => absent.ok_or(TaskFault::Missing(place)),
         Some(Value::Integer(number)) => in_range(place, low, high, *number),
         Some(_) => Err(TaskFault::WrongKind(place)),
@@ -93,7 +97,9 @@ pub fn number_at(
 /// The number, where it is from `low` to `high`.
 fn in_range(place: Place, low: u32, high: u32, number: i64) -> Result<u32, TaskFault>
     ensures range { IfOk result (λ n. (low ≤ n) × (n ≤ high)) }
-    ensures reading { result ≡ (if int_le (pos low) number && int_le number (pos high) then Ok (nat_abs number) else Err (TaskFault.OutOfRange place number)) }
+    ensures reading { result ≡ (if int_le (pos low) number && int_le number (pos high)
+        then Ok (nat_abs number)
+        else Err (TaskFault.OutOfRange place number)) }
 {
     if number < i64::from(low) || number > i64::from(high) {
         return Err(TaskFault::OutOfRange(place, number));
@@ -102,10 +108,12 @@ fn in_range(place: Place, low: u32, high: u32, number: i64) -> Result<u32, TaskF
 }
 
 /// The name at the key.
-pub fn name_at(table: &Table, place: Place) -> Result<Name, TaskFault>
-    ensures { result ≡ name_at place (at_key place.field (table_view table.now)) }
+pub fn name_at(table: &Table, part: Part, field: Field) -> Result<Name, TaskFault>
+    ensures { result ≡ name_at (record { part = part; field = field })
+        (at_key field (table_view table.now)) }
 {
-    match value_at(table, place.field) {
+    let place = Place { part, field };
+    match value_at(table, field) {
         None => Err(TaskFault::Missing(place)),
         Some(Value::String(text)) => Name::of(text.as_bytes()).ok_or(TaskFault::BadName(place)),
         Some(_) => Err(TaskFault::WrongKind(place)),

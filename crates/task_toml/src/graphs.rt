@@ -2,15 +2,17 @@
 
 ghost use Rattle.std.specs.Prelude.{◌≡◌, ◌≢◌, ◌≤◌, length, map, IfOk, IfErr, OnOk};
 ghost use Rattle.slot_core.specs.Faults.{same_name};
-ghost use Rattle.task_toml.specs.Reading.{each, task_of, graph_of, sporadic_of, place_of_name, with_indexes};
+ghost use Rattle.task_toml.specs.Reading.{each, task_of, graph_of, sporadic_of};
+ghost use Rattle.task_toml.specs.Reading.{place_of_name, with_indexes};
 ghost use Rattle.task_toml.specs.TomlFields.{Answers, AnswersAs};
 ghost use Rattle.toml.specs.View.{table_view};
 
 use crate::fields::{check_keys, name_at, number_at};
 use crate::tables::{append, tables_at, texts_at};
-use slot_core::{AFTER_LIMIT, GRAPH_LIMIT, SLOT_LIMIT, SPORADIC_LIMIT, TASK_LIMIT};
-use slot_core::{Afters, Field, Graph, Graphs, List, Name, Part, Place, Sporadic, Sporadics, Task};
-use slot_core::{TaskFault, Tasks};
+use slot_core::{
+    AFTER_LIMIT, Afters, Field, GRAPH_LIMIT, Graph, Graphs, List, Name, Part, SLOT_LIMIT,
+    SPORADIC_LIMIT, Sporadic, Sporadics, TASK_LIMIT, Task, TaskFault, Tasks,
+};
 use std::alloc::Global;
 use std::marker::Model;
 use toml::Table;
@@ -33,21 +35,31 @@ impl<'a> Model for NamedTask<'a> {
 }
 
 /// The task of a table.
-fn read_task<'a>(alloc: Global, graph: u16, task: u16, table: &'a Table) -> Result<NamedTask<'a>, TaskFault>
+fn read_task<'a>(
+    alloc: Global,
+    graph: u16,
+    task: u16,
+    table: &'a Table,
+) -> Result<NamedTask<'a>, TaskFault>
     ensures { Answers result (task_of graph task (table_view table.now)) }
 {
     let part = Part::Task(graph, task);
     check_keys(part, table)?;
-    let name = name_at(table, Place { part, field: Field::Name })?;
-    let wcet = number_at(table, Place { part, field: Field::Wcet }, 1, SLOT_LIMIT, None)?;
-    let after = texts_at(alloc, table, Place { part, field: Field::After }, AFTER_LIMIT)?;
+    let name = name_at(table, part, Field::Name)?;
+    let wcet = number_at(table, part, Field::Wcet, 1, SLOT_LIMIT, None)?;
+    let after = texts_at(alloc, table, part, Field::After, AFTER_LIMIT)?;
     Ok(NamedTask { name, wcet, after })
 }
 
 /// The tasks of the tables of a graph.
-fn read_named_tasks<'a>(alloc: Global, graph: u16, tables: &[&'a Table]) -> Result<Vec<NamedTask<'a>>, TaskFault>
+fn read_named_tasks<'a>(
+    alloc: Global,
+    graph: u16,
+    tables: &[&'a Table],
+) -> Result<Vec<NamedTask<'a>>, TaskFault>
     requires { length tables.now ≤ TASK_LIMIT }
-    ensures reading { AnswersAs (λ tasks. tasks.items) result (each (task_of graph) 0 (map (λ t. table_view t.now) tables.now)) }
+    ensures reading { AnswersAs (λ tasks. tasks.items) result
+        (each (task_of graph) 0 (map (λ t. table_view t.now) tables.now)) }
     ensures count { IfOk result (λ tasks. length tasks.items ≡ length tables.now) }
 {
     let mut tasks = Vec::new(alloc);
@@ -61,7 +73,7 @@ fn read_named_tasks<'a>(alloc: Global, graph: u16, tables: &[&'a Table]) -> Resu
 }
 
 /// Whether the task has this name.
-#[tactic(auto, using(crate::proofs::Lookups::lookups))]
+#[tactic(auto, using(crate::proofs::SameTexts::same_texts))]
 fn is_named(task: &NamedTask, name: &str) -> bool
     ensures { result ≡ same_name task.now.name name.now }
 {
@@ -84,7 +96,8 @@ fn place_of_name(tasks: &[NamedTask], name: &str) -> u16
 /// The places of the tasks of these names.
 fn places_of_names(alloc: Global, tasks: &[NamedTask], names: &[&str]) -> Result<Afters, TaskFault>
     requires { length tasks.now ≤ TASK_LIMIT }
-    ensures ok { IfOk result (λ places. places ≡ map (place_of_name tasks.now) (map (λ name. name.now) names.now)) }
+    ensures ok { IfOk result
+        (λ places. places ≡ map (place_of_name tasks.now) (map (λ name. name.now) names.now)) }
     ensures memory { IfErr result (λ e. e ≡ TaskFault.Memory) }
 {
     let mut places = Afters::new(alloc);
@@ -97,7 +110,8 @@ fn places_of_names(alloc: Global, tasks: &[NamedTask], names: &[&str]) -> Result
 /// The `after` lists of the tasks as places.
 fn places_after(alloc: Global, tasks: &[NamedTask]) -> Result<Vec<Afters>, TaskFault>
     requires { length tasks.now ≤ TASK_LIMIT }
-    ensures ok { IfOk result (λ lists. lists.items ≡ map (λ t. map (place_of_name tasks.now) t.after) tasks.now) }
+    ensures ok { IfOk result
+        (λ lists. lists.items ≡ map (λ t. map (place_of_name tasks.now) t.after) tasks.now) }
     ensures memory { IfErr result (λ e. e ≡ TaskFault.Memory) }
 {
     let mut lists = Vec::new(alloc);
@@ -111,15 +125,20 @@ fn places_after(alloc: Global, tasks: &[NamedTask]) -> Result<Vec<Afters>, TaskF
 }
 
 /// The tasks, with places in their `after` lists.
-fn with_places(alloc: Global, named: Vec<NamedTask>) -> Result<Tasks, TaskFault>
+fn with_indexes(alloc: Global, named: Vec<NamedTask>) -> Result<Tasks, TaskFault>
     requires { length named.items ≤ TASK_LIMIT }
-    ensures ok { IfOk result (λ tasks. tasks ≡ map (with_indexes named.entry.items) named.entry.items) }
+    ensures ok { IfOk result
+        (λ tasks. tasks ≡ map (with_indexes named.entry.items) named.entry.items) }
     ensures memory { IfErr result (λ e. e ≡ TaskFault.Memory) }
 {
     let lists = places_after(alloc, &named)?;
     let mut tasks = Tasks::new(alloc);
     for (task, after) in named.into_iter().zip(lists) {
-        let NamedTask { name, wcet, after: _ } = task;
+        let NamedTask {
+            name,
+            wcet,
+            after: _,
+        } = task;
         append(&mut tasks, Task { name, wcet, after })?;
     }
     Ok(tasks)
@@ -131,15 +150,21 @@ fn read_graph(alloc: Global, graph: u16, table: &Table) -> Result<Graph, TaskFau
 {
     let part = Part::Graph(graph);
     check_keys(part, table)?;
-    let name = name_at(table, Place { part, field: Field::Name })?;
-    let period = number_at(table, Place { part, field: Field::Period }, 1, SLOT_LIMIT, None)?;
-    let offset = number_at(table, Place { part, field: Field::Offset }, 0, period - 1, Some(0))?;
+    let name = name_at(table, part, Field::Name)?;
+    let period = number_at(table, part, Field::Period, 1, SLOT_LIMIT, None)?;
+    let offset = number_at(table, part, Field::Offset, 0, period - 1, Some(0))?;
     let longest = period - offset;
-    let deadline = number_at(table, Place { part, field: Field::Deadline }, 1, longest, Some(longest))?;
-    let tables = tables_at(alloc, table, Place { part, field: Field::Task }, TASK_LIMIT)?;
+    let deadline = number_at(table, part, Field::Deadline, 1, longest, Some(longest))?;
+    let tables = tables_at(alloc, table, part, Field::Task, TASK_LIMIT)?;
     let named = read_named_tasks(alloc, graph, tables.items())?;
-    let tasks = with_places(alloc, named)?;
-    Ok(Graph { name, period, offset, deadline, tasks })
+    let tasks = with_indexes(alloc, named)?;
+    Ok(Graph {
+        name,
+        period,
+        offset,
+        deadline,
+        tasks,
+    })
 }
 
 /// The graphs of the tables.
@@ -161,11 +186,23 @@ fn read_sporadic(sporadic: u8, table: &Table) -> Result<Sporadic, TaskFault>
 {
     let part = Part::Sporadic(sporadic);
     check_keys(part, table)?;
-    let name = name_at(table, Place { part, field: Field::Name })?;
-    let wcet = number_at(table, Place { part, field: Field::Wcet }, 1, SLOT_LIMIT, None)?;
-    let separation = number_at(table, Place { part, field: Field::Separation }, 1, SLOT_LIMIT, None)?;
-    let deadline = number_at(table, Place { part, field: Field::Deadline }, 1, separation, Some(separation))?;
-    Ok(Sporadic { name, wcet, separation, deadline })
+    let name = name_at(table, part, Field::Name)?;
+    let wcet = number_at(table, part, Field::Wcet, 1, SLOT_LIMIT, None)?;
+    let separation = number_at(table, part, Field::Separation, 1, SLOT_LIMIT, None)?;
+    let deadline = number_at(
+        table,
+        part,
+        Field::Deadline,
+        1,
+        separation,
+        Some(separation),
+    )?;
+    Ok(Sporadic {
+        name,
+        wcet,
+        separation,
+        deadline,
+    })
 }
 
 /// The sporadic tasks of the tables.

@@ -15,8 +15,9 @@ mod tables;
 use check::check_set;
 use fields::{check_keys, number_at};
 use graphs::{read_graphs, read_sporadics};
-use slot_core::{Field, GRAPH_LIMIT, Part, Place, SOFT_DEFAULT, SOFT_LIMIT, SPORADIC_LIMIT};
-use slot_core::{TaskFault, TaskSet};
+use slot_core::{
+    Field, GRAPH_LIMIT, Part, SOFT_DEFAULT, SOFT_LIMIT, SPORADIC_LIMIT, TaskFault, TaskSet,
+};
 use std::alloc::Global;
 use tables::{tables_at, tables_or_none_at};
 use toml::Table;
@@ -51,10 +52,14 @@ fn read_set(alloc: Global, table: &Table) -> Result<TaskSet, TaskFault>
 {
     let part = Part::Top;
     check_keys(part, table)?;
-    let soft_limit = number_at(table, Place { part, field: Field::Soft }, 1, SOFT_LIMIT, Some(SOFT_DEFAULT))?;
-    let tables = tables_at(alloc, table, Place { part, field: Field::Graph }, GRAPH_LIMIT)?;
+    let soft_limit = number_at(table, part, Field::Soft, 1, SOFT_LIMIT, Some(SOFT_DEFAULT))?;
+    let tables = tables_at(alloc, table, part, Field::Graph, GRAPH_LIMIT)?;
     let graphs = read_graphs(alloc, tables.items())?;
-    let tables = tables_or_none_at(alloc, table, Place { part, field: Field::Sporadic }, SPORADIC_LIMIT)?;
+    let tables = tables_or_none_at(alloc, table, part, Field::Sporadic, SPORADIC_LIMIT)?;
     let sporadics = read_sporadics(alloc, tables.items())?;
-    Ok(TaskSet { soft_limit, graphs, sporadics })
+    Ok(TaskSet {
+        soft_limit,
+        graphs,
+        sporadics,
+    })
 }

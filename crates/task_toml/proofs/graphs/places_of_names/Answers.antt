@@ -1,4 +1,4 @@
-use Rattle.std.proofs.Common.{◌≡◌, ◌++◌, ℕ, List, [], ◌∷◌, ◌+◌, ◌<◌, Bor, map, drop, get_or, length, append_assoc, rules, arith}
+use Rattle.std.proofs.Common.{◌≡◌, ◌++◌, ℕ, List, [], ◌∷◌, ◌+◌, ◌<◌, map, drop, get_or, length, append_assoc}
 use Rattle.std.proofs.lemmas.List.{drop_more}
 use Rattle.task_toml.specs.Reading.{place_of_name}
 use Rattle.task_toml.proofs.graphs.places_of_names.Goals as goal

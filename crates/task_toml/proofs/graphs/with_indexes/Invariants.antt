@@ -3,7 +3,7 @@ use Rattle.std.specs.Iterator.Adapters.{zip_first, zip_second}
 use Rattle.std.specs.Vec.Iter.{into_iter_items, into_iter_len}
 use Rattle.task_toml.specs.Reading.{with_indexes}
 use Rattle.task_toml.proofs.JoinedTasks.{all_joined}
-use Rattle.task_toml.proofs.graphs.with_places.Given as goal
+use Rattle.task_toml.proofs.graphs.with_indexes.Given as goal
 
 abbrev pub invariant-loop-task : goal.invariant-loop-task
 invariant-loop-task l =

@@ -1,10 +1,10 @@
-use Rattle.std.proofs.Common.{◌≡◌, List, ℕ, [], length, map, rules, arith, sym, ◌∙◌, append-nil, inl, inr}
+use Rattle.std.proofs.Common.{◌≡◌, List, ℕ, [], map, rules, sym, ◌∙◌, append-nil, inl, inr}
 use Rattle.std.specs.Iterator.Adapters.{zip_first, zip_second}
 use Rattle.std.specs.Vec.Iter.{into_iter_items}
 use Rattle.std.proofs.lemmas.Grind.{common_steps}
 use Rattle.task_toml.specs.Reading.{place_of_name, NamedTask}
 use Rattle.task_toml.proofs.JoinedTasks.{all_joined, all_joined-map, all_joined-empty_first, all_joined-empty_second}
-use Rattle.task_toml.proofs.graphs.with_places.Goals as goal
+use Rattle.task_toml.proofs.graphs.with_indexes.Goals as goal
 
 pub loop-task-init : goal.loop-task-init
 loop-task-init c =
