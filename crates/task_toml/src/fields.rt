@@ -121,7 +121,7 @@ pub fn name_at(table: &Table, part: Part, field: Field) -> Result<Name, TaskFaul
 }
 
 /// Refuses a table that has a key which a table of this part does not know.
-pub fn check_keys(part: Part, table: &Table) -> Result<(), TaskFault>
+pub fn check_keys(table: &Table, part: Part) -> Result<(), TaskFault>
     ensures { MatchResult result
         (λ _. known_keys part (table_view table.now) ≡ Ok (table_view table.now))
         (λ e. known_keys part (table_view table.now) ≡ Err e) }

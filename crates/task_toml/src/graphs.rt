@@ -44,7 +44,7 @@ fn read_task<'a>(
     ensures { Answers result (task_of graph task (table_view table.now)) }
 {
     let part = Part::Task(graph, task);
-    check_keys(part, table)?;
+    check_keys(table, part)?;
     let name = name_at(table, part, Field::Name)?;
     let wcet = number_at(table, part, Field::Wcet, 1, SLOT_LIMIT, None)?;
     let after = texts_at(alloc, table, part, Field::After, AFTER_LIMIT)?;
@@ -149,7 +149,7 @@ fn read_graph(alloc: Global, graph: u16, table: &Table) -> Result<Graph, TaskFau
     ensures { Answers result (graph_of graph (table_view table.now)) }
 {
     let part = Part::Graph(graph);
-    check_keys(part, table)?;
+    check_keys(table, part)?;
     let name = name_at(table, part, Field::Name)?;
     let period = number_at(table, part, Field::Period, 1, SLOT_LIMIT, None)?;
     let offset = number_at(table, part, Field::Offset, 0, period - 1, Some(0))?;
@@ -185,7 +185,7 @@ fn read_sporadic(sporadic: u8, table: &Table) -> Result<Sporadic, TaskFault>
     ensures { Answers result (sporadic_of sporadic (table_view table.now)) }
 {
     let part = Part::Sporadic(sporadic);
-    check_keys(part, table)?;
+    check_keys(table, part)?;
     let name = name_at(table, part, Field::Name)?;
     let wcet = number_at(table, part, Field::Wcet, 1, SLOT_LIMIT, None)?;
     let separation = number_at(table, part, Field::Separation, 1, SLOT_LIMIT, None)?;

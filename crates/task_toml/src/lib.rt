@@ -11,6 +11,8 @@ mod check;
 mod fields;
 mod graphs;
 mod tables;
+#[cfg(test)]
+mod tests;
 
 use check::check_set;
 use fields::{check_keys, number_at};
@@ -51,7 +53,7 @@ fn read_set(alloc: Global, table: &Table) -> Result<TaskSet, TaskFault>
     ensures { Answers result (set_of (table_view table.now)) }
 {
     let part = Part::Top;
-    check_keys(part, table)?;
+    check_keys(table, part)?;
     let soft_limit = number_at(table, part, Field::Soft, 1, SOFT_LIMIT, Some(SOFT_DEFAULT))?;
     let tables = tables_at(alloc, table, part, Field::Graph, GRAPH_LIMIT)?;
     let graphs = read_graphs(alloc, tables.items())?;
