@@ -70,7 +70,7 @@ arrivals_due-le s r x =
     omega (
       arith,
       count_by-le-length (λ m. nat_le (max r 0 + m * s.separation + s.deadline) x) (range_with_len 0 (x + 1)),
-      length-range_with_len 0 (x + 1)
+      length-range_with_len 0 (x + 1),
     )
 
 -- with a separation only the time from the first arrival on matters
@@ -99,11 +99,11 @@ task_demand-moved s a b last low high positive fits =
     elim (cases_lt 0 s.separation) [
       | inl apart ↦ ap (λ n. s.wcet * n) (arrivals_due-moved s a b apart low)
       | inr none ↦ elim (cases_lt last s.deadline) [
-          | inl late ↦ ap (λ n. s.wcet * n) (arrivals_due-none s a b (omega arith) ∙ sym (arrivals_due-none s 0 (b - a) (omega arith)))
-          | inr due ↦ let x = max 1 s.deadline in
-              let zeros : s.wcet ≡ 0 = no_wcet s x (omega arith) (omega arith) (fits x (omega arith) (omega arith)) in
-              rw zeros (omega arith)
-        ]
+        | inl late ↦ ap (λ n. s.wcet * n) (arrivals_due-none s a b (omega arith) ∙ sym (arrivals_due-none s 0 (b - a) (omega arith)))
+        | inr due ↦ let x = max 1 s.deadline in
+            let zeros : s.wcet ≡ 0 = no_wcet s x (omega arith) (omega arith) (fits x (omega arith) (omega arith)) in
+            rw zeros (omega arith)
+      ]
     ]
 
 -- where the arrivals from 0 on never need more than the slots, those from a on need by b what those from

@@ -1,5 +1,5 @@
 -- The jobs of one cycle are due in it, and its demand as a whole is their declared slots and the densest arrivals.
-use Rattle.std.proofs.Common.{◌≡◌, ℕ, zero, suc, ◌+◌, ◌-◌, ◌*◌, ◌/◌, ◌<◌, ◌≤◌, true, List, [], ◌∷◌, map, length, get_or, refl, sym, ap, ◌∙◌, arith}
+use Rattle.std.proofs.Common.{◌≡◌, ℕ, ◌+◌, ◌*◌, ◌/◌, ◌<◌, ◌≤◌, true, List, [], ◌∷◌, length, get_or, refl, ap, ◌∙◌, arith}
 use Rattle.std.specs.Prelude.{All, sum_by, flat_map, nat_le, nat_lt, ◌&&◌, if◌then◌else◌}
 use Rattle.std.specs.List.{range_with_len, enumerate_from}
 use Rattle.std.proofs.Math.Nat.{mul-le-mul_right, div-mul-le_self}
@@ -62,11 +62,11 @@ graph_jobs-within cycle (g, graph) h =
     let count = cycle / graph.period in
     let within = (IsGraphInRange-from_test graph h).within in
     All-flat_map (λ (raw : RawJob). raw.deadline ≤ cycle) (instance_jobs g graph) (range_with_len (0 * count) count) (λ i d low.
-      let short : i < count = omega (arith, length-range_with_len (0 * count) count) in
-      let place = get_or-range_with_len (0 * count) count i d short in
-      let k = get_or (range_with_len (0 * count) count) i d in
-      let due : deadline_of graph k ≤ cycle = due_in_cycle cycle k graph within (omega arith) in
-      All-map (λ (raw : RawJob). raw.deadline ≤ cycle) (raw_of g k graph) (enumerate_from 0 graph.tasks) (λ _ _ _. due))
+    let short : i < count = omega (arith, length-range_with_len (0 * count) count) in
+    let place = get_or-range_with_len (0 * count) count i d short in
+    let k = get_or (range_with_len (0 * count) count) i d in
+    let due : deadline_of graph k ≤ cycle = due_in_cycle cycle k graph within (omega arith) in
+    All-map (λ (raw : RawJob). raw.deadline ≤ cycle) (raw_of g k graph) (enumerate_from 0 graph.tasks) (λ _ _ _. due))
 
 -- the jobs of the first cycle are due in it
 pub cycle_jobs-within : (set : TaskSet) (cycle : ℕ) → is_sound set ≡ true → All (λ (j : Job). j.dl ≤ cycle) (cycle_jobs set cycle 0)
@@ -74,20 +74,20 @@ cycle_jobs-within set cycle sound =
     let graphs = enumerate_from 0 set.graphs in
     let each = (IsSoundSet-from_test set sound).graphs in
     let raw = All-flat_map (λ (raw : RawJob). raw.deadline ≤ cycle) (graph_jobs cycle 0) graphs (λ i d low.
-      let short : i < length set.graphs = omega (arith, length-enumerate_from 0 set.graphs) in
-      let place = get_or-enumerate_from 0 set.graphs i d short in
-      graph_jobs-within cycle (get_or graphs i d) (ap (λ p. graph_in_range p.1) place ∙ each i d.1 short)) in
+    let short : i < length set.graphs = omega (arith, length-enumerate_from 0 set.graphs) in
+    let place = get_or-enumerate_from 0 set.graphs i d short in
+    graph_jobs-within cycle (get_or graphs i d) (ap (λ p. graph_in_range p.1) place ∙ each i d.1 short)) in
     All-map (λ (j : Job). j.dl ≤ cycle) (derived_job set) (raw_jobs set cycle 0) (λ i d low.
-      let due = raw i d low in
-      omega arith)
+    let due = raw i d low in
+    omega arith)
 
 -- jobs that are due in the cycle all count in the window of the whole cycle
 pub window_demand-cycle : (jobs : List Job) (ss : List Sporadic) (cycle : ℕ) → All (λ (j : Job). j.dl ≤ cycle) jobs → window_demand jobs ss cycle 0 cycle ≡ sum_by (λ (j : Job). j.declared) jobs + sporadic_demand ss [] 0 cycle
 window_demand-cycle jobs ss cycle within =
     let all = sum_by-agree (λ (j : Job). if nat_le 0 (j.est + 0) && nat_le (j.dl + 0) cycle then j.declared else 0) (λ (j : Job). j.declared) jobs (λ k d low.
-      let j = get_or jobs k d in
-      let due = within k d low in
-      ap (λ b. if b then j.declared else 0) (and_from (nat_le 0 (j.est + 0)) (nat_le (j.dl + 0) cycle) (le-leb 0 (j.est + 0) (omega arith)) (le-leb (j.dl + 0) cycle (omega arith)))) in
+    let j = get_or jobs k d in
+    let due = within k d low in
+    ap (λ b. if b then j.declared else 0) (and_from (nat_le 0 (j.est + 0)) (nat_le (j.dl + 0) cycle) (le-leb 0 (j.est + 0) (omega arith)) (le-leb (j.dl + 0) cycle (omega arith)))) in
     let none : ◌≡◌ {A = ℕ} (if nat_lt cycle cycle then declared_within jobs cycle 0 cycle else 0) 0 = rw (le-ltb cycle cycle (omega arith)) refl in
     omega arith
 

@@ -1,15 +1,11 @@
 -- The table of ends, and the demand of windows that its sums are.
-use Rattle.std.proofs.Common.{◌≡◌, ℕ, zero, suc, ◌+◌, ◌-◌, ◌*◌, ◌<◌, ◌≤◌, max, Bool, true, false, cond, List, [], ◌∷◌, ◌++◌, length, take, drop, get_or, set, replicate, sum, refl, sym, ap, ◌∙◌, inl, inr, zero-add, add-one, arith}
-use Rattle.std.specs.Prelude.{All, sum_by, nat_le, nat_lt, ◌==◌, ◌&&◌, if◌then◌else◌}
-use Rattle.std.specs.List.{AllWithin}
-use Rattle.std.proofs.lemmas.Bool.{cases_lt, cases_eq}
+use Rattle.std.proofs.Common.{◌≡◌, ℕ, ◌+◌, ◌*◌, ◌<◌, ◌≤◌, Bool, true, false, List, [], ◌∷◌, ◌++◌, length, take, get_or, replicate, arith}
+use Rattle.std.specs.Prelude.{All, sum_by, ◌==◌, if◌then◌else◌}
 use Rattle.std.proofs.lemmas.Bool.Decides.{nat_tests}
-use Rattle.std.proofs.lemmas.List.{get_or-set_same, get_or-set_other, get_or-replicate, get_or-take, get_or-drop, length-set, length-replicate, length-take, length-drop, get_or_default, take_more}
-use Rattle.std.proofs.lemmas.List.Elements.{All-head, All-tail}
-use Rattle.std.proofs.lemmas.List.Sums.{sum_by-cons, sum_by_push, sum_by_more, sum_by-take-drop, sum_by-le-sum_by}
+use Rattle.std.proofs.lemmas.List.{get_or-set_same, get_or-set_other, get_or-replicate, length-set, length-replicate, get_or_default, take_more}
+use Rattle.std.proofs.lemmas.List.Sums.{sum_by_push, sum_by-le-sum_by}
 use Rattle.slot_core.specs.declared.jobs.Job.{Job}
-use Rattle.slot_core.specs.Feasible.{declared_within}
-use Rattle.demand_test.specs.Ends.{ending_at, first_end, next_end, raised, IsDue, IsStart}
+use Rattle.demand_test.specs.Ends.{ending_at, first_end, next_end, raised, IsDue}
 
 -- a number that is added at one place
 get_or-raised : (xs : List ℕ) (e b d : ℕ) → e < length xs → get_or (raised xs e d) b 0 ≡ get_or xs b 0 + (if e == b then d else 0)
@@ -42,14 +38,14 @@ IsDue-more first next cycle due j h first_within next_within =
     record {
       len = omega arith;
       ends = λ b low.
-        let at_once = get_or-raised due (first_end j) b j.declared (omega arith) in
-        let at_twice = get_or-raised once (next_end cycle j) b j.declared (omega arith) in
-        omega (
-          arith,
-          h.ends b low,
-          sum_by_push (λ (i : Job). if first_end i == b then i.declared else 0) first j,
-          sum_by_push (λ (i : Job). if next_end cycle i == b then i.declared else 0) next j
-        );
+          let at_once = get_or-raised due (first_end j) b j.declared (omega arith) in
+          let at_twice = get_or-raised once (next_end cycle j) b j.declared (omega arith) in
+          omega (
+            arith,
+            h.ends b low,
+            sum_by_push (λ (i : Job). if first_end i == b then i.declared else 0) first j,
+            sum_by_push (λ (i : Job). if next_end cycle i == b then i.declared else 0) next j,
+          );
     }
 
 -- no entry of the table is more than all that is declared, twice
@@ -61,7 +57,7 @@ IsDue-small first next cycle due m h few_first few_next k d low =
       h.ends k (omega arith),
       ending_at-le first_end first k,
       ending_at-le (next_end cycle) next k,
-      get_or_default due k d 0 low
+      get_or_default due k d 0 low,
     )
 
 -- the table of the jobs so far, and of the next

@@ -12,7 +12,6 @@ use Rattle.slot_core.specs.declared.jobs.Window.{Window}
 use Rattle.slot_core.specs.declared.tasks.Sporadic.{Sporadic}
 use Rattle.slot_core.specs.declared.tasks.TaskSet.{TaskSet}
 use Rattle.slot_core.specs.OfflineJobs.{cycle_jobs}
-use Rattle.slot_core.specs.Sporadics.{sporadic_demand}
 use Rattle.slot_core.specs.Feasible.{declared_within, window_demand, IsFeasible, failing_window, first_some, first_failing_from, counterexample_in, counterexample}
 use Rattle.demand_test.proofs.FirstSome.{option_or-None, cond-None, none-from_first_some, found-from_first_some, first_some-agree}
 

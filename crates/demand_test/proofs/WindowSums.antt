@@ -1,13 +1,12 @@
 -- The sums of the table of ends are the offline demand of the windows from a start.
-use Rattle.std.proofs.Common.{◌≡◌, ℕ, zero, suc, ◌+◌, ◌-◌, ◌*◌, ◌<◌, ◌≤◌, max, Bool, true, false, cond, List, [], ◌∷◌, length, map, take, drop, get_or, sum, Option, Some, None, refl, sym, ap, ◌∙◌, inl, inr, zero-add, arith}
-use Rattle.std.specs.Prelude.{All, sum_by, nat_le, nat_lt, ◌==◌, ◌&&◌, if◌then◌else◌}
-use Rattle.std.specs.List.{AllWithin, range_with_len}
+use Rattle.std.proofs.Common.{◌≡◌, ℕ, zero, suc, ◌+◌, ◌-◌, ◌*◌, ◌<◌, ◌≤◌, max, Bool, true, false, List, [], length, map, take, drop, get_or, sum, Some, None, sym, ap, ◌∙◌, inl, inr, arith}
+use Rattle.std.specs.Prelude.{sum_by, nat_le, nat_lt, ◌==◌, ◌&&◌, if◌then◌else◌}
+use Rattle.std.specs.List.{range_with_len}
 use Rattle.std.proofs.lemmas.Bool.{cases_lt, le-ltb, lt-ltb}
 use Rattle.std.proofs.lemmas.Bool.Decides.{nat_tests}
 use Rattle.std.proofs.lemmas.List.{get_or-take, get_or-drop, length-take, length-drop, take_all}
-use Rattle.std.proofs.lemmas.List.Elements.{All-head, All-tail}
 use Rattle.std.proofs.lemmas.List.FromFn.{get_or-map-range_with_len}
-use Rattle.std.proofs.lemmas.List.Sums.{sum_by-cons, sum_by_more, sum_by-take-drop, sum_by-le-sum_by}
+use Rattle.std.proofs.lemmas.List.Sums.{sum_by_more, sum_by-take-drop, sum_by-le-sum_by}
 use Rattle.slot_core.specs.declared.jobs.Job.{Job}
 use Rattle.slot_core.specs.declared.jobs.Window.{Window}
 use Rattle.slot_core.specs.declared.tasks.Sporadic.{Sporadic}
@@ -75,11 +74,11 @@ declared_within-IsStart jobs a n b start =
     let g = λ (j : Job). if nat_le j.dl b then j.declared else 0 in
     let within = start.within in
     let front = sum_by-none f (take n jobs) (λ k d low.
-      let short : k < n = omega (arith, length-take n jobs) in
-      rw (get_or-take n jobs k d short) (before_start (get_or jobs k d).est a (get_or jobs k d).dl b (get_or jobs k d).declared (start.before k d (omega arith) short))) in
+    let short : k < n = omega (arith, length-take n jobs) in
+    rw (get_or-take n jobs k d short) (before_start (get_or jobs k d).est a (get_or jobs k d).dl b (get_or jobs k d).declared (start.before k d (omega arith) short))) in
     let rest = sum_by-agree f g (drop n jobs) (λ k d low.
-      let short : n + k < length jobs = omega (arith, length-drop n jobs) in
-      rw (get_or-drop n jobs k d) (after_start (get_or jobs (n + k) d).est a (get_or jobs (n + k) d).dl b (get_or jobs (n + k) d).declared (start.later (n + k) d (omega arith) short))) in
+    let short : n + k < length jobs = omega (arith, length-drop n jobs) in
+    rw (get_or-drop n jobs k d) (after_start (get_or jobs (n + k) d).est a (get_or jobs (n + k) d).dl b (get_or jobs (n + k) d).declared (start.later (n + k) d (omega arith) short))) in
     omega (arith, sum_by-take-drop f jobs n)
 
 -- all jobs of the next cycle start at a or later, and count in the windows that end past the first cycle
@@ -106,7 +105,7 @@ offline-IsDue jobs cycle a n due h start low b high =
       arith,
       sum_take-IsDue (drop n jobs) jobs cycle due h b high,
       declared_within-IsStart jobs a n b start,
-      declared_within-next jobs cycle a b low
+      declared_within-next jobs cycle a b low,
     )
 
 -- where no window from an earlier start fails, the arrivals from a on need what those from 0 on need
@@ -139,7 +138,7 @@ window_demand-AreTables jobs ss cycle a n due arrivals h start b low high =
     omega (
       arith,
       offline-IsDue jobs cycle a n due h.ends h.start start b high,
-      arrivals-moved jobs ss cycle a b h.none (omega arith) high (omega arith)
+      arrivals-moved jobs ss cycle a b h.none (omega arith) high (omega arith),
     )
 
 -- so the search in the tables is the search among the windows
@@ -151,9 +150,9 @@ first_failing_from-AreTables jobs ss cycle a n due arrivals h start =
     let len = h.ends.len in
     let count : length due - 1 - a ≡ 2 * cycle - a = omega arith in
     rw count (first_some-agree (failing_in due arrivals a) (failing_window jobs ss cycle a) (a + 1) (2 * cycle - a) (λ b low high.
-      ap
-      (λ (needed : ℕ). if nat_lt (b - a) needed then Some (window a b needed) else None)
-      (window_demand-AreTables jobs ss cycle a n due arrivals h start b (omega arith) (omega arith))))
+    ap
+    (λ (needed : ℕ). if nat_lt (b - a) needed then Some (window a b needed) else None)
+    (window_demand-AreTables jobs ss cycle a n due arrivals h start b (omega arith) (omega arith))))
 
 -- the whole table sums to little
 pub sum-IsDue-le : (first next : List Job) (cycle m : ℕ) (due : List ℕ) → IsDue first next cycle due → sum_by (λ (j : Job). j.declared) first ≤ m → sum_by (λ (j : Job). j.declared) next ≤ m → sum due ≤ 2 * m

@@ -41,7 +41,12 @@ pub fn total(tasks: &TaskSet, cycle: u32) -> u64
 
 /// Tries every window that starts in the first cycle and ends in the first two. The jobs are those of one
 /// cycle, whose demand as a whole fits it.
-pub fn test(alloc: Global, jobs: &[Job], sporadics: &[Sporadic], cycle: u32) -> Result<Verdict, Memory>
+pub fn test(
+    alloc: Global,
+    jobs: &[Job],
+    sporadics: &[Sporadic],
+    cycle: u32,
+) -> Result<Verdict, Memory>
     requires cycle { cycle ≤ 4096 }
     requires within { All (λ (j : Job). j.dl ≤ cycle) jobs.now }
     requires fits { window_demand jobs.now sporadics.now cycle 0 cycle ≤ cycle }

@@ -1,15 +1,12 @@
-use Rattle.std.proofs.Common.{◌≡◌, ℕ, ◌+◌, ◌-◌, ◌<◌, ◌≤◌, true, false, List, get_or, Option, Some, None, refl, sym, ap, ◌∙◌, subst, arith, rules}
-use Rattle.std.specs.Prelude.{All, sum_by, nat_le, nat_lt, ◌&&◌, if◌then◌else◌}
-use Rattle.std.specs.Option.{option_or}
+use Rattle.std.proofs.Common.{◌≡◌, ℕ, ◌-◌, ◌≤◌, List, Option, None, refl, sym, ap, ◌∙◌, subst, arith, rules}
 use Rattle.std.specs.List.{range_with_len}
 use Rattle.std.specs.List.Sorted.{IsPermutation}
-use Rattle.std.proofs.lemmas.Bool.{le-ltb, le-leb, and_from}
+use Rattle.std.proofs.lemmas.Bool.{le-ltb}
 use Rattle.std.proofs.lemmas.List.Sorted.{IsNonDecreasingBy-from_sort_by_key, All-permutation, sum_by-IsPermutation}
 use Rattle.slot_core.specs.declared.jobs.Job.{Job}
 use Rattle.slot_core.specs.declared.jobs.Window.{Window}
 use Rattle.slot_core.specs.declared.tasks.Sporadic.{Sporadic}
-use Rattle.slot_core.specs.Feasible.{declared_within, window_demand, failing_window, first_some, first_failing_from, counterexample_in}
-use Rattle.demand_test.specs.declared.Verdict.{Verdict}
+use Rattle.slot_core.specs.Feasible.{window_demand, failing_window, first_some, first_failing_from, counterexample_in}
 use Rattle.demand_test.specs.Verdicts.{verdict_of}
 use Rattle.demand_test.proofs.FeasibleLemmas.{failing_window-permutation, counterexample_in-permutation}
 use Rattle.demand_test.proofs.CycleTotals.{window_demand-cycle}
@@ -43,7 +40,7 @@ first_failing-requires-clause-few c =
     omega (
       arith,
       sum_by-IsPermutation (λ (j : Job). j.declared) c.args.jobs.now c.as_slice.result.now same,
-      window_demand-cycle c.args.jobs.now c.args.sporadics.now c.args.cycle c.requires.within
+      window_demand-cycle c.args.jobs.now c.args.sporadics.now c.args.cycle c.requires.within,
     )
 
 pub first_failing-requires-clause-ordered : goal.first_failing-requires-clause-ordered

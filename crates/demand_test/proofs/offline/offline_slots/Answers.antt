@@ -1,6 +1,6 @@
-use Rattle.std.proofs.Common.{◌≡◌, ℕ, ◌+◌, ◌*◌, ◌/◌, ◌^◌, ◌<◌, ◌≤◌, true, List, length, take, get_or, sym, ap, ◌∙◌, subst, arith}
+use Rattle.std.proofs.Common.{◌≡◌, ℕ, ◌+◌, ◌*◌, ◌/◌, ◌^◌, ◌<◌, ◌≤◌, true, List, length, take, get_or, sym, ap, ◌∙◌, arith}
 use Rattle.std.specs.Prelude.{All, sum_by}
-use Rattle.std.proofs.Math.Nat.{mul-le-mul_right, div-le_self}
+use Rattle.std.proofs.Math.Nat.{div-le_self}
 use Rattle.std.proofs.lemmas.Nat.{mul-le}
 use Rattle.std.proofs.lemmas.List.Sums.{sum_by_more}
 use Rattle.slot_core.specs.declared.tasks.Task.{Task}
@@ -20,7 +20,7 @@ little_work : (cycle : ℕ) (graph : Graph) → cycle < 2 ^ 32 → sum_by (λ (t
 little_work cycle graph low few =
     omega (
       arith,
-      mul-le (cycle / graph.period) (sum_by (λ (t : Task). t.wcet) graph.tasks) (2 ^ 32) (2 ^ 17) (omega (arith, div-le_self cycle graph.period)) few
+      mul-le (cycle / graph.period) (sum_by (λ (t : Task). t.wcet) graph.tasks) (2 ^ 32) (2 ^ 17) (omega (arith, div-le_self cycle graph.period)) few,
     )
 
 -- the work of the graphs so far, and of the next

@@ -1,10 +1,7 @@
-use Rattle.std.proofs.Common.{◌≡◌, ℕ, ◌+◌, ◌-◌, ◌<◌, ◌≤◌, true, cond, List, length, take, get_or, sum, Option, Some, None, ap, ◌∙◌, sym, refl, arith}
+use Rattle.std.proofs.Common.{◌≡◌, ℕ, ◌+◌, ◌-◌, ◌<◌, true, List, length, take, get_or, sum, Some, sym, refl, arith}
 use Rattle.std.specs.Prelude.{nat_lt}
-use Rattle.std.specs.List.{range_with_len}
-use Rattle.std.proofs.lemmas.Bool.{lt-ltb, le-ltb}
+use Rattle.std.proofs.lemmas.Bool.{lt-ltb}
 use Rattle.std.proofs.lemmas.List.Sums.{sum_by_more}
-use Rattle.slot_core.specs.declared.jobs.Window.{Window}
-use Rattle.slot_core.specs.Feasible.{first_some}
 use Rattle.demand_test.specs.Ends.{failing_in}
 use Rattle.demand_test.proofs.FirstSome.{first_some-found, first_some-from_none}
 use Rattle.demand_test.proofs.windows.failing_from.Goals as goal

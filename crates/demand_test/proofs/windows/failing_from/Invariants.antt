@@ -1,5 +1,4 @@
-use Rattle.std.proofs.Common.{◌≡◌, ℕ, ◌<◌, take, sum, Option, None}
-use Rattle.slot_core.specs.declared.jobs.Window.{Window}
+use Rattle.std.proofs.Common.{◌≡◌, ℕ, ◌<◌, take, sum, None}
 use Rattle.demand_test.specs.Ends.{failing_in}
 use Rattle.demand_test.proofs.windows.failing_from.Given as goal
 

@@ -1,5 +1,4 @@
-use Rattle.std.proofs.Common.{◌≡◌, ℕ, ◌+◌, ◌-◌, ◌*◌, ◌^◌, ◌<◌, ◌≤◌, true, false, List, [], ◌++◌, length, map, take, drop, get_or, sum, Option, Some, None, is_some, refl, sym, ap, ◌∙◌, subst, inl, inr, arith}
-use Rattle.std.specs.Prelude.{sum_by}
+use Rattle.std.proofs.Common.{◌≡◌, ℕ, ◌+◌, ◌-◌, ◌*◌, ◌<◌, true, false, List, [], ◌++◌, length, take, drop, get_or, sum, Option, Some, None, is_some, sym, ap, ◌∙◌, inl, inr, arith}
 use Rattle.std.specs.List.{range_with_len}
 use Rattle.std.proofs.lemmas.Bool.{cases_eq, false≢true}
 use Rattle.std.proofs.lemmas.List.{take_at}
@@ -10,7 +9,7 @@ use Rattle.slot_core.specs.declared.jobs.Window.{Window}
 use Rattle.slot_core.specs.declared.tasks.Sporadic.{Sporadic}
 use Rattle.slot_core.specs.Sporadics.{sporadic_demand}
 use Rattle.slot_core.specs.Feasible.{first_some, first_failing_from}
-use Rattle.demand_test.specs.Ends.{ending_at, first_end, next_end, IsDue, IsStart, failing_in}
+use Rattle.demand_test.specs.Ends.{ending_at, first_end, IsDue, failing_in}
 use Rattle.demand_test.proofs.FirstSome.{first_some-found, first_some-from_none}
 use Rattle.demand_test.proofs.WindowSums.{AreTables, first_failing_from-AreTables, sum-IsDue-le}
 use Rattle.demand_test.proofs.windows.first_failing.Goals as goal

@@ -3,7 +3,6 @@ use Rattle.std.specs.List.{AllWithin}
 use Rattle.std.specs.List.Sorted.{IsNonDecreasingBy}
 use Rattle.std.proofs.lemmas.List.{get_or_default}
 use Rattle.slot_core.specs.declared.jobs.Job.{Job}
-use Rattle.demand_test.specs.Ends.{IsStart}
 use Rattle.demand_test.proofs.windows.leave.Goals as goal
 
 -- where one job starts after a, so do those after it

@@ -10,7 +10,7 @@ invariant-loop-next l =
       within : l.next ≤ length l.jobs;
       left : length l.due ≡ length l.initial.due;
       before : AllWithin (λ (j : Job). j.est < l.from + 1) l.jobs 0 l.next;
-      taken : (b : ℕ) → slice_index l.due b + ending_at first_end (drop l.passed l.jobs) b ≡ slice_index l.initial.due b + ending_at first_end (drop l.next l.jobs) b
+      taken : (b : ℕ) → slice_index l.due b + ending_at first_end (drop l.passed l.jobs) b ≡ slice_index l.initial.due b + ending_at first_end (drop l.next l.jobs) b;
     }
 
 abbrev pub decreases-loop-next : goal.decreases-loop-next
