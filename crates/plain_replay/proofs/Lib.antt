@@ -4,6 +4,7 @@ pub mod CycleOrder
 pub mod FirstReady
 pub mod FirstSpans
 pub mod NextStates
+pub mod PlanItems
 pub mod PointSteps
 pub mod RunSteps
 pub mod SameSums

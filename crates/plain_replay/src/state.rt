@@ -1,6 +1,6 @@
 //! What a replay keeps between two slots.
 
-ghost use Rattle.std.specs.Prelude.{◌≡◌, ◌<◌, ◌≤◌, ◌+◌, ◌-◌, true, length, nat_le, All, IfOk, OnOk, OnErr};
+ghost use Rattle.std.specs.Prelude.{◌≡◌, ◌<◌, ◌≤◌, ◌+◌, ◌-◌, ◌++◌, true, length, nat_le, All, IfOk, OnOk, OnErr};
 ghost use Rattle.std.specs.Io.KnownBytes.{Appends};
 ghost use Rattle.std.specs.List.{position};
 ghost use Rattle.slot_core.specs.declared.jobs.Job.{Job};
@@ -9,10 +9,11 @@ ghost use Rattle.slot_core.specs.Traces.{ran_entry};
 ghost use Rattle.slot_io.specs.Faults.{Rose};
 ghost use Rattle.slot_io.specs.Sinks.{AppendsPart};
 ghost use Rattle.plain_replay.specs.Shown.{HasSpans, shown_after, told_line};
-ghost use Rattle.plain_replay.specs.States.{first_ready, slot_used, after_first, ends_after};
+ghost use Rattle.plain_replay.specs.States.{first_ready, slot_used, after_first, ends_after, first_state, with_cycle, with_next_cycle, jobs_in_cycle, ends_in_cycle};
 
 use crate::ReplayFault;
 use crate::lines::{first_spans, put_line};
+use cycle_plan::Plan;
 use interval_build::spans_until;
 use slot_core::{Entry, Job, Memory, Shown, TaskSet, What};
 use slot_io::Sink;
@@ -36,6 +37,42 @@ impl Model for State {
 }
 
 impl State {
+    /// The state before the first slot, with the jobs and ends of three cycles.
+    pub(crate) fn start(alloc: Global, plan: &Plan) -> Result<State, Memory>
+        ensures { IfOk result (λ state. state ≡ first_state plan.now) }
+    {
+        let mut state = State {
+            time: 0,
+            jobs: Vec::new(alloc),
+            ends: Vec::new(alloc),
+        };
+        state.add_cycle(plan, 0)?;
+        state.add_cycle(plan, 1)?;
+        state.add_cycle(plan, 2)?;
+        Ok(state)
+    }
+
+    /// Appends the jobs and ends of the cycle of this number.
+    fn add_cycle(&mut self, plan: &Plan, cycles: u64) -> Result<(), Memory>
+        requires { cycles ≤ 1048576 }
+        ensures { OnOk result (self.new ≡ with_cycle plan.now cycles self.old) }
+    {
+        push_jobs(&mut self.jobs, plan, cycles)?;
+        push_ends(&mut self.ends, plan, cycles)
+    }
+
+    /// Appends the third cycle from the time on, where a cycle starts at the time.
+    fn add_next_cycle(&mut self, plan: &Plan) -> Result<(), Memory>
+        requires { self.old.time ≤ 100000 }
+        ensures { OnOk result (self.new ≡ with_next_cycle plan.now self.old) }
+    {
+        let cycle = u64::from(plan.cycle());
+        if self.time % cycle == 0 {
+            self.add_cycle(plan, self.time / cycle + 2)?;
+        }
+        Ok(())
+    }
+
     /// Runs the first job of the list that may run, if there is one, for one slot.
     fn run(&mut self) -> What
         requires { All (λ (j : Job). 1 ≤ j.left) self.old.jobs }
@@ -112,4 +149,31 @@ fn use_slot(jobs: &mut Vec<Job>, i: usize)
     } else {
         jobs[i].left = left;
     }
+}
+
+/// Appends the plan's jobs, so many cycles later.
+fn push_jobs(jobs: &mut Vec<Job>, plan: &Plan, cycles: u64) -> Result<(), Memory>
+    requires { cycles ≤ 1048576 }
+    ensures { OnOk result (jobs.new.items ≡ jobs.old.items ++ jobs_in_cycle plan.now cycles) }
+{
+    for i in 0..plan.jobs().len() {
+        if jobs.push(plan.job_in_cycle(i, cycles)).is_err() {
+            return Err(Memory);
+        }
+    }
+    Ok(())
+}
+
+/// Appends the ends of the plan's spans, so many cycles later.
+fn push_ends(ends: &mut Vec<u64>, plan: &Plan, cycles: u64) -> Result<(), Memory>
+    requires { cycles ≤ 1048576 }
+    ensures { OnOk result (ends.new.items ≡ ends.old.items ++ ends_in_cycle plan.now cycles) }
+{
+    let by = cycles * u64::from(plan.cycle());
+    for span in plan.spans() {
+        if ends.push(span.end + by).is_err() {
+            return Err(Memory);
+        }
+    }
+    Ok(())
 }
