@@ -10,5 +10,6 @@ pub mod RunSteps
 pub mod SameSums
 pub mod SetPoints
 pub mod SlotHistories
+pub mod SlotSteps
 pub mod SlotUsed
 pub mod ToldTexts

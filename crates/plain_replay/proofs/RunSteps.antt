@@ -88,7 +88,7 @@ run_of_later : (key : Key) (j : Job) (jobs : List Job) → same_key j.key key �
 run_of_later key j jobs differs some = grind (arith, nat_tests)
 
 -- what is found is one of the list
-found-among : (p : Job → Bool) (jobs : List Job) (job : Job) → find p jobs ≡ Some job → IsAmong job jobs
+pub found-among : (p : Job → Bool) (jobs : List Job) (job : Job) → find p jobs ≡ Some job → IsAmong job jobs
 found-among p [] job e = cc
 found-among p (j ∷ jobs) job e = by_test (p j) e (found-among p jobs job)
   where

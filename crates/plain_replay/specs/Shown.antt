@@ -25,7 +25,6 @@ abbrev pub shown_after : ReplayState → ShownSpans
 shown_after state =
     record { spans = spans_between state.jobs (last_end state.time state.ends) state.time (take 8 state.ends); more = length state.ends - 8 }
 
--- the line of what happened, with the spans after it
-unfoldable pub told_line : TaskSet → What → ReplayState → List ℕ
-told_line set what state =
-    entry_line set (record { time = state.time; what = what; shown = shown_after state })
+-- the line of what happened at this time, with the spans after the state
+unfoldable pub told_line : TaskSet → ℕ → What → ReplayState → List ℕ
+told_line set time what state = entry_line set (record { time = time; what = what; shown = shown_after state })

@@ -1,6 +1,6 @@
 //! What a replay keeps between two slots.
 
-ghost use Rattle.std.specs.Prelude.{◌≡◌, ◌<◌, ◌≤◌, ◌+◌, ◌-◌, ◌++◌, true, length, nat_le, All, IfOk, OnOk, OnErr};
+ghost use Rattle.std.specs.Prelude.{◌≡◌, ◌<◌, ◌≤◌, ◌+◌, ◌-◌, ◌++◌, true, [], length, nat_le, All, IfOk, OnOk, OnErr};
 ghost use Rattle.std.specs.Io.KnownBytes.{Appends};
 ghost use Rattle.std.specs.List.{position};
 ghost use Rattle.slot_core.specs.declared.jobs.Job.{Job};
@@ -8,7 +8,9 @@ ghost use Rattle.slot_core.specs.Arrivals.{what_in_set};
 ghost use Rattle.slot_core.specs.Traces.{ran_entry};
 ghost use Rattle.slot_io.specs.Faults.{Rose};
 ghost use Rattle.slot_io.specs.Sinks.{AppendsPart};
+ghost use Rattle.plain_replay.specs.Current.{IsCurrent};
 ghost use Rattle.plain_replay.specs.Shown.{HasSpans, shown_after, told_line};
+ghost use Rattle.plain_replay.specs.Told.{entry_at, slot_line};
 ghost use Rattle.plain_replay.specs.States.{first_ready, slot_used, after_first, ends_after, first_state, with_cycle, with_next_cycle, jobs_in_cycle, ends_in_cycle};
 
 use crate::ReplayFault;
@@ -29,7 +31,8 @@ pub(crate) struct State {
 }
 
 impl Model for State {
-    ghost use Rattle.plain_replay.specs.States.{ReplayState};
+    ghost use Rattle.plain_replay.specs.Told.{entry_at, slot_line};
+ghost use Rattle.plain_replay.specs.States.{ReplayState};
 
     ghost Value = { ReplayState };
 
@@ -111,18 +114,58 @@ impl State {
 }
 
 impl State {
-    /// Writes the line of what happened, with the first spans after the time.
+    /// Lets the slot at the time pass, and answers what happened in it.
+    fn step(&mut self, plan: &Plan) -> Result<What, Memory>
+        requires offline { plan.now.tasks.sporadics ≡ [] }
+        requires current { IsCurrent plan.now.tasks self.old }
+        requires early { self.old.time < 100000 }
+        ensures what { IfOk result (λ what. what ≡ entry_at plan.now.tasks self.old.time) }
+        ensures current { OnOk result (IsCurrent plan.now.tasks self.new) }
+        ensures time { OnOk result (self.new.time ≡ self.old.time + 1) }
+    {
+        let _plan = plan.cycle();
+        let what = self.run();
+        self.pass();
+        self.add_next_cycle(plan)?;
+        Ok(what)
+    }
+
+    /// Runs the slot at the time and writes its line, with the spans after it.
+    pub(crate) fn slot<K: Sink>(&mut self, alloc: Global, plan: &Plan, out: &mut K) -> Result<(), ReplayFault>
+        requires offline { plan.now.tasks.sporadics ≡ [] }
+        requires current { IsCurrent plan.now.tasks self.old }
+        requires early { self.old.time < 100000 }
+        ensures current { OnOk result (IsCurrent plan.now.tasks self.new) }
+        ensures time { OnOk result (self.new.time ≡ self.old.time + 1) }
+        ensures ok { OnOk result (Appends (K.written out.old) (K.written out.new) (slot_line plan.now.tasks self.old.time)) }
+        ensures part { OnErr result (AppendsPart (K.written out.old) (K.written out.new) (slot_line plan.now.tasks self.old.time)) }
+        ensures counted { K.faults out.old ≤ K.faults out.new }
+        ensures failed { result ≡ Err ReplayFault.Failed → Rose (K.faults out.old) (K.faults out.new) }
+    {
+        let time = self.time;
+        let what = self.step(plan)?;
+        self.tell(alloc, time, what, plan.tasks(), out)
+    }
+
+    /// Writes the line of what happened at this time, with the first spans after the state.
     #[tactic(auto, unfolding(crate::specs::Shown::told_line))]
-    fn tell<K: Sink>(&self, alloc: Global, what: What, tasks: &TaskSet, out: &mut K) -> Result<(), ReplayFault>
+    pub(crate) fn tell<K: Sink>(
+        &self,
+        alloc: Global,
+        time: u64,
+        what: What,
+        tasks: &TaskSet,
+        out: &mut K,
+    ) -> Result<(), ReplayFault>
         requires spans { HasSpans self.now }
         requires named { what_in_set tasks.now what ≡ true }
-        ensures ok { OnOk result (Appends (K.written out.old) (K.written out.new) (told_line tasks.now what self.now)) }
-        ensures part { OnErr result (AppendsPart (K.written out.old) (K.written out.new) (told_line tasks.now what self.now)) }
+        ensures ok { OnOk result (Appends (K.written out.old) (K.written out.new) (told_line tasks.now time what self.now)) }
+        ensures part { OnErr result (AppendsPart (K.written out.old) (K.written out.new) (told_line tasks.now time what self.now)) }
         ensures counted { K.faults out.old ≤ K.faults out.new }
         ensures failed { result ≡ Err ReplayFault.Failed → Rose (K.faults out.old) (K.faults out.new) }
     {
         let entry = Entry {
-            time: self.time,
+            time,
             what,
             shown: self.shown(alloc)?,
         };
