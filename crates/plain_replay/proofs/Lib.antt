@@ -6,6 +6,7 @@ pub mod FirstSpans
 pub mod NextStates
 pub mod PlanItems
 pub mod PointSteps
+pub mod ReplayParts
 pub mod RunSteps
 pub mod SameSums
 pub mod SetPoints

@@ -1,13 +1,23 @@
 //! The replay of a plan without arrivals, over a plain list of jobs.
 #![tactic(auto)]
 
+ghost use Rattle.std.specs.Prelude.{◌≡◌, ◌≤◌, [], OnOk, OnErr};
+ghost use Rattle.std.specs.Io.KnownBytes.{Appends};
+ghost use Rattle.slot_core.specs.Texts.{trace_text};
+ghost use Rattle.slot_core.specs.Traces.{trace};
+ghost use Rattle.slot_io.specs.Faults.{Rose};
+ghost use Rattle.slot_io.specs.Sinks.{AppendsPart};
 ghost use Rattle.plain_replay.specs.declared.ReplayFault.TheVariants.{Memory as MemoryFault, Failed as FailedFault};
-ghost use Rattle.std.specs.Prelude.{◌≡◌};
 
 mod lines;
 mod state;
 
-use slot_core::{Failed, Memory};
+use crate::lines::put_end;
+use crate::state::State;
+use cycle_plan::Plan;
+use slot_core::{Failed, Memory, What};
+use slot_io::Sink;
+use std::alloc::Global;
 
 /// Why a replay ends early.
 #[derive(Clone, Copy, PartialEq, Eq, Debug)]
@@ -32,4 +42,23 @@ impl From<Failed> for ReplayFault {
     fn from(_fault: Failed) -> ReplayFault {
         ReplayFault::Failed
     }
+}
+
+/// Writes the trace of so many slots without arrivals, one put a line: the start, each slot with what runs in
+/// it and the first spans after it, and the end. After a fault a part of the text from its front is written.
+pub fn replay<K: Sink>(alloc: Global, plan: &Plan, slots: u32, out: &mut K) -> Result<(), ReplayFault>
+    requires few { slots ≤ 100000 }
+    requires offline { plan.now.tasks.sporadics ≡ [] }
+    ensures ok { OnOk result (Appends (K.written out.old) (K.written out.new) (trace_text plan.now.tasks (trace plan.now.tasks [] slots))) }
+    ensures part { OnErr result (AppendsPart (K.written out.old) (K.written out.new) (trace_text plan.now.tasks (trace plan.now.tasks [] slots))) }
+    ensures counted { K.faults out.old ≤ K.faults out.new }
+    ensures failed { result ≡ Err ReplayFault.Failed → Rose (K.faults out.old) (K.faults out.new) }
+{
+    let tasks = plan.tasks();
+    let mut state = State::start(alloc, plan)?;
+    state.tell(alloc, 0, What::Start, tasks, out)?;
+    for _slot in 0..slots {
+        state.slot(alloc, plan, out)?;
+    }
+    put_end(slots, tasks, out)
 }

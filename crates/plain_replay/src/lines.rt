@@ -6,9 +6,10 @@ ghost use Rattle.slot_core.specs.Arrivals.{what_in_set};
 ghost use Rattle.slot_core.specs.Texts.{entry_line};
 ghost use Rattle.slot_io.specs.Faults.{Rose};
 ghost use Rattle.slot_io.specs.Sinks.{AppendsPart};
+ghost use Rattle.plain_replay.specs.Told.{end_line};
 
 use crate::ReplayFault;
-use slot_core::{Entry, Shown, Span, TaskSet};
+use slot_core::{Entry, Shown, Span, TaskSet, What};
 use slot_io::Sink;
 use trace_text::entry_line;
 
@@ -22,6 +23,22 @@ pub(crate) fn put_line<K: Sink>(entry: &Entry, tasks: &TaskSet, out: &mut K) -> 
 {
     out.put(entry_line(entry, tasks).bytes())?;
     Ok(())
+}
+
+/// Writes the last line, after so many slots.
+#[tactic(auto, unfolding(crate::specs::Told::end_line))]
+pub(crate) fn put_end<K: Sink>(slots: u32, tasks: &TaskSet, out: &mut K) -> Result<(), ReplayFault>
+    ensures ok { OnOk result (Appends (K.written out.old) (K.written out.new) (end_line tasks.now slots)) }
+    ensures part { OnErr result (AppendsPart (K.written out.old) (K.written out.new) (end_line tasks.now slots)) }
+    ensures counted { K.faults out.old ≤ K.faults out.new }
+    ensures failed { OnErr result (Rose (K.faults out.old) (K.faults out.new)) }
+{
+    let entry = Entry {
+        time: u64::from(slots),
+        what: What::End,
+        shown: Shown::new(0),
+    };
+    put_line(&entry, tasks, out)
 }
 
 /// The first eight spans, and the number of the others.
