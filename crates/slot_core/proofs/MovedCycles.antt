@@ -178,7 +178,7 @@ dl_moves : (n q period offset deadline after cycle i j k : ℕ) → q * period �
 dl_moves n q period offset deadline after cycle i j k e at_j at_k le =
     omega (arith, ap (λ c. n * c) e, ap (λ c. c * period) at_j, ap (λ c. c * period) at_k)
 
-IsMoved-from_instance : (set : TaskSet) (n g t i j k : ℕ) (graph : Graph) (task : Task) → is_sound set ≡ true → IsFeasible set (cycle_of set) → slice_get set.graphs g ≡ Some graph → slice_get graph.tasks t ≡ Some task → i < cycle_of set / graph.period → j ≡ n * (cycle_of set / graph.period) + i → k ≡ 0 * (cycle_of set / graph.period) + i → IsMoved (cycle_of set) (n * cycle_of set) (job_of set g graph k t task) (job_of set g graph j t task)
+pub IsMoved-from_instance : (set : TaskSet) (n g t i j k : ℕ) (graph : Graph) (task : Task) → is_sound set ≡ true → IsFeasible set (cycle_of set) → slice_get set.graphs g ≡ Some graph → slice_get graph.tasks t ≡ Some task → i < cycle_of set / graph.period → j ≡ n * (cycle_of set / graph.period) + i → k ≡ 0 * (cycle_of set / graph.period) + i → IsMoved (cycle_of set) (n * cycle_of set) (job_of set g graph k t task) (job_of set g graph j t task)
 IsMoved-from_instance set n g t i j k graph task sound feasible graph_at task_at within at_j at_k =
     let whole = cycle-multiple set g graph sound graph_at in
     let q = cycle_of set / graph.period in
