@@ -1,6 +1,6 @@
 -- One slot of earliest deadline first keeps the demand bound.
 use Rattle.std.proofs.Common.{◌≡◌, ℕ, ◌+◌, ◌*◌, ◌-◌, ◌<◌, ◌≤◌, Bool, true, false, cond, List, [], ◌∷◌, Option, Some, None, Ordering, inl, inr, arith, refl, sym, subst}
-use Rattle.std.specs.Prelude.{sum_by, ⊤, nat_le, nat_lt, ◌&&◌, fold, max, ◌⊎◌}
+use Rattle.std.specs.Prelude.{sum_by, All, ⊤, nat_le, nat_lt, ◌&&◌, fold, max, ◌⊎◌}
 use Rattle.std.specs.List.{AllByRecursion, range_with_len}
 use Rattle.std.specs.Ordering.{nat_cmp, is_lt, is_eq, ordering_then}
 use Rattle.std.proofs.lemmas.Bool.{leb-false, ltb-false}
@@ -17,9 +17,9 @@ use Rattle.slot_core.specs.declared.events.Ran.TheVariants.{Idle, Key as KeyRan}
 use Rattle.slot_core.specs.Keys.{same_key, is_earlier}
 use Rattle.slot_core.specs.Sporadics.{arrivals_due, sporadic_demand}
 use Rattle.slot_core.specs.Demand.{work_by, work_from}
-use Rattle.slot_core.specs.Choice.{earlier_of, earliest, ready}
+use Rattle.slot_core.specs.Choice.{earlier_of, earliest, ready, earliest_ready}
 use Rattle.slot_core.specs.Steps.{after_run, after_slot, IsSafe}
-use Rattle.service_laws.specs.Laws.{OneSlotKeepsTheDemandBound}
+use Rattle.slot_core.specs.Scenes.{Scene}
 
 -- the sum of the slots left of the jobs whose start and deadline pass the test
 abbrev work_where : (ℕ → ℕ → Bool) → List Job → ℕ
@@ -214,7 +214,9 @@ a_job_runs sporadics nexts jobs t end x job some safe low high e = by_test (nat_
     by_test false is_due =
         omega (arith, work_where-after (λ est dl. nat_le dl x) job.key jobs, no_job_due sporadics nexts jobs t end x safe low high (subst (IsDueAfter x) (sym e) (leb-false job.dl x is_due)))
 
-pub one_slot : OneSlotKeepsTheDemandBound
+-- from a scene that is safe up to `end`, the slot that runs the earliest ready job, or is idle where none
+-- is ready, leads to one that is safe up to `end`
+pub one_slot : (sporadics : List Sporadic) (scene : Scene) (end : ℕ) → All (λ (j : Job). 1 ≤ j.left) scene.jobs → scene.time < end → IsSafe sporadics scene.nexts scene.jobs scene.time end → IsSafe sporadics scene.nexts (after_slot (earliest_ready scene) scene.jobs) (scene.time + 1) end
 one_slot sporadics scene end some early safe = by_chosen (earliest (ready scene.time scene.jobs)) refl
   where
     by_chosen : (c : Option Job) → earliest (ready scene.time scene.jobs) ≡ c → IsSafe sporadics scene.nexts (after_slot (option_map_or (λ (j : Job). KeyRan j.key) c Idle) scene.jobs) (scene.time + 1) end
