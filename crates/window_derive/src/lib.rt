@@ -12,6 +12,8 @@ ghost use Rattle.window_derive.specs.Orders.{IsOrder, first_on_loop};
 mod chains;
 mod loops;
 mod places;
+#[cfg(test)]
+mod tests;
 mod windows;
 
 use loops::first_on_loop;
