@@ -7,8 +7,7 @@ ghost use Rattle.slot_core.specs.Precedence.{comes_after};
 
 use crate::{OrderFault, derive, order};
 use slot_core::{
-    AFTER_LIMIT, Afters, Graph, Graphs, Job, Key, Memory, Name, RawJob, Sporadics, TASK_LIMIT,
-    Task, TaskSet, Tasks,
+    Afters, Graph, Graphs, Job, Key, Memory, Name, RawJob, Sporadics, Task, TaskSet, Tasks,
 };
 use std::alloc::Global;
 use std::test::Fail;
@@ -106,42 +105,39 @@ fn pair(alloc: Global) -> Result<TaskSet, Memory>
 fn derives_windows(rt: HostRuntime) -> Result<(), Fail> {
     let alloc = rt.alloc();
     let set = pair(alloc)?;
-    // A set of two tasks, one with an entry, has to be within the limits.
-    if TASK_LIMIT > 1 && AFTER_LIMIT > 0 {
-        let a = Key::Offline(0, 0, 0);
-        let b = Key::Offline(0, 1, 0);
-        let raw = [
-            RawJob {
-                key: a,
-                release: 0,
-                deadline: 8,
-                wcet: 2,
-            },
-            RawJob {
-                key: b,
-                release: 0,
-                deadline: 8,
-                wcet: 1,
-            },
-        ];
-        let jobs = derive(alloc, &set, &raw)?;
-        let expected = [
-            Job {
-                key: a,
-                est: 0,
-                dl: 7,
-                left: 2,
-                declared: 2,
-            },
-            Job {
-                key: b,
-                est: 2,
-                dl: 8,
-                left: 1,
-                declared: 1,
-            },
-        ];
-        assert_eq!(rt; jobs.as_slice(), expected.as_slice());
-    }
+    let a = Key::Offline(0, 0, 0);
+    let b = Key::Offline(0, 1, 0);
+    let raw = [
+        RawJob {
+            key: a,
+            release: 0,
+            deadline: 8,
+            wcet: 2,
+        },
+        RawJob {
+            key: b,
+            release: 0,
+            deadline: 8,
+            wcet: 1,
+        },
+    ];
+    let jobs = derive(alloc, &set, &raw)?;
+    let expected = [
+        Job {
+            key: a,
+            est: 0,
+            dl: 7,
+            left: 2,
+            declared: 2,
+        },
+        Job {
+            key: b,
+            est: 2,
+            dl: 8,
+            left: 1,
+            declared: 1,
+        },
+    ];
+    assert_eq!(rt; jobs.as_slice(), expected.as_slice());
     Ok(())
 }
