@@ -16,8 +16,10 @@ ghost use Rattle.slot_cli.specs.Commands.{command_of};
 ghost use Rattle.slot_cli.specs.Outcomes.{status_of, name_of};
 ghost use Rattle.slot_cli.specs.Runs.{expected, planned_set, IsAnswer, IsReported, IsWritten};
 
+mod append;
 pub mod command;
 pub mod outcome;
+pub mod report;
 
 use slot_core::Words;
 use slot_io::{Files, Sink};
