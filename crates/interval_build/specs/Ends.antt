@@ -1,5 +1,5 @@
 -- The ends of consecutive spans.
-use Rattle.std.specs.Prelude.{◌≡◌, ℕ, ◌<◌, List, [], ◌∷◌, ⊤}
+use Rattle.std.specs.Prelude.{ℕ, ◌<◌, List, [], ◌∷◌, ⊤}
 
 -- ends that rise from above the start
 abbrev pub AreRising : ℕ → List ℕ → Type 0

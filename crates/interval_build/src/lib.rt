@@ -1,11 +1,16 @@
 //! Spans built from their ends and the jobs due in them.
 #![tactic(auto)]
 
-ghost use Rattle.std.specs.Prelude.{◌≡◌, ◌≤◌, ◌<◌, ◌^◌, length, sum_by, All, Contains, IfOk};
+ghost use Rattle.std.specs.Prelude.{◌≡◌, ◌≤◌, ◌<◌, ◌^◌, length, sum_by, nat_le, All, Contains, IfOk};
+ghost use Rattle.std.specs.List.{prefix_len};
 ghost use Rattle.slot_core.specs.declared.jobs.Job.{Job};
 ghost use Rattle.slot_core.specs.Plans.{AreInDeadlineOrder};
 ghost use Rattle.slot_core.specs.Spans.{spans_between};
 ghost use Rattle.interval_build.specs.Ends.{AreRising, last_end};
+ghost use Rattle.interval_build.specs.Rows.{rows_between};
+
+#[cfg(test)]
+mod tests;
 
 use slot_core::{Job, Memory, Span};
 use std::alloc::Global;
@@ -13,7 +18,12 @@ use std::alloc::Global;
 /// The spans between neighbouring ends, the first from `start`, each with the work due in it and its spare
 /// capacity as the least slack up to the last end. The jobs are in deadline order, and each is due at
 /// one of the ends. One pass over ends and jobs.
-pub fn spans_until(alloc: Global, start: u64, ends: &[u64], jobs: &[Job]) -> Result<Vec<Span>, Memory>
+pub fn spans_until(
+    alloc: Global,
+    start: u64,
+    ends: &[u64],
+    jobs: &[Job],
+) -> Result<Vec<Span>, Memory>
     requires rising { AreRising start ends.now }
     requires near { last_end start ends.now ≤ 2 ^ 40 }
     requires few { length ends.now ≤ 2 ^ 20 }
@@ -23,5 +33,51 @@ pub fn spans_until(alloc: Global, start: u64, ends: &[u64], jobs: &[Job]) -> Res
     ensures { IfOk result (λ spans.
         spans.items ≡ spans_between jobs.now (last_end start ends.now) start ends.now) }
 {
-    Err(Memory)
+    let mut rows = rows_until(alloc, start, ends, jobs)?;
+    spare_capacity::fill(&mut rows);
+    Ok(rows)
+}
+
+/// The spans between neighbouring ends with the work due in each, and with no capacities yet.
+fn rows_until(alloc: Global, start: u64, ends: &[u64], jobs: &[Job]) -> Result<Vec<Span>, Memory>
+    requires rising { AreRising start ends.now }
+    requires ordered { AreInDeadlineOrder jobs.now }
+    requires later { All (λ (j : Job). start < j.dl) jobs.now }
+    requires small { sum_by (λ (j : Job). j.left) jobs.now ≤ 2 ^ 40 }
+    ensures { IfOk result (λ rows. rows.items ≡ rows_between jobs.now start ends.now) }
+{
+    let mut rows = Vec::new(alloc);
+    let mut from = start;
+    let mut rest = jobs;
+    for end in ends {
+        let (due, later) = rest.split_at(count_due(rest, *end));
+        let row = Span {
+            start: from,
+            end: *end,
+            work: work_of(due),
+            spare: 0,
+        };
+        if rows.push(row).is_err() {
+            return Err(Memory);
+        }
+        from = *end;
+        rest = later;
+    }
+    Ok(rows)
+}
+
+/// The number of jobs at the front that are due by `end`.
+fn count_due(jobs: &[Job], end: u64) -> usize
+    ensures count { result ≡ prefix_len (λ (j : Job). nat_le j.dl end) jobs.now }
+    ensures within { result ≤ length jobs.now }
+{
+    jobs.iter().take_while(|job| job.dl <= end).count()
+}
+
+/// The slots that the jobs have still to run.
+fn work_of(jobs: &[Job]) -> u64
+    requires { sum_by (λ (j : Job). j.left) jobs.now ≤ 2 ^ 40 }
+    ensures { result ≡ sum_by (λ (j : Job). j.left) jobs.now }
+{
+    jobs.iter().map(|job| u64::from(job.left)).sum()
 }

@@ -10,6 +10,8 @@ pub mod list;
 pub mod name;
 pub mod shown;
 pub mod tasks;
+#[cfg(test)]
+mod tests;
 pub mod words;
 
 pub use events::{Arrival, Done, Entry, Event, Firm, Ran, Soft, Spo, What};

@@ -1,8 +1,13 @@
 //! Spare capacities of consecutive spans.
 #![tactic(auto)]
 
-ghost use Rattle.std.specs.Prelude.{◌≡◌, ◌≤◌, ◌^◌, length};
-ghost use Rattle.spare_capacity.specs.Recurrence.{filled, AreConsecutive};
+ghost use Rattle.std.specs.Prelude.{◌≡◌, ◌+◌, ◌≤◌, ◌<◌, ◌^◌, ◌++◌, length, take, drop, pos, neg_ℤ, ◌≤ℤ◌};
+ghost use Rattle.spare_capacity.specs.Recurrence.{filled, first_spare, AreConsecutive};
+ghost use Rattle.spare_capacity.specs.Refill.{refilled, with_spare, CanRefill, IsShort};
+
+pub mod laws;
+#[cfg(test)]
+mod tests;
 
 use slot_core::Span;
 
@@ -13,5 +18,37 @@ pub fn fill(rows: &mut [Span])
     requires few { length rows.old ≤ 2 ^ 20 }
     ensures { rows.new ≡ filled rows.old }
 {
-    let _ = rows;
+    for at in (0..rows.len()).rev() {
+        refill(rows, at);
+    }
+}
+
+/// Sets the capacity of the row at this place by that of the row after it.
+fn refill(rows: &mut [Span], at: usize)
+    requires within { at < length rows.old }
+    requires short { CanRefill (drop at rows.old) }
+    ensures { rows.new ≡ take at rows.old ++ refilled (drop at rows.old) }
+{
+    let later = spare_from(rows, at + 1);
+    rows[at] = with_spare(rows[at], later);
+}
+
+/// The capacity of the row at this place, or 0 where there is none.
+fn spare_from(rows: &[Span], at: usize) -> i64
+    ensures { result ≡ first_spare (drop at rows.now) }
+{
+    if at < rows.len() { rows[at].spare } else { 0 }
+}
+
+/// The row with its capacity, where the row after it has this one.
+fn with_spare(row: Span, later: i64) -> Span
+    requires short { IsShort row }
+    requires borrows_few { neg_ℤ (pos (2 ^ 60)) ≤ℤ later }
+    ensures { result ≡ with_spare row later }
+{
+    let slots = row.end - row.start;
+    Span {
+        spare: (slots as i64 - row.work as i64) + later.min(0),
+        ..row
+    }
 }

@@ -1,0 +1,105 @@
+-- The rows between ends, filled by the recurrence, are the spans.
+use Rattle.std.proofs.Common.{◌≡◌, ℕ, zero, suc, ◌<◌, ◌≤◌, ◌^◌, ◌⊎◌, ℤ, pos, ◌+ℤ◌, List, [], ◌∷◌, length, get_or, sum_by, All, Contains, refl, sym, ◌∙◌, ap, inl, inr, ⊎_elim, arith}
+use Rattle.std.specs.Int.{int_min}
+use Rattle.std.specs.List.{AllByRecursion}
+use Rattle.std.proofs.lemmas.Int.{ints}
+use Rattle.std.proofs.lemmas.List.Elements.{recursion_from_All}
+use Rattle.slot_core.specs.declared.jobs.Job.{Job}
+use Rattle.slot_core.specs.declared.jobs.Span.{Span}
+use Rattle.slot_core.specs.Demand.{work_between}
+use Rattle.slot_core.specs.Spans.{slack, spans_between}
+use Rattle.spare_capacity.specs.Recurrence.{filled, first_spare, FollowOn, AreConsecutive}
+use Rattle.interval_build.specs.Ends.{AreRising, last_end}
+use Rattle.interval_build.specs.Rows.{rows_between}
+use Rattle.interval_build.proofs.Due.{left_of, work_between-le}
+use Rattle.interval_build.proofs.Capacities.{NoneBetween, capacity_before, capacity_of_last}
+
+-- x is one of the ends
+abbrev pub IsAmong : List ℕ → ℕ → Type 0
+IsAmong [] x = ⊥
+IsAmong (e ∷ ends) x = (x ≡ e) ⊎ IsAmong ends x
+
+IsAmong-from_place : (ends : List ℕ) (k x : ℕ) → k < length ends → get_or ends k x ≡ x → IsAmong ends x
+IsAmong-from_place [] k x l e = elim l [ ]
+IsAmong-from_place (y ∷ ends) zero x l e = inl (sym e)
+IsAmong-from_place (y ∷ ends) (suc k) x l e = inr (IsAmong-from_place ends k x (omega arith) e)
+
+-- each job is due by s or at one of the ends
+abbrev pub AreDueAt : List Job → ℕ → List ℕ → Type 0
+AreDueAt jobs s ends = AllByRecursion (λ (j : Job). (j.dl ≤ s) ⊎ IsAmong ends j.dl) jobs
+
+pub AreDueAt-from_All : (jobs : List Job) (s : ℕ) (ends : List ℕ) → All (λ (j : Job). Contains ends j.dl) jobs → AreDueAt jobs s ends
+AreDueAt-from_All jobs s ends h =
+    recursion_from_All (λ (j : Job). (j.dl ≤ s) ⊎ IsAmong ends j.dl) jobs
+    (λ k d l. let c = h k d l in inr (IsAmong-from_place ends c.0 (get_or jobs k d).dl c.1 c.2))
+
+-- ends that rise from s are above it, and the last is not below it
+IsAmong-above : (s : ℕ) (ends : List ℕ) (x : ℕ) → AreRising s ends → IsAmong ends x → s < x
+IsAmong-above s [] x rising h = elim h [ ]
+IsAmong-above s (e ∷ ends) x rising h =
+    ⊎_elim
+    (λ same. omega (arith, rising.0))
+    (λ among. let above : e < x = IsAmong-above e ends x rising.1 among in omega (arith, rising.0))
+    h
+
+pub last_end-above : (s : ℕ) (ends : List ℕ) → AreRising s ends → s ≤ last_end s ends
+last_end-above s [] rising = omega arith
+last_end-above s (e ∷ ends) rising =
+    let above : e ≤ last_end e ends = last_end-above e ends rising.1 in
+    omega (arith, rising.0)
+
+-- the jobs of the ends are due after the start
+pub AreDueAfter-start : (jobs : List Job) (s : ℕ) (ends : List ℕ) → AreRising s ends → All (λ (j : Job). Contains ends j.dl) jobs → All (λ (j : Job). s < j.dl) jobs
+AreDueAfter-start jobs s ends rising h k d l =
+    let c = h k d l in
+    IsAmong-above s ends (get_or jobs k d).dl rising (IsAmong-from_place ends c.0 (get_or jobs k d).dl c.1 c.2)
+
+-- one span on, the jobs due at its end are due by it
+AreDueAt-next : (jobs : List Job) (s e : ℕ) (ends : List ℕ) → s < e → AreDueAt jobs s (e ∷ ends) → AreDueAt jobs e ends
+AreDueAt-next [] s e ends l h = tt
+AreDueAt-next (j ∷ jobs) s e ends l h =
+    (⊎_elim (λ by. inl (omega arith)) (⊎_elim (λ same. inl (omega arith)) inr) h.0, AreDueAt-next jobs s e ends l h.1)
+
+-- and none is due between that end and the next
+NoneBetween-ends : (jobs : List Job) (e next : ℕ) (ends : List ℕ) → AreRising next ends → AreDueAt jobs e (next ∷ ends) → NoneBetween jobs e next
+NoneBetween-ends [] e next ends rising h = tt
+NoneBetween-ends (j ∷ jobs) e next ends rising h =
+    (⊎_elim inl (λ among. inr (⊎_elim (λ same. omega arith) (λ later. let above : next < j.dl = IsAmong-above next ends j.dl rising later in omega arith) among)) h.0, NoneBetween-ends jobs e next ends rising h.1)
+
+add_zero : (z : ℤ) → z +ℤ int_min (pos 0) (pos 0) ≡ z
+add_zero z = omega (arith, ints)
+
+spans_cons : (s e work : ℕ) (y z : ℤ) (xs ys : List Span) → y ≡ z → xs ≡ ys → ◌≡◌ {A = List Span} (record { start = s; end = e; work = work; spare = y } ∷ xs) (record { start = s; end = e; work = work; spare = z } ∷ ys)
+spans_cons s e work y z xs ys p q = cc
+
+-- the rows, filled, are the spans
+pub filled-rows_between : (jobs : List Job) (s : ℕ) (ends : List ℕ) → AreRising s ends → AreDueAt jobs s ends → filled (rows_between jobs s ends) ≡ spans_between jobs (last_end s ends) s ends
+filled-rows_between jobs s [] rising due = refl
+filled-rows_between jobs s (e ∷ []) rising due =
+    spans_cons s e (work_between jobs s e) _ _ [] [] (add_zero (slack jobs s e) ∙ sym (capacity_of_last jobs s e)) refl
+filled-rows_between jobs s (e ∷ (next ∷ ends)) rising due =
+    let last = last_end next ends in
+    let due_next = AreDueAt-next jobs s e (next ∷ ends) rising.0 due in
+    let rest : filled (rows_between jobs e (next ∷ ends)) ≡ spans_between jobs last e (next ∷ ends) = filled-rows_between jobs e (next ∷ ends) rising.1 due_next in
+    let none = NoneBetween-ends jobs e next ends rising.1.1 due_next in
+    let spare = capacity_before jobs s e next last (omega (arith, rising.0)) rising.1.0 (last_end-above next ends rising.1.1) none in
+    spans_cons s e (work_between jobs s e) _ _ _ _ (ap (λ xs. slack jobs s e +ℤ int_min (pos 0) (first_spare xs)) rest ∙ sym spare) rest
+
+-- rows between ends that rise are consecutive
+FollowOn-rows_between : (jobs : List Job) (s : ℕ) (ends : List ℕ) → AreRising s ends → last_end s ends ≤ 2 ^ 40 → sum_by left_of jobs ≤ 2 ^ 40 → FollowOn s (rows_between jobs s ends)
+FollowOn-rows_between jobs s [] rising near small = tt
+FollowOn-rows_between jobs s (e ∷ ends) rising near small =
+    let above : e ≤ last_end e ends = last_end-above e ends rising.1 in
+    (refl, rising.0, omega arith, omega (arith, work_between-le jobs s e), FollowOn-rows_between jobs e ends rising.1 near small)
+
+pub AreConsecutive-rows_between : (jobs : List Job) (s : ℕ) (ends : List ℕ) → AreRising s ends → last_end s ends ≤ 2 ^ 40 → sum_by left_of jobs ≤ 2 ^ 40 → AreConsecutive (rows_between jobs s ends)
+AreConsecutive-rows_between jobs s [] rising near small = tt
+AreConsecutive-rows_between jobs s (e ∷ ends) rising near small = FollowOn-rows_between jobs s (e ∷ ends) rising near small
+
+pub length-rows_between : (jobs : List Job) (s : ℕ) (ends : List ℕ) → length (rows_between jobs s ends) ≡ length ends
+length-rows_between jobs s [] = refl
+length-rows_between jobs s (e ∷ ends) = ap suc (length-rows_between jobs e ends)
+
+pub length-filled : (rows : List Span) → length (filled rows) ≡ length rows
+length-filled [] = refl
+length-filled (r ∷ rows) = ap suc (length-filled rows)

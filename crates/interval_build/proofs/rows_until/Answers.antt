@@ -1,0 +1,42 @@
+use Rattle.std.proofs.Common.{◌++◌, ◌∙◌, ◌<◌, sym, refl, ap, get_or, sum_by, subst, drop, ◌+◌, not, arith}
+use Rattle.std.proofs.lemmas.Bool.{cond-true}
+use Rattle.std.proofs.lemmas.List.Elements.{recursion_from_All}
+use Rattle.slot_core.specs.declared.jobs.Job.{Job}
+use Rattle.slot_core.specs.Plans.{AreInDeadlineOrder}
+use Rattle.interval_build.specs.Rows.{rows_between}
+use Rattle.interval_build.proofs.Due.{left_of, all_due_after, work_of_front, rest_of_front, work_between-le, AreInDeadlineOrder-drop}
+use Rattle.interval_build.proofs.RowSteps.{AreRising-turn, rows_turn}
+use Rattle.interval_build.proofs.rows_until.Goals as goal
+
+pub loop-end-init : goal.loop-end-init
+loop-end-init c =
+    let jobs = c.args.jobs.now in
+    record {
+      rows = rw c.new-rows.ensures.items refl;
+      rising = c.requires.rising;
+      rest = sym (all_due_after c.args.start jobs (recursion_from_All (λ (j : Job). c.args.start < j.dl) jobs c.requires.later));
+      ordered = c.requires.ordered;
+    }
+
+pub work_of-requires : goal.work_of-requires
+work_of-requires c =
+    let jobs = c.args.jobs.now in
+    let end = get_or c.args.ends.now c.loop-end.end-index 0 in
+    let before = c.loop-end.invariant in
+    let work = ap (sum_by left_of) c.split_at.ensures.front ∙ work_of_front jobs c.loop-end.rest.now c.loop-end.from end c.count_due.result before.rest before.ordered c.count_due.ensures.count in
+    omega (arith, work, work_between-le jobs c.loop-end.from end, c.requires.small)
+
+pub loop-end-preserved : goal.loop-end-preserved
+loop-end-preserved c =
+    let jobs = c.args.jobs.now in
+    let end = get_or c.args.ends.now c.loop-end.end-index 0 in
+    let before = c.loop-end.invariant in
+    let turn = AreRising-turn c.loop-end.from c.loop-end.end-index c.args.ends.now c.loop-end-test.true before.rising in
+    let work = c.work_of.ensures ∙ ap (sum_by left_of) c.split_at.ensures.front ∙ work_of_front jobs c.loop-end.rest.now c.loop-end.from end c.count_due.result before.rest before.ordered c.count_due.ensures.count in
+    let pushed = c.push.ensures.items ∙ cond-true _ _ _ (c.is_err.ensures.negation ∙ ap not c.if-is_err.false) in
+    record {
+      rows = ap (λ rows. rows ++ rows_between jobs end (drop (c.loop-end.end-index + 1) c.args.ends.now)) pushed ∙ rows_turn jobs c.loop-end.rows.items _ c.loop-end.from c.loop-end.end-index c.work_of.result c.args.ends.now c.loop-end-test.true before.rows work;
+      rising = turn.1;
+      rest = c.split_at.ensures.back ∙ rest_of_front jobs c.loop-end.rest.now c.loop-end.from end c.count_due.result (omega (arith, turn.0)) before.rest before.ordered c.count_due.ensures.count;
+      ordered = subst AreInDeadlineOrder (sym c.split_at.ensures.back) (AreInDeadlineOrder-drop c.count_due.result c.loop-end.rest.now before.ordered);
+    }

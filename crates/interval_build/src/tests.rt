@@ -1,0 +1,47 @@
+//! Spans of a set whose jobs borrow from the spans before them.
+
+ghost use Rattle.std.specs.Prelude.{◌≡◌};
+ghost use Rattle.slot_core.specs.declared.jobs.Key.TheVariants.{Firm};
+
+use crate::spans_until;
+use slot_core::{Job, Key};
+use std::test::Fail;
+
+#[test]
+fn builds_spans_that_borrow(rt: HostRuntime) -> Result<(), Fail> {
+    let ends = [4, 10, 14, 20, 24, 30];
+    let jobs = [
+        job(1, 4, 1),
+        job(2, 10, 8),
+        job(3, 14, 1),
+        job(4, 20, 8),
+        job(5, 24, 1),
+        job(6, 30, 8),
+    ];
+    let spans = spans_until(rt.alloc(), 0, &ends, &jobs)?;
+    let rows = [
+        (0, 4, 1, 1),
+        (4, 10, 8, -2),
+        (10, 14, 1, 1),
+        (14, 20, 8, -2),
+        (20, 24, 1, 1),
+        (24, 30, 8, -2),
+    ];
+    assert_eq!(rt; spans.len(), rows.len());
+    for (span, want) in spans.iter().zip(&rows) {
+        assert_eq!(rt; (span.start, span.end, span.work, span.spare), *want);
+    }
+    Ok(())
+}
+
+fn job(row: u32, dl: u64, left: u32) -> Job
+    ensures { result ≡ record { key = Firm row; est = 0; dl = dl; left = left; declared = left } }
+{
+    Job {
+        key: Key::Firm(row),
+        est: 0,
+        dl,
+        left,
+        declared: left,
+    }
+}
