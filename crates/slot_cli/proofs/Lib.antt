@@ -1,2 +1,6 @@
 pub mod NumberLemmas
 pub mod Appended
+pub mod FirstSome
+pub mod FeasibleLemmas
+pub mod Plannings
+pub mod StepLemmas

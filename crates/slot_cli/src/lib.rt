@@ -20,6 +20,7 @@ mod append;
 pub mod command;
 pub mod outcome;
 pub mod report;
+pub mod stages;
 
 use slot_core::Words;
 use slot_io::{Files, Sink};
