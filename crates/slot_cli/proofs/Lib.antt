@@ -4,3 +4,5 @@ pub mod FirstSome
 pub mod FeasibleLemmas
 pub mod Plannings
 pub mod StepLemmas
+pub mod PlaceLemmas
+pub mod EndLemmas

@@ -21,6 +21,7 @@ pub mod command;
 pub mod outcome;
 pub mod report;
 pub mod stages;
+pub mod work;
 
 use slot_core::Words;
 use slot_io::{Files, Sink};

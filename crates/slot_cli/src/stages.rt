@@ -4,6 +4,7 @@ ghost use Rattle.std.specs.Prelude.{◌≡◌, true, [], Some, Ok, Err, IfOk, If
 ghost use Rattle.slot_core.specs.Plans.{IsPlan};
 ghost use Rattle.slot_core.specs.Ranges.{is_sound};
 ghost use Rattle.slot_io.specs.Files.{Held};
+ghost use Rattle.slot_cli.specs.Outcomes.{is_early};
 ghost use Rattle.slot_cli.specs.Runs.{bytes_of, set_of, feasible_set, planned_set, no_arrivals, arrivals_of};
 ghost use Rattle.slot_cli.specs.Works.{IsRefusal, IsReadable, IsBlamed};
 
@@ -23,6 +24,7 @@ pub fn read_file<F: Files>(
     ensures due { (held : Held) → F.held files.old ≡ Some held
         → MatchResult result (λ bytes. bytes_of held words.now file ≡ Ok bytes.items)
             (IsRefusal (λ e. e ≡ Outcome.Unreadable file) (bytes_of held words.now file)) }
+    ensures early { IfErr result (λ e. is_early e ≡ true) }
     ensures keeps { F.held files.new ≡ F.held files.old }
     ensures blamed { MatchResult result (λ _. F.faults files.new ≡ F.faults files.old)
         (λ e. IsBlamed words.now e (F.faults files.old) (F.faults files.new) (F.blamed files.new)) }
@@ -43,6 +45,7 @@ pub fn read_file<F: Files>(
 /// The set that the bytes of the task file write.
 pub fn load_set(alloc: Global, bytes: &[u8]) -> Result<TaskSet, Outcome>
     ensures due { MatchResult result (λ set. set_of bytes.now ≡ Ok set) (IsRefusal (λ _. ⊥) (set_of bytes.now)) }
+    ensures early { IfErr result (λ e. is_early e ≡ true) }
     ensures readable { IfErr result IsReadable }
     ensures sound { IfOk result (λ set. is_sound set ≡ true) }
 {
@@ -57,6 +60,7 @@ pub fn load_set(alloc: Global, bytes: &[u8]) -> Result<TaskSet, Outcome>
 pub fn plan_of(alloc: Global, set: TaskSet) -> Result<Plan, Outcome>
     requires { is_sound set ≡ true }
     ensures due { MatchResult result (λ plan. feasible_set set ≡ Ok plan.tasks) (IsRefusal (λ _. ⊥) (feasible_set set)) }
+    ensures early { IfErr result (λ e. is_early e ≡ true) }
     ensures readable { IfErr result IsReadable }
     ensures plan { IfOk result IsPlan }
 {
@@ -73,6 +77,7 @@ pub fn planned<F: Files>(alloc: Global, words: &Words, files: &mut F) -> Result<
         → MatchResult result (λ plan. planned_set held words.now ≡ Ok plan.tasks)
             (IsRefusal (λ e. e ≡ Outcome.Unreadable File.Tasks) (planned_set held words.now)) }
     ensures plan { IfOk result IsPlan }
+    ensures early { IfErr result (λ e. is_early e ≡ true) }
     ensures keeps { F.held files.new ≡ F.held files.old }
     ensures blamed { MatchResult result (λ _. F.faults files.new ≡ F.faults files.old)
         (λ e. IsBlamed words.now e (F.faults files.old) (F.faults files.new) (F.blamed files.new)) }
@@ -92,6 +97,7 @@ pub fn read_arrivals<F: Files>(alloc: Global, words: &Words, files: &mut F) -> R
     ensures due { (held : Held) → F.held files.old ≡ Some held
         → MatchResult result (λ _. arrivals_of held words.now ≡ Ok [])
             (IsRefusal (λ e. e ≡ Outcome.Unreadable File.Arrivals) (arrivals_of held words.now)) }
+    ensures early { IfErr result (λ e. is_early e ≡ true) }
     ensures keeps { F.held files.new ≡ F.held files.old }
     ensures blamed { IfErr result
         (λ e. IsBlamed words.now e (F.faults files.old) (F.faults files.new) (F.blamed files.new)) }
@@ -105,6 +111,7 @@ pub fn read_arrivals<F: Files>(alloc: Global, words: &Words, files: &mut F) -> R
 /// Refuses bytes of an arrivals file.
 fn no_arrivals(bytes: &[u8]) -> Result<(), Outcome>
     ensures due { MatchResult result (λ _. no_arrivals bytes.now ≡ Ok []) (IsRefusal (λ _. ⊥) (no_arrivals bytes.now)) }
+    ensures early { IfErr result (λ e. is_early e ≡ true) }
     ensures readable { IfErr result IsReadable }
 {
     if bytes.is_empty() {
