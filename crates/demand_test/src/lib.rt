@@ -8,8 +8,17 @@ ghost use Rattle.slot_core.specs.Feasible.{demand, window_demand, counterexample
 ghost use Rattle.slot_core.specs.Ranges.{is_sound};
 ghost use Rattle.demand_test.specs.Verdicts.{verdict_of};
 
+mod arrivals;
+mod offline;
+#[cfg(test)]
+mod tests;
+mod windows;
+
+use arrivals::needed_by;
+use offline::offline_slots;
 use slot_core::{Job, Memory, Sporadic, TaskSet, Window};
 use std::alloc::Global;
+use windows::first_failing;
 
 /// The outcome of the cycle test.
 #[derive(Clone, Copy, PartialEq, Eq, Debug)]
@@ -26,16 +35,32 @@ pub fn total(tasks: &TaskSet, cycle: u32) -> u64
     requires cycle { cycle ≡ cycle_of tasks.now }
     ensures { result ≡ demand tasks.now cycle 0 cycle }
 {
-    0
+    let arriving = needed_by(tasks.sporadics.items(), cycle).unwrap();
+    offline_slots(tasks.graphs.items(), cycle) + arriving
 }
 
 /// Tries every window that starts in the first cycle and ends in the first two. The jobs are those of one
 /// cycle, whose demand as a whole fits it.
-pub fn test(alloc: Global, jobs: &[Job], sporadics: &[Sporadic], cycle: u32) -> Result<Verdict, Memory>
+pub fn test(
+    alloc: Global,
+    jobs: &[Job],
+    sporadics: &[Sporadic],
+    cycle: u32,
+) -> Result<Verdict, Memory>
     requires cycle { cycle ≤ 4096 }
     requires within { All (λ (j : Job). j.dl ≤ cycle) jobs.now }
     requires fits { window_demand jobs.now sporadics.now cycle 0 cycle ≤ cycle }
     ensures { IfOk result (λ v. v ≡ verdict_of (counterexample_in jobs.now sporadics.now cycle)) }
 {
-    Err(Memory)
+    if cycle == 0 {
+        return Ok(Verdict::Fits);
+    }
+    let Ok(mut ordered) = Vec::from_slice(alloc, jobs) else {
+        return Err(Memory);
+    };
+    ordered.sort_unstable_by_key(|job| job.est);
+    match first_failing(alloc, ordered.as_slice(), sporadics, cycle)? {
+        Some(window) => Ok(Verdict::Fails(window)),
+        None => Ok(Verdict::Fits),
+    }
 }

@@ -99,7 +99,3 @@ AreConsecutive-rows_between jobs s (e ∷ ends) rising near small = FollowOn-row
 pub length-rows_between : (jobs : List Job) (s : ℕ) (ends : List ℕ) → length (rows_between jobs s ends) ≡ length ends
 length-rows_between jobs s [] = refl
 length-rows_between jobs s (e ∷ ends) = ap suc (length-rows_between jobs e ends)
-
-pub length-filled : (rows : List Span) → length (filled rows) ≡ length rows
-length-filled [] = refl
-length-filled (r ∷ rows) = ap suc (length-filled rows)

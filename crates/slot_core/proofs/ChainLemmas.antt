@@ -115,7 +115,7 @@ module _ (step : ℕ → List ℕ) (n : ℕ) (Walk : ℕ → ℕ → ℕ → Typ
 leads_to_one : (tasks : List Task) (a b : ℕ) → comes_after tasks a b ≡ true → leads_to tasks 1 a b ≡ true
 leads_to_one tasks a b h = h
 
-leads_to_more : (tasks : List Task) (k a b c : ℕ) → comes_after tasks a b ≡ true → leads_to tasks k b c ≡ true → leads_to tasks (suc k) a c ≡ true
+pub leads_to_more : (tasks : List Task) (k a b c : ℕ) → comes_after tasks a b ≡ true → leads_to tasks k b c ≡ true → leads_to tasks (suc k) a c ≡ true
 leads_to_more tasks k a b c first rest =
     let r = Has-from_list_any (λ q. eqb q b) (after_of tasks a) first in
     list_any-from_Has
@@ -125,7 +125,7 @@ leads_to_more tasks k a b c first rest =
     r.1
     (ap (λ q. leads_to tasks k q c) (eqb-true r.0 b r.2) ∙ rest)
 
-leads_to_push : (tasks : List Task) (k a b c : ℕ) → leads_to tasks k a b ≡ true → comes_after tasks b c ≡ true → leads_to tasks (suc k) a c ≡ true
+pub leads_to_push : (tasks : List Task) (k a b c : ℕ) → leads_to tasks k a b ≡ true → comes_after tasks b c ≡ true → leads_to tasks (suc k) a c ≡ true
 leads_to_push tasks zero a b c rest last = ap (λ q. comes_after tasks q c) (eqb-true a b rest) ∙ last
 leads_to_push tasks (suc k) a b c rest last =
     let r = Has-from_list_any (λ q. leads_to tasks k q b) (after_of tasks a) rest in

@@ -27,10 +27,10 @@ pub use words::Words;
 pub const GRAPH_LIMIT: usize = 32;
 
 /// Most tasks in a graph.
-pub const TASK_LIMIT: usize = 1;
+pub const TASK_LIMIT: usize = 32;
 
 /// Most `after` entries of a task.
-pub const AFTER_LIMIT: usize = 0;
+pub const AFTER_LIMIT: usize = 31;
 
 /// Most sporadic tasks in a task set.
 pub const SPORADIC_LIMIT: usize = 0;

@@ -1,0 +1,6 @@
+pub mod Documents
+pub mod Eachs
+pub mod FieldRanges
+pub mod JoinedTasks
+pub mod SameTexts
+pub mod ShapeRanges

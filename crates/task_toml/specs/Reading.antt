@@ -1,5 +1,5 @@
 -- The reading of a task file: the task set that its bytes write, or the first fault of them.
-use Rattle.std.specs.Prelude.{ℕ, ◌+◌, ◌-◌, ◌==◌, ◌&&◌, Bool, true, false, List, [], ◌∷◌, length, map, min, nat_lt, if◌then◌else◌, Option, Some, None, Result, Ok, Err, option_map}
+use Rattle.std.specs.Prelude.{ℕ, ◌+◌, ◌-◌, ◌==◌, List, [], ◌∷◌, length, map, min, nat_lt, if◌then◌else◌, Option, Some, None, Ok, Err, option_map}
 use Rattle.std.specs.Option.{option_map_or}
 use Rattle.std.specs.Str.{is_utf8}
 use Rattle.std.specs.List.{position_or_len}
@@ -10,12 +10,9 @@ use Rattle.slot_core.specs.declared.tasks.Task.{Task}
 use Rattle.slot_core.specs.declared.tasks.Graph.{Graph}
 use Rattle.slot_core.specs.declared.tasks.Sporadic.{Sporadic as SporadicTask}
 use Rattle.slot_core.specs.declared.tasks.TaskSet.{TaskSet}
-use Rattle.slot_core.specs.declared.faults.Part.{Part}
 use Rattle.slot_core.specs.declared.faults.Part.TheVariants.{Top, Graph as GraphPart, Task as TaskPart, Sporadic as SporadicPart}
-use Rattle.slot_core.specs.declared.faults.Field.{Field}
 use Rattle.slot_core.specs.declared.faults.Field.TheVariants.{Soft, Graph as GraphKey, Sporadic, Name, Period, Offset, Deadline, Task as TaskKey, Wcet, After, Separation}
 use Rattle.slot_core.specs.declared.faults.Place.{Place}
-use Rattle.slot_core.specs.declared.faults.TaskFault.{TaskFault}
 use Rattle.slot_core.specs.declared.faults.TaskFault.TheVariants.{NotToml, Missing, WrongKind, TooMany}
 use Rattle.slot_core.specs.Faults.{same_name, set_fault}
 use Rattle.task_toml.specs.TomlFields.{Read, ◌>>=◌, or_fault, known_keys, at_key, number_at, name_at}
@@ -117,11 +114,13 @@ set_of members = do
 abbrev pub without_fault : TaskSet → Read TaskSet
 without_fault set = option_map_or (λ fault. Err fault) (set_fault set) (Ok set)
 
--- the set of a document, or its first fault
-abbrev pub document_set : Option Members → Read TaskSet
-document_set None = Err NotToml
-document_set (Some members) = set_of members >>= without_fault
+-- the top table of the bytes
+abbrev pub document_of : List ℕ → Read Members
+document_of bytes = if is_utf8 bytes then or_fault NotToml (parse_document bytes) else Err NotToml
 
 -- the reading of the bytes of a task file
 abbrev pub reading_of_tasks : List ℕ → Read TaskSet
-reading_of_tasks bytes = if is_utf8 bytes then document_set (parse_document bytes) else Err NotToml
+reading_of_tasks bytes = do
+  members ← document_of bytes
+  set ← set_of members
+  without_fault set

@@ -1,13 +1,13 @@
 -- What stands at a key of a table of the task file, or the fault there.
-use Rattle.std.specs.Prelude.{ℕ, ◌&&◌, ◌||◌, ◌==◌, ◌+◌, Bool, true, false, ℤ, pos, nat_abs, int_le, List, [], ◌∷◌, length, min, nat_lt, if◌then◌else◌, Option, Some, None, Result, Ok, Err, option_map}
-use Rattle.toml.specs.Data.{Data, string, integer, array, table, Items, no_items, item, Members, no_members, member, get_member}
+use Rattle.std.specs.Prelude.{◌≡◌, ◌≢◌, MatchResult, ℕ, ◌&&◌, ◌||◌, Bool, true, pos, nat_abs, int_le, List, if◌then◌else◌, Option, Some, None, Result, Ok, Err}
+use Rattle.toml.specs.Data.{Data, string, integer, Members, no_members, member, get_member}
 use Rattle.slot_core.specs.declared.faults.Part.{Part}
 use Rattle.slot_core.specs.declared.faults.Part.TheVariants.{Top, Graph as GraphPart, Task as TaskPart, Sporadic as SporadicPart}
 use Rattle.slot_core.specs.declared.faults.Field.{Field}
 use Rattle.slot_core.specs.declared.faults.Field.TheVariants.{Soft, Graph, Sporadic, Name, Period, Offset, Deadline, Task, Wcet, After, Separation}
 use Rattle.slot_core.specs.declared.faults.Place.{Place}
 use Rattle.slot_core.specs.declared.faults.TaskFault.{TaskFault}
-use Rattle.slot_core.specs.declared.faults.TaskFault.TheVariants.{UnknownKey, Missing, WrongKind, OutOfRange, BadName, TooMany}
+use Rattle.slot_core.specs.declared.faults.TaskFault.TheVariants.{Memory, UnknownKey, Missing, WrongKind, OutOfRange, BadName}
 use Rattle.slot_core.specs.Names.{is_name}
 use Rattle.slot_core.specs.Faults.{same_name}
 use Rattle.slot_core.specs.FaultTexts.{field_word}
@@ -20,6 +20,13 @@ infixl 10 ◌>>=◌
 abbrev pub ◌>>=◌ : {X Y : Type 0} → Read X → (X → Read Y) → Read Y
 Ok x >>= f = f x
 Err fault >>= f = Err fault
+
+-- the code's answer is what is read, as `seen` sees it, but that memory may run out
+abbrev pub AnswersAs : {A X : Type 0} → (A → X) → Result A TaskFault → Read X → Type 0
+AnswersAs seen answer read = MatchResult answer (λ a. read ≡ Ok (seen a)) (λ e. e ≢ Memory → read ≡ Err e)
+
+abbrev pub Answers : {X : Type 0} → Result X TaskFault → Read X → Type 0
+Answers = AnswersAs (λ x. x)
 
 -- the key is one that a table of this part knows
 abbrev pub knows_key : Part → List ℕ → Bool

@@ -3,10 +3,26 @@
 
 ghost use Rattle.std.specs.Prelude.{◌≡◌, ◌≢◌, Ok, Err, true, IfOk, IfErr};
 ghost use Rattle.slot_core.specs.Ranges.{is_sound};
-ghost use Rattle.task_toml.specs.Reading.{reading_of_tasks};
+ghost use Rattle.task_toml.specs.Reading.{document_of, reading_of_tasks, set_of};
+ghost use Rattle.task_toml.specs.TomlFields.{Answers, AnswersAs};
+ghost use Rattle.toml.specs.View.{table_view};
 
-use slot_core::{TaskFault, TaskSet};
+mod check;
+mod fields;
+mod graphs;
+mod tables;
+#[cfg(test)]
+mod tests;
+
+use check::check_set;
+use fields::{check_keys, number_at};
+use graphs::{read_graphs, read_sporadics};
+use slot_core::{
+    Field, GRAPH_LIMIT, Part, SOFT_DEFAULT, SOFT_LIMIT, SPORADIC_LIMIT, TaskFault, TaskSet,
+};
 use std::alloc::Global;
+use tables::{tables_at, tables_or_none_at};
+use toml::Table;
 
 /// The task set that the bytes of a task file write. Any fault but want of memory is the first fault of
 /// the file: its shape table by table, then doubled names, wrong `after` entries, loops and the cycle.
@@ -15,5 +31,37 @@ pub fn read_tasks(alloc: Global, bytes: &[u8]) -> Result<TaskSet, TaskFault>
     ensures sound { IfOk result (λ set. is_sound set ≡ true) }
     ensures fault { IfErr result (λ e. e ≢ TaskFault.Memory → reading_of_tasks bytes.now ≡ Err e) }
 {
-    Err(TaskFault::Memory)
+    let document = read_document(alloc, bytes)?;
+    let set = read_set(alloc, &document)?;
+    check_set(alloc, &set)?;
+    Ok(set)
+}
+
+/// The top table of the bytes.
+fn read_document(alloc: Global, bytes: &[u8]) -> Result<Table, TaskFault>
+    ensures { AnswersAs table_view result (document_of bytes.now) }
+{
+    match toml::table_from_slice(alloc, bytes) {
+        Ok(table) => Ok(table),
+        Err(error) if error.is_memory() => Err(TaskFault::Memory),
+        Err(_) => Err(TaskFault::NotToml),
+    }
+}
+
+/// The task set of the whole table, its shape alone checked.
+fn read_set(alloc: Global, table: &Table) -> Result<TaskSet, TaskFault>
+    ensures { Answers result (set_of (table_view table.now)) }
+{
+    let part = Part::Top;
+    check_keys(table, part)?;
+    let soft_limit = number_at(table, part, Field::Soft, 1, SOFT_LIMIT, Some(SOFT_DEFAULT))?;
+    let tables = tables_at(alloc, table, part, Field::Graph, GRAPH_LIMIT)?;
+    let graphs = read_graphs(alloc, tables.items())?;
+    let tables = tables_or_none_at(alloc, table, part, Field::Sporadic, SPORADIC_LIMIT)?;
+    let sporadics = read_sporadics(alloc, tables.items())?;
+    Ok(TaskSet {
+        soft_limit,
+        graphs,
+        sporadics,
+    })
 }

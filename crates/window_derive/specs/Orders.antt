@@ -12,8 +12,8 @@ is_listed listed t = list_any (λ l. l == t) listed
 abbrev pub next_task : List Task → List ℕ → Option ℕ
 next_task tasks listed =
     find
-        (λ t. not (is_listed listed t) && list_all (is_listed listed) (predecessors tasks t))
-        (range_with_len 0 (length tasks))
+    (λ t. not (is_listed listed t) && list_all (is_listed listed) (predecessors tasks t))
+    (range_with_len 0 (length tasks))
 
 -- every task stands in the order, as many places as there are tasks, and at each place the next task after
 -- those before it

@@ -9,8 +9,17 @@ ghost use Rattle.slot_core.specs.Precedence.{comes_after};
 ghost use Rattle.slot_core.specs.Ranges.{is_sound};
 ghost use Rattle.window_derive.specs.Orders.{IsOrder, first_on_loop};
 
+mod chains;
+mod loops;
+mod places;
+
+use loops::first_on_loop;
+use places::next_task;
 use slot_core::{Graph, Job, Memory, RawJob, TaskSet};
 use std::alloc::Global;
+
+/// Most tasks of a graph that has an order here.
+const MOST_TASKS: usize = 32;
 
 /// Why a graph has no order.
 #[derive(Clone, Copy, PartialEq, Eq, Debug)]
@@ -30,7 +39,19 @@ pub fn order(alloc: Global, graph: &Graph) -> Result<Vec<u16>, OrderFault>
     ensures loopless { OnOk result (first_on_loop graph.now.tasks ≡ None) }
     ensures looped { (t : ℕ) → result ≡ Err (OrderFault.Loop t) → first_on_loop graph.now.tasks ≡ Some t }
 {
-    Err(OrderFault::Memory)
+    let tasks = graph.tasks.items();
+    let mut placed = [false; MOST_TASKS];
+    let mut order = Vec::new(alloc);
+    for _place in 0..tasks.len() {
+        let Some(task) = next_task(tasks, &placed) else {
+            return Err(OrderFault::Loop(first_on_loop(tasks).unwrap()));
+        };
+        if order.push(task).is_err() {
+            return Err(OrderFault::Memory);
+        }
+        placed[usize::from(task)] = true;
+    }
+    Ok(order)
 }
 
 /// The jobs of the first cycle with their derived windows, by deadline and then by key.

@@ -1,0 +1,31 @@
+use Rattle.std.proofs.Common.{◌≡◌, ℕ, ◌+◌, ◌-◌, ◌<◌, true, List, length, take, get_or, sum, Some, sym, refl, arith}
+use Rattle.std.specs.Prelude.{nat_lt}
+use Rattle.std.proofs.lemmas.Bool.{lt-ltb}
+use Rattle.std.proofs.lemmas.List.Sums.{sum_by_more}
+use Rattle.demand_test.specs.Ends.{failing_in}
+use Rattle.demand_test.proofs.FirstSome.{first_some-found, first_some-from_none}
+use Rattle.demand_test.proofs.windows.failing_from.Goals as goal
+
+-- the window whose demand is more than its slots
+failing_in-Some : (due arrivals : List ℕ) (a b needed : ℕ) → sum (take (b + 1) due) + get_or arrivals (b - a) 0 ≡ needed → b - a < needed → failing_in due arrivals a b ≡ Some (record { from = a; until = b; demand = needed })
+failing_in-Some due arrivals a b needed is more =
+    let fails : nat_lt (b - a) needed ≡ true = lt-ltb (b - a) needed more in
+    rw (is, fails) refl
+
+pub returns-then-slots-needed : goal.returns-then-slots-needed
+returns-then-slots-needed c =
+    let due = c.args.due.now in
+    let arrivals = c.args.arrivals.now in
+    let a = c.args.from in
+    let b = c.loop-until.until in
+    let needed = c.loop-until.sum + get_or due b 0 + get_or arrivals (b - a) 0 in
+    let step = sum_by_more (λ x. x) due b 0 c.loop-until-test.true in
+    let here = failing_in-Some due arrivals a b needed (omega arith) c.if-slots-needed.true in
+    sym (first_some-found (failing_in due arrivals a) (record { from = a; until = b; demand = needed }) (a + 1) (length due - 1 - a) b (omega arith) (omega arith) (λ m low high. c.loop-until.invariant.1 m (omega arith) high) here)
+
+pub returns : goal.returns
+returns c =
+    let due = c.args.due.now in
+    let arrivals = c.args.arrivals.now in
+    let a = c.args.from in
+    sym (first_some-from_none (failing_in due arrivals a) (a + 1) (length due - 1 - a) (λ m low high. c.loop-until.invariant.1 m (omega arith) (omega arith)))

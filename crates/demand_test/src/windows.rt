@@ -1,0 +1,131 @@
+//! The search for a window with more demand than slots.
+
+ghost use Rattle.std.specs.Prelude.{◌≡◌, ℕ, ◌+◌, ◌-◌, ◌*◌, ◌^◌, ◌<◌, ◌≤◌, All, IfOk, length, drop, sum, sum_by, slice_index};
+ghost use Rattle.std.specs.List.{range_with_len};
+ghost use Rattle.std.specs.List.Sorted.{IsNonDecreasingBy};
+ghost use Rattle.slot_core.specs.declared.jobs.Job.{Job};
+ghost use Rattle.slot_core.specs.Feasible.{first_some, first_failing_from};
+ghost use Rattle.demand_test.specs.Ends.{ending_at, first_end, next_end, raised, IsDue, IsStart, failing_in};
+
+use crate::arrivals::needed_table;
+use slot_core::{Job, Memory, Sporadic, Window};
+use std::alloc::Global;
+
+/// Adds the declared slots of a job at its ends: its deadline in the first cycle, and its deadline in the next,
+/// past the end of the first.
+fn count_job(due: &mut [u64], job: &Job, cycle: usize)
+    requires positive { 0 < cycle }
+    requires len { length due.old ≡ 2 * cycle + 1 }
+    requires within { job.now.dl ≤ cycle }
+    requires small { All (λ n. n < 2 ^ 63) due.old }
+    ensures { due.new
+        ≡ raised (raised due.old (first_end job.now) job.now.declared) (next_end cycle job.now) job.now.declared }
+{
+    let end = job.dl as usize;
+    let next = (end + cycle).max(cycle + 1);
+    due[end] += u64::from(job.declared);
+    due[next] += u64::from(job.declared);
+}
+
+/// For each end, 0 to two cycles, the slots of the jobs of the first cycle and of the next that begin to count
+/// there.
+fn due_table(alloc: Global, jobs: &[Job], cycle: u32) -> Result<Vec<u64>, Memory>
+    requires positive { 0 < cycle }
+    requires cycle { cycle ≤ 4096 }
+    requires within { All (λ (j : Job). j.dl ≤ cycle) jobs.now }
+    requires few { sum_by (λ (j : Job). j.declared) jobs.now ≤ cycle }
+    ensures { IfOk result (λ due. IsDue jobs.now jobs.now cycle due.items) }
+{
+    let length = cycle as usize;
+    let Ok(mut due) = vec![in alloc; 0u64; 2 * length + 1] else {
+        return Err(Memory);
+    };
+    for job in jobs {
+        count_job(&mut due, job, length);
+    }
+    Ok(due)
+}
+
+/// Takes out the jobs that start by `from`, of which the first `passed` are out, and tells how many are out then.
+fn leave(due: &mut [u64], jobs: &[Job], passed: usize, from: u32) -> usize
+    requires ordered { IsNonDecreasingBy (λ (j : Job). j.est) jobs.now }
+    requires start { IsStart jobs.now from passed }
+    requires within { All (λ (j : Job). j.dl < length due.old) jobs.now }
+    requires counted { (b : ℕ)
+        → b < length due.old
+        → ending_at first_end (drop passed jobs.now) b ≤ slice_index due.old b }
+    ensures start { IsStart jobs.now (from + 1) result }
+    ensures taken { (b : ℕ)
+        → slice_index due.new b + ending_at first_end (drop passed jobs.now) b
+        ≡ slice_index due.old b + ending_at first_end (drop result jobs.now) b }
+{
+    let mut next = passed;
+    while next < jobs.len() && jobs[next].est <= u64::from(from) {
+        let job = jobs[next];
+        due[job.dl as usize] -= u64::from(job.declared);
+        next += 1;
+    }
+    next
+}
+
+/// The sum of the numbers.
+fn sum_of(numbers: &[u64]) -> u64
+    requires { sum numbers.now < 2 ^ 64 }
+    ensures { result ≡ sum numbers.now }
+{
+    numbers.iter().sum()
+}
+
+/// The failing window of least end that starts at `from`, or none.
+fn failing_from(due: &[u64], arrivals: &[u64], from: usize) -> Option<Window>
+    requires within { from < length due.now }
+    requires same { length arrivals.now ≡ length due.now }
+    requires few { sum due.now < 2 ^ 63 }
+    requires small { All (λ n. n < 2 ^ 63) arrivals.now }
+    ensures { result
+        ≡ first_some (failing_in due.now arrivals.now from) (range_with_len (from + 1) (length due.now - 1 - from)) }
+{
+    let mut sum = sum_of(&due[..from + 1]);
+    for until in from + 1..due.len() {
+        sum += due[until];
+        let slots = until - from;
+        let needed = sum + arrivals[slots];
+        if (slots as u64) < needed {
+            return Some(Window {
+                from: from as u64,
+                until: until as u64,
+                demand: needed,
+            });
+        }
+    }
+    None
+}
+
+/// The failing window of least start, and then of least end, or none. The jobs are in the order of their starts.
+pub fn first_failing(
+    alloc: Global,
+    jobs: &[Job],
+    sporadics: &[Sporadic],
+    cycle: u32,
+) -> Result<Option<Window>, Memory>
+    requires positive { 0 < cycle }
+    requires cycle { cycle ≤ 4096 }
+    requires within { All (λ (j : Job). j.dl ≤ cycle) jobs.now }
+    requires few { sum_by (λ (j : Job). j.declared) jobs.now ≤ cycle }
+    requires ordered { IsNonDecreasingBy (λ (j : Job). j.est) jobs.now }
+    ensures { IfOk result
+        (λ w. w ≡ first_some (first_failing_from jobs.now sporadics.now cycle) (range_with_len 0 cycle)) }
+{
+    let mut due = due_table(alloc, jobs, cycle)?;
+    let needed = needed_table(alloc, sporadics, 2 * cycle)?;
+    let arrivals = needed.items();
+    let mut passed = 0;
+    for from in 0..cycle {
+        let failing = failing_from(due.as_slice(), arrivals, from as usize);
+        if failing.is_some() {
+            return Ok(failing);
+        }
+        passed = leave(&mut due, jobs, passed, from);
+    }
+    Ok(None)
+}

@@ -1,0 +1,135 @@
+//! What stands at a key of a table of the task file.
+
+ghost use Rattle.std.specs.Prelude.{◌≡◌, ◌≤◌, ◌&&◌, pos, nat_abs, int_le, Ok, Err, option_map};
+ghost use Rattle.std.specs.Prelude.{if◌then◌else◌, IfOk, MatchResult};
+ghost use Rattle.std.specs.Option.{ForSome};
+ghost use Rattle.slot_core.specs.FaultTexts.{field_word};
+ghost use Rattle.slot_core.specs.Faults.{same_name};
+ghost use Rattle.task_toml.specs.TomlFields.{known_keys, knows_key, number_at, name_at, at_key};
+ghost use Rattle.toml.specs.View.{table_view, view};
+
+use slot_core::{Field, Name, Part, Place, TaskFault};
+use toml::{Table, Value};
+
+/// The key's word in the task file.
+fn word(field: Field) -> &'static str
+    ensures { result.now ≡ field_word field }
+{
+    match field {
+        Field::Soft => "soft",
+        Field::Graph => "graph",
+        Field::Sporadic => "sporadic",
+        Field::Name => "name",
+        Field::Period => "period",
+        Field::Offset => "offset",
+        Field::Deadline => "deadline",
+        Field::Task => "task",
+        Field::Wcet => "wcet",
+        Field::After => "after",
+        Field::Separation => "separation",
+    }
+}
+
+/// Whether the text is the key's word.
+#[tactic(auto, using(crate::proofs::SameTexts::same_texts))]
+fn is_word(field: Field, text: &str) -> bool
+    ensures { result ≡ same_name (field_word field) text.now }
+{
+    word(field) == text
+}
+
+/// What stands at the key.
+pub fn value_at(table: &Table, field: Field) -> Option<&Value>
+    ensures { option_map (λ v. view v.now) result ≡ at_key field (table_view table.now) }
+{
+    table.get(word(field))
+}
+
+/// Whether the key is one that a table of this part knows.
+fn knows_key(part: Part, key: &str) -> bool
+    ensures { result ≡ knows_key part key.now }
+{
+    match part {
+        Part::Top => {
+            is_word(Field::Soft, key) || is_word(Field::Graph, key) || is_word(Field::Sporadic, key)
+        }
+        Part::Graph(_) => {
+            is_word(Field::Name, key)
+                || is_word(Field::Period, key)
+                || is_word(Field::Offset, key)
+                || is_word(Field::Deadline, key)
+                || is_word(Field::Task, key)
+        }
+        Part::Task(..) => {
+            is_word(Field::Name, key) || is_word(Field::Wcet, key) || is_word(Field::After, key)
+        }
+        Part::Sporadic(_) => {
+            is_word(Field::Name, key)
+                || is_word(Field::Wcet, key)
+                || is_word(Field::Separation, key)
+                || is_word(Field::Deadline, key)
+        }
+    }
+}
+
+/// The number at the key, from `low` to `high`, or `absent` where the key is not there.
+pub fn number_at(
+    table: &Table,
+    part: Part,
+    field: Field,
+    low: u32,
+    high: u32,
+    absent: Option<u32>,
+) -> Result<u32, TaskFault>
+    requires { ForSome absent (λ n. (low ≤ n) × (n ≤ high)) }
+    ensures reading { result ≡ number_at (record { part = part; field = field }) low high absent
+        (at_key field (table_view table.now)) }
+    ensures range { IfOk result (λ n. (low ≤ n) × (n ≤ high)) }
+{
+    let place = Place { part, field };
+    match value_at(table, field) {
+        None => absent.ok_or(TaskFault::Missing(place)),
+        Some(Value::Integer(number)) => in_range(place, low, high, *number),
+        Some(_) => Err(TaskFault::WrongKind(place)),
+    }
+}
+
+/// The number, where it is from `low` to `high`.
+fn in_range(place: Place, low: u32, high: u32, number: i64) -> Result<u32, TaskFault>
+    ensures range { IfOk result (λ n. (low ≤ n) × (n ≤ high)) }
+    ensures reading { result ≡ (if int_le (pos low) number && int_le number (pos high)
+        then Ok (nat_abs number)
+        else Err (TaskFault.OutOfRange place number)) }
+{
+    if number < i64::from(low) || number > i64::from(high) {
+        return Err(TaskFault::OutOfRange(place, number));
+    }
+    Ok(number as u32)
+}
+
+/// The name at the key.
+pub fn name_at(table: &Table, part: Part, field: Field) -> Result<Name, TaskFault>
+    ensures { result ≡ name_at (record { part = part; field = field })
+        (at_key field (table_view table.now)) }
+{
+    let place = Place { part, field };
+    match value_at(table, field) {
+        None => Err(TaskFault::Missing(place)),
+        Some(Value::String(text)) => Name::of(text.as_bytes()).ok_or(TaskFault::BadName(place)),
+        Some(_) => Err(TaskFault::WrongKind(place)),
+    }
+}
+
+/// Refuses a table that has a key which a table of this part does not know.
+pub fn check_keys(table: &Table, part: Part) -> Result<(), TaskFault>
+    ensures { MatchResult result
+        (λ _. known_keys part (table_view table.now) ≡ Ok (table_view table.now))
+        (λ e. known_keys part (table_view table.now) ≡ Err e) }
+{
+    for (key, _) in table {
+        if !knows_key(part, key.as_str()) {
+            return Err(TaskFault::UnknownKey(part));
+        }
+    }
+    Ok(())
+}

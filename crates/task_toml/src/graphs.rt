@@ -1,0 +1,219 @@
+//! Tasks, graphs and sporadic tasks of a task file.
+
+ghost use Rattle.std.specs.Prelude.{◌≡◌, ◌≢◌, ◌≤◌, length, map, IfOk, IfErr, OnOk};
+ghost use Rattle.slot_core.specs.Faults.{same_name};
+ghost use Rattle.task_toml.specs.Reading.{each, task_of, graph_of, sporadic_of};
+ghost use Rattle.task_toml.specs.Reading.{place_of_name, with_indexes};
+ghost use Rattle.task_toml.specs.TomlFields.{Answers, AnswersAs};
+ghost use Rattle.toml.specs.View.{table_view};
+
+use crate::fields::{check_keys, name_at, number_at};
+use crate::tables::{append, tables_at, texts_at};
+use slot_core::{
+    AFTER_LIMIT, Afters, Field, GRAPH_LIMIT, Graph, Graphs, List, Name, Part, SLOT_LIMIT,
+    SPORADIC_LIMIT, Sporadic, Sporadics, TASK_LIMIT, Task, TaskFault, Tasks,
+};
+use std::alloc::Global;
+use std::marker::Model;
+use toml::Table;
+
+/// A task whose `after` entries are still names.
+#[derive(Drop)]
+struct NamedTask<'a> {
+    name: Name,
+    wcet: u32,
+    after: List<&'a str>,
+}
+
+impl<'a> Model for NamedTask<'a> {
+    ghost use Rattle.std.specs.Prelude.{map};
+    ghost use Rattle.task_toml.specs.Reading.{NamedTask};
+
+    ghost Value = { NamedTask };
+
+    ghost view = { λ t. record { name = t.name; wcet = t.wcet; after = map (λ s. s.now) t.after } };
+}
+
+/// The task of a table.
+fn read_task<'a>(
+    alloc: Global,
+    graph: u16,
+    task: u16,
+    table: &'a Table,
+) -> Result<NamedTask<'a>, TaskFault>
+    ensures { Answers result (task_of graph task (table_view table.now)) }
+{
+    let part = Part::Task(graph, task);
+    check_keys(table, part)?;
+    let name = name_at(table, part, Field::Name)?;
+    let wcet = number_at(table, part, Field::Wcet, 1, SLOT_LIMIT, None)?;
+    let after = texts_at(alloc, table, part, Field::After, AFTER_LIMIT)?;
+    Ok(NamedTask { name, wcet, after })
+}
+
+/// The tasks of the tables of a graph.
+fn read_named_tasks<'a>(
+    alloc: Global,
+    graph: u16,
+    tables: &[&'a Table],
+) -> Result<Vec<NamedTask<'a>>, TaskFault>
+    requires { length tables.now ≤ TASK_LIMIT }
+    ensures reading { AnswersAs (λ tasks. tasks.items) result
+        (each (task_of graph) 0 (map (λ t. table_view t.now) tables.now)) }
+    ensures count { IfOk result (λ tasks. length tasks.items ≡ length tables.now) }
+{
+    let mut tasks = Vec::new(alloc);
+    for (t, table) in tables.iter().enumerate() {
+        let task = read_task(alloc, graph, t as u16, table)?;
+        if tasks.push(task).is_err() {
+            return Err(TaskFault::Memory);
+        }
+    }
+    Ok(tasks)
+}
+
+/// Whether the task has this name.
+#[tactic(auto, using(crate::proofs::SameTexts::same_texts))]
+fn is_named(task: &NamedTask, name: &str) -> bool
+    ensures { result ≡ same_name task.now.name name.now }
+{
+    task.name.bytes() == name.as_bytes()
+}
+
+/// The place of the first task of this name, or the number of tasks where there is none.
+fn place_of_name(tasks: &[NamedTask], name: &str) -> u16
+    requires { length tasks.now ≤ TASK_LIMIT }
+    ensures { result ≡ place_of_name tasks.now name.now }
+{
+    for (t, task) in tasks.iter().enumerate() {
+        if is_named(task, name) {
+            return t as u16;
+        }
+    }
+    tasks.len() as u16
+}
+
+/// The places of the tasks of these names.
+fn places_of_names(alloc: Global, tasks: &[NamedTask], names: &[&str]) -> Result<Afters, TaskFault>
+    requires { length tasks.now ≤ TASK_LIMIT }
+    ensures ok { IfOk result
+        (λ places. places ≡ map (place_of_name tasks.now) (map (λ name. name.now) names.now)) }
+    ensures memory { IfErr result (λ e. e ≡ TaskFault.Memory) }
+{
+    let mut places = Afters::new(alloc);
+    for name in names {
+        append(&mut places, place_of_name(tasks, name))?;
+    }
+    Ok(places)
+}
+
+/// The `after` lists of the tasks as places.
+fn places_after(alloc: Global, tasks: &[NamedTask]) -> Result<Vec<Afters>, TaskFault>
+    requires { length tasks.now ≤ TASK_LIMIT }
+    ensures ok { IfOk result
+        (λ lists. lists.items ≡ map (λ t. map (place_of_name tasks.now) t.after) tasks.now) }
+    ensures memory { IfErr result (λ e. e ≡ TaskFault.Memory) }
+{
+    let mut lists = Vec::new(alloc);
+    for task in tasks {
+        let places = places_of_names(alloc, tasks, task.after.items())?;
+        if lists.push(places).is_err() {
+            return Err(TaskFault::Memory);
+        }
+    }
+    Ok(lists)
+}
+
+/// The tasks, with places in their `after` lists.
+fn with_indexes(alloc: Global, named: Vec<NamedTask>) -> Result<Tasks, TaskFault>
+    requires { length named.items ≤ TASK_LIMIT }
+    ensures ok { IfOk result
+        (λ tasks. tasks ≡ map (with_indexes named.entry.items) named.entry.items) }
+    ensures memory { IfErr result (λ e. e ≡ TaskFault.Memory) }
+{
+    let lists = places_after(alloc, &named)?;
+    let mut tasks = Tasks::new(alloc);
+    for (task, after) in named.into_iter().zip(lists) {
+        let NamedTask {
+            name,
+            wcet,
+            after: _,
+        } = task;
+        append(&mut tasks, Task { name, wcet, after })?;
+    }
+    Ok(tasks)
+}
+
+/// The graph of a table.
+fn read_graph(alloc: Global, graph: u16, table: &Table) -> Result<Graph, TaskFault>
+    ensures { Answers result (graph_of graph (table_view table.now)) }
+{
+    let part = Part::Graph(graph);
+    check_keys(table, part)?;
+    let name = name_at(table, part, Field::Name)?;
+    let period = number_at(table, part, Field::Period, 1, SLOT_LIMIT, None)?;
+    let offset = number_at(table, part, Field::Offset, 0, period - 1, Some(0))?;
+    let longest = period - offset;
+    let deadline = number_at(table, part, Field::Deadline, 1, longest, Some(longest))?;
+    let tables = tables_at(alloc, table, part, Field::Task, TASK_LIMIT)?;
+    let named = read_named_tasks(alloc, graph, tables.items())?;
+    let tasks = with_indexes(alloc, named)?;
+    Ok(Graph {
+        name,
+        period,
+        offset,
+        deadline,
+        tasks,
+    })
+}
+
+/// The graphs of the tables.
+pub fn read_graphs(alloc: Global, tables: &[&Table]) -> Result<Graphs, TaskFault>
+    requires { length tables.now ≤ GRAPH_LIMIT }
+    ensures { Answers result (each graph_of 0 (map (λ t. table_view t.now) tables.now)) }
+{
+    let mut graphs = Graphs::new(alloc);
+    for (g, table) in tables.iter().enumerate() {
+        let graph = read_graph(alloc, g as u16, table)?;
+        append(&mut graphs, graph)?;
+    }
+    Ok(graphs)
+}
+
+/// The sporadic task of a table.
+fn read_sporadic(sporadic: u8, table: &Table) -> Result<Sporadic, TaskFault>
+    ensures { Answers result (sporadic_of sporadic (table_view table.now)) }
+{
+    let part = Part::Sporadic(sporadic);
+    check_keys(table, part)?;
+    let name = name_at(table, part, Field::Name)?;
+    let wcet = number_at(table, part, Field::Wcet, 1, SLOT_LIMIT, None)?;
+    let separation = number_at(table, part, Field::Separation, 1, SLOT_LIMIT, None)?;
+    let deadline = number_at(
+        table,
+        part,
+        Field::Deadline,
+        1,
+        separation,
+        Some(separation),
+    )?;
+    Ok(Sporadic {
+        name,
+        wcet,
+        separation,
+        deadline,
+    })
+}
+
+/// The sporadic tasks of the tables.
+pub fn read_sporadics(alloc: Global, tables: &[&Table]) -> Result<Sporadics, TaskFault>
+    requires { length tables.now ≤ SPORADIC_LIMIT }
+    ensures { Answers result (each sporadic_of 0 (map (λ t. table_view t.now) tables.now)) }
+{
+    let mut sporadics = Sporadics::new(alloc);
+    for (s, table) in tables.iter().enumerate() {
+        let sporadic = read_sporadic(s as u8, table)?;
+        append(&mut sporadics, sporadic)?;
+    }
+    Ok(sporadics)
+}
