@@ -12,7 +12,7 @@ use Rattle.slot_core.specs.Plans.{PlanParts, IsPlan, plan_spans}
 use Rattle.slot_core.specs.Reports.{check_line}
 use Rattle.slot_core.specs.Ranges.{is_sound}
 use Rattle.slot_core.proofs.OfflineJobLemmas.{cycle-positive}
-use Rattle.slot_cli.proofs.FeasibleLemmas.{counterexample-fails, IsFeasible-from_none}
+use Rattle.demand_test.proofs.FeasibleLemmas.{counterexample-fails, IsFeasible-from_none}
 use Rattle.slot_cli.specs.declared.outcome.Outcome.{Outcome}
 use Rattle.slot_cli.specs.declared.outcome.Outcome.TheVariants.{Infeasible}
 use Rattle.slot_cli.specs.Works.{counts_line}
