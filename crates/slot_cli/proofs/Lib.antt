@@ -4,3 +4,5 @@ pub mod Plannings
 pub mod StepLemmas
 pub mod PlaceLemmas
 pub mod EndLemmas
+pub mod StatusLemmas
+pub mod ServedRuns
