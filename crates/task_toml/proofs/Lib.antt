@@ -4,3 +4,4 @@ pub mod FieldRanges
 pub mod JoinedTasks
 pub mod SameTexts
 pub mod ShapeRanges
+pub mod SoundReadings
