@@ -1,16 +1,13 @@
 //! The replay of a plan without arrivals, over a plain list of jobs.
 #![tactic(auto)]
 
-ghost use Rattle.std.specs.Prelude.{◌≡◌, ◌≤◌, [], OnOk, OnErr};
-ghost use Rattle.std.specs.Io.KnownBytes.{Appends};
-ghost use Rattle.slot_core.specs.Texts.{trace_text};
-ghost use Rattle.slot_core.specs.Traces.{trace};
-ghost use Rattle.slot_io.specs.Faults.{Rose};
-ghost use Rattle.slot_io.specs.Sinks.{AppendsPart};
+ghost use Rattle.plain_replay.specs.declared.ReplayFault.TheVariants.{Memory as MemoryFault, Failed as FailedFault};
+ghost use Rattle.std.specs.Prelude.{◌≡◌};
 
-use cycle_plan::Plan;
-use slot_io::Sink;
-use std::alloc::Global;
+mod lines;
+mod state;
+
+use slot_core::{Failed, Memory};
 
 /// Why a replay ends early.
 #[derive(Clone, Copy, PartialEq, Eq, Debug)]
@@ -21,15 +18,18 @@ pub enum ReplayFault {
     Failed,
 }
 
-/// Writes the trace of so many slots without arrivals, one put a line: the start, each slot with what runs in
-/// it and the first spans after it, and the end. After a fault a part of the text from its front is written.
-pub fn replay<K: Sink>(alloc: Global, plan: &Plan, slots: u32, out: &mut K) -> Result<(), ReplayFault>
-    requires few { slots ≤ 100000 }
-    requires offline { plan.now.tasks.sporadics ≡ [] }
-    ensures ok { OnOk result (Appends (K.written out.old) (K.written out.new) (trace_text plan.now.tasks (trace plan.now.tasks [] slots))) }
-    ensures part { OnErr result (AppendsPart (K.written out.old) (K.written out.new) (trace_text plan.now.tasks (trace plan.now.tasks [] slots))) }
-    ensures counted { K.faults out.old ≤ K.faults out.new }
-    ensures failed { result ≡ Err ReplayFault.Failed → Rose (K.faults out.old) (K.faults out.new) }
-{
-    Err(ReplayFault::Memory)
+impl From<Memory> for ReplayFault {
+    ghost from_gives = { λ _ fault. fault ≡ MemoryFault };
+
+    fn from(_fault: Memory) -> ReplayFault {
+        ReplayFault::Memory
+    }
+}
+
+impl From<Failed> for ReplayFault {
+    ghost from_gives = { λ _ fault. fault ≡ FailedFault };
+
+    fn from(_fault: Failed) -> ReplayFault {
+        ReplayFault::Failed
+    }
 }

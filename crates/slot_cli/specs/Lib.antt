@@ -1,3 +1,4 @@
 pub mod Commands
 pub mod Outcomes
 pub mod Runs
+pub mod Works

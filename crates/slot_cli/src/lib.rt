@@ -16,12 +16,18 @@ ghost use Rattle.slot_cli.specs.Commands.{command_of};
 ghost use Rattle.slot_cli.specs.Outcomes.{status_of, name_of};
 ghost use Rattle.slot_cli.specs.Runs.{expected, planned_set, IsAnswer, IsReported, IsWritten};
 
+mod append;
 pub mod command;
 pub mod outcome;
+pub mod report;
+pub mod stages;
+pub mod work;
 
+use report::report;
 use slot_core::Words;
 use slot_io::{Files, Sink};
 use std::alloc::Global;
+use work::work;
 
 /// Most slots of a replay.
 pub const REPLAY_LIMIT: u32 = 100_000;
@@ -88,5 +94,6 @@ pub fn run<F: Files, K: Sink, E: Sink>(
         → planned_set held words.now ≡ Ok set
         → IsServed set (cycle_of set) (history_of (trace set [] slots)) × IsOrdered set (cycle_of set) (history_of (trace set [] slots))) }
 {
-    Status::Memory
+    let outcome = work(alloc, words, files, out);
+    report(alloc, words, outcome, err).status()
 }
