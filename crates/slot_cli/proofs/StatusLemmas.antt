@@ -3,7 +3,7 @@ use Rattle.std.proofs.Common.{◌≡◌, ◌⊎◌, ℕ, Bool, true, false, List
 use Rattle.slot_core.specs.declared.faults.TaskFault.{TaskFault}
 use Rattle.slot_core.specs.declared.jobs.Window.{Window}
 use Rattle.slot_io.specs.Files.{Held}
-use Rattle.slot_cli.specs.declared.Status.{Status}
+use Rattle.slot_cli.specs.declared.status.Status.{Status}
 use Rattle.slot_cli.specs.declared.command.Command.{Command}
 use Rattle.slot_cli.specs.declared.command.Command.TheVariants.{Check, Replay}
 use Rattle.slot_cli.specs.declared.outcome.File.{File}

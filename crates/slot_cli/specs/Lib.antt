@@ -2,3 +2,4 @@ pub mod Commands
 pub mod Outcomes
 pub mod Runs
 pub mod Works
+pub mod Statuses

@@ -2,7 +2,7 @@
 use Rattle.std.specs.Prelude.{ℕ, Bool, true, false, List, [], ◌∷◌, ◌++◌, codes, decimal}
 use Rattle.slot_core.specs.FaultTexts.{task_fault_text, infeasible_text}
 use Rattle.slot_core.specs.Texts.{worded}
-use Rattle.slot_cli.specs.declared.Status.{Status}
+use Rattle.slot_cli.specs.declared.status.Status.{Status}
 use Rattle.slot_cli.specs.declared.outcome.File.{File}
 use Rattle.slot_cli.specs.declared.outcome.File.TheVariants.{Tasks, Arrivals}
 use Rattle.slot_cli.specs.declared.outcome.Outcome.{Outcome}

@@ -21,7 +21,10 @@ pub mod command;
 pub mod outcome;
 pub mod report;
 pub mod stages;
+pub mod status;
 pub mod work;
+
+pub use status::Status;
 
 use report::report;
 use slot_core::Words;
@@ -37,21 +40,6 @@ pub const TASK_FILE_LIMIT: usize = 1_048_576;
 
 /// Most bytes of an arrivals file.
 pub const ARRIVALS_FILE_LIMIT: usize = 4_194_304;
-
-/// How a run ended. The numbers are the program's exit statuses, from 0.
-#[derive(Clone, Copy, PartialEq, Eq, Debug)]
-pub enum Status {
-    Done,
-    Usage,
-    FileFault,
-    TooLarge,
-    BadTasks,
-    Infeasible,
-    BadArrivals,
-    WriteFault,
-    Memory,
-    BadTable,
-}
 
 /// Does what the words ask for: reads the files that they name, writes to `out`, and puts one line on `err`
 /// where it ends otherwise than Done. The order of work is that of `expected`: tasks read, set read, cycle
