@@ -11,6 +11,8 @@ ghost use Rattle.source_check.specs.Verdicts.{Tells};
 mod entries;
 mod loops;
 mod names;
+#[cfg(test)]
+mod tests;
 
 use entries::check_entries;
 use graph_unroll::cycle_of;
@@ -26,10 +28,11 @@ pub fn check(alloc: Global, tasks: &TaskSet) -> Result<(), TaskFault>
     ensures ok { OnOk result (set_fault tasks.now ≡ None) }
     ensures fault { IfErr result (λ e. e ≢ TaskFault.Memory → set_fault tasks.now ≡ Some e) }
 {
-    check_graph_names(tasks.graphs.items())?;
+    let graphs = tasks.graphs.items();
+    check_graph_names(graphs)?;
     check_sporadic_names(tasks.sporadics.items())?;
-    check_entries(tasks.graphs.items())?;
-    check_loops(alloc, tasks.graphs.items())?;
+    check_entries(graphs)?;
+    check_loops(alloc, graphs)?;
     check_cycle(tasks)
 }
 
