@@ -14,7 +14,7 @@ use Rattle.slot_core.specs.declared.jobs.Job.{Job}
 use Rattle.slot_core.specs.declared.tasks.Graph.{Graph}
 use Rattle.slot_core.specs.declared.tasks.TaskSet.{TaskSet}
 use Rattle.slot_core.specs.OfflineJobs.{moved_key, moved_job}
-use Rattle.slot_core.specs.Keys.{key_order, deadline_order, is_earlier}
+use Rattle.slot_core.specs.Keys.{key_order, is_earlier}
 use Rattle.slot_core.specs.Plans.{AreInDeadlineOrder}
 
 -- numbers that grow by the same compare as before

@@ -1,15 +1,13 @@
 -- What the jobs of the first cycle of a feasible set keep, and those of three cycles with their points.
-use Rattle.std.proofs.Common.{◌≡◌, ℕ, zero, suc, ◌+◌, ◌-◌, ◌*◌, ◌/◌, ◌^◌, ◌<◌, ◌≤◌, true, cond, List, [], ◌∷◌, ◌++◌, length, map, filter, refl, sym, ap, ◌∙◌, subst, inl, inr, arith}
+use Rattle.std.proofs.Common.{◌≡◌, ℕ, zero, suc, ◌+◌, ◌*◌, ◌/◌, ◌^◌, ◌<◌, ◌≤◌, true, cond, List, [], ◌++◌, length, map, refl, sym, ap, subst, inl, inr, arith}
 use Rattle.std.specs.Prelude.{All, Contains, sum_by, nat_le, ◌&&◌}
-use Rattle.std.specs.List.{range_with_len, AllByRecursion}
-use Rattle.std.specs.List.Sorted.{IsPermutation}
+use Rattle.std.specs.List.{range_with_len}
 use Rattle.std.proofs.Math.Nat.{mul-le-mul_left}
 use Rattle.std.proofs.lemmas.Bool.{cases_lt}
 use Rattle.std.proofs.lemmas.Bool.Decides.{nat_tests}
 use Rattle.std.proofs.lemmas.List.Elements.{All-from_recursion}
 use Rattle.std.proofs.lemmas.List.Sorted.{IsPermutation-sym, Contains-permutation, sum_by-IsPermutation}
 use Rattle.std.proofs.lemmas.List.Sums.{sum_by-append}
-use Rattle.slot_core.specs.declared.TheConstants.{SLOT_LIMIT}
 use Rattle.slot_core.specs.declared.jobs.Job.{Job}
 use Rattle.slot_core.specs.declared.tasks.TaskSet.{TaskSet}
 use Rattle.slot_core.specs.Cycles.{cycle_of}
@@ -17,7 +15,7 @@ use Rattle.slot_core.specs.Ranges.{is_sound}
 use Rattle.slot_core.specs.OfflineJobs.{cycle_jobs, offline_jobs, moved_job}
 use Rattle.slot_core.specs.Plans.{AreInDeadlineOrder}
 use Rattle.slot_core.specs.Points.{plan_points}
-use Rattle.slot_core.specs.Feasible.{declared_within, IsFeasible}
+use Rattle.slot_core.specs.Feasible.{IsFeasible}
 use Rattle.slot_core.proofs.ListMembers.{Has, Contains-from_Has, Has-append_left, Has-append_right, Has-filter, Has-filter_passes, Has-map, Has-map_cases, Has-range_with_len, Has-range_with_len_bounds, AllByRecursion-from_Has}
 use Rattle.slot_core.proofs.MovedCycles.{GraphFits, GraphFits-from_sound, cycle_jobs-moved}
 use Rattle.slot_core.proofs.OfflineJobLemmas.{offline_from_cycle, cycle-multiple, cycle-positive, cycle-at_most}
@@ -25,7 +23,7 @@ use Rattle.interval_build.specs.Ends.{AreRising, last_end}
 use Rattle.cycle_plan.specs.FirstJobs.{AreFirstJobs}
 use Rattle.cycle_plan.specs.InCycles.{jobs_in_cycles, ends_in_cycles}
 use Rattle.cycle_plan.specs.NearJobs.{instance_of, IsNear}
-use Rattle.cycle_plan.proofs.MovedJobs.{FitsInCycle, FitsInCycle-from_first, jobs_in_cycles-permutation, jobs_in_cycles-ordered, all_fit, all_in_cycles}
+use Rattle.cycle_plan.proofs.MovedJobs.{jobs_in_cycles-permutation, jobs_in_cycles-ordered, all_fit, all_in_cycles}
 use Rattle.cycle_plan.proofs.PlanPoints.{point-from_planned, Has-deadline}
 use Rattle.cycle_plan.proofs.PlanSpans.{is_end_of, ends_of, in_cycle-from_first, ends_of_three, last_of_three}
 use Rattle.cycle_plan.proofs.RisingEnds.{AreRising-filter, length-filter_range}

@@ -1,5 +1,5 @@
 -- In a feasible set the jobs of a cycle are those of the first cycle, moved, and they stay in order.
-use Rattle.std.proofs.Common.{◌≡◌, ℕ, zero, suc, ◌+◌, ◌-◌, ◌*◌, ◌/◌, ◌<◌, ◌≤◌, true, List, [], ◌∷◌, ◌++◌, map, Some, refl, sym, ap, ap₂, ◌∙◌, subst, arith}
+use Rattle.std.proofs.Common.{◌≡◌, ℕ, zero, suc, ◌+◌, ◌*◌, ◌/◌, ◌<◌, ◌≤◌, true, List, [], ◌∷◌, ◌++◌, map, Some, refl, sym, ap, ap₂, ◌∙◌, subst, arith}
 use Rattle.std.specs.Prelude.{slice_get, flat_map, Contains}
 use Rattle.std.specs.Option.{option_map_or}
 use Rattle.std.specs.List.{range_with_len, enumerate_from, AllByRecursion}
@@ -7,7 +7,6 @@ use Rattle.std.specs.List.Sorted.{IsPermutation}
 use Rattle.std.proofs.Math.Nat.{mul-le-mul_right}
 use Rattle.std.proofs.lemmas.List.{map-append}
 use Rattle.std.proofs.lemmas.List.Sorted.{IsPermutation-refl, IsPermutation-sym, IsPermutation-map, IsPermutation-append, Contains-permutation}
-use Rattle.slot_core.specs.declared.jobs.Key.{Key}
 use Rattle.slot_core.specs.declared.jobs.Key.TheVariants.{Offline}
 use Rattle.slot_core.specs.declared.jobs.RawJob.{RawJob}
 use Rattle.slot_core.specs.declared.jobs.Job.{Job}
@@ -21,7 +20,7 @@ use Rattle.slot_core.specs.Plans.{AreInDeadlineOrder}
 use Rattle.slot_core.specs.Feasible.{IsFeasible}
 use Rattle.slot_core.proofs.ListMembers.{Contains-from_Has, AllByRecursion-from_Has}
 use Rattle.slot_core.proofs.OfflineJobLemmas.{offline_from_cycle}
-use Rattle.slot_core.proofs.MovedCycles.{IsMoved, IsMoved-from_instance, job_of}
+use Rattle.slot_core.proofs.MovedCycles.{IsMoved-from_instance, job_of}
 use Rattle.cycle_plan.specs.InCycles.{jobs_in_cycles}
 use Rattle.cycle_plan.proofs.DeadlineOrder.{AllByRecursion-append, AreInDeadlineOrder-moved, AreInDeadlineOrder-append}
 

@@ -1,8 +1,7 @@
 -- The spans of the first cycle, from its jobs in any order and its points.
-use Rattle.std.proofs.Common.{◌≡◌, ℕ, zero, suc, ◌+◌, ◌-◌, ◌*◌, ◌/◌, ◌<◌, ◌≤◌, Bool, true, false, List, [], ◌∷◌, ◌++◌, length, map, take, filter, append-nil, refl, sym, ap, ap₂, ◌∙◌, subst, inl, inr, arith}
+use Rattle.std.proofs.Common.{◌≡◌, ℕ, ◌+◌, ◌-◌, ◌*◌, ◌/◌, ◌<◌, ◌≤◌, Bool, true, List, [], ◌∷◌, ◌++◌, length, take, filter, append-nil, refl, sym, ap, ap₂, ◌∙◌, subst, inl, inr, arith}
 use Rattle.std.specs.Prelude.{nat_le}
 use Rattle.std.specs.List.{range_with_len}
-use Rattle.std.specs.List.Sorted.{IsPermutation}
 use Rattle.std.proofs.Math.Nat.{zero-div}
 use Rattle.std.proofs.lemmas.Bool.{le-leb, lt-leb, cond-true, cond-false}
 use Rattle.std.proofs.lemmas.List.Elements.{filter_agree}
@@ -15,10 +14,9 @@ use Rattle.slot_core.specs.Ranges.{is_sound}
 use Rattle.slot_core.specs.OfflineJobs.{cycle_jobs, offline_jobs}
 use Rattle.slot_core.specs.Points.{plan_points, is_point}
 use Rattle.slot_core.specs.Demand.{work_between}
-use Rattle.slot_core.specs.Scenes.{horizon, points_of, remaining, unended, scene_of}
+use Rattle.slot_core.specs.Scenes.{horizon, points_of, remaining, unended}
 use Rattle.slot_core.specs.Spans.{spare_capacity, spans_between}
 use Rattle.slot_core.specs.Plans.{plan_spans}
-use Rattle.slot_core.specs.Feasible.{IsFeasible}
 use Rattle.slot_core.proofs.ListMembers.{Has, Has-from_Contains, Contains-from_Has, Has-filter_passes, Has-range_with_len_bounds}
 use Rattle.slot_core.proofs.HistoryLemmas.{IsAmong, Contains-from_among, unended-start}
 use Rattle.slot_core.proofs.OfflineJobLemmas.{cycle-positive}
@@ -28,7 +26,7 @@ use Rattle.cycle_plan.specs.InCycles.{jobs_in_cycles, ends_in_cycles}
 use Rattle.cycle_plan.proofs.PlanPoints.{AreInCycle, planned-bounds, point-from_planned, Has-cycle}
 use Rattle.cycle_plan.proofs.PointsInAnyOrder.{is_point-among}
 use Rattle.cycle_plan.proofs.MovedPoints.{is_point-moved, ends_in_cycles-points}
-use Rattle.cycle_plan.proofs.MovedJobs.{FitsInCycle, FitsInCycle-from_first, jobs_in_cycles-permutation}
+use Rattle.cycle_plan.proofs.MovedJobs.{FitsInCycle-from_first, jobs_in_cycles-permutation}
 use Rattle.cycle_plan.proofs.RangeFilters.{filter-parts}
 use Rattle.cycle_plan.proofs.RisingEnds.{last_end-filter}
 use Rattle.cycle_plan.proofs.SpanSums.{spans_between-permutation}

@@ -1,11 +1,11 @@
 -- Work, slack, capacities and spans depend on sums over the jobs alone, and not on their order.
 use Rattle.std.proofs.Common.{◌≡◌, ℕ, ◌-◌, ◌&&◌, List, [], ◌∷◌, refl, sym}
-use Rattle.std.specs.Prelude.{pos, ◌-ℤ◌, nat_lt, nat_le, sum_by, take, if◌then◌else◌}
+use Rattle.std.specs.Prelude.{pos, ◌-ℤ◌, nat_lt, nat_le, sum_by, if◌then◌else◌}
 use Rattle.std.specs.List.Sorted.{IsPermutation}
 use Rattle.std.proofs.lemmas.List.Sorted.{sum_by-IsPermutation}
 use Rattle.slot_core.specs.declared.jobs.Job.{Job}
 use Rattle.slot_core.specs.Demand.{work_between}
-use Rattle.slot_core.specs.Spans.{least, slack, spare_capacity, spans_between}
+use Rattle.slot_core.specs.Spans.{least, spare_capacity, spans_between}
 
 -- sums over the two lists are the same
 abbrev pub HasSameSums : List Job → List Job → Type 0

@@ -5,5 +5,7 @@ mod moves;
 pub mod plan;
 mod points;
 mod spans;
+#[cfg(test)]
+mod tests;
 
 pub use plan::{Plan, PlanFault, make_plan};

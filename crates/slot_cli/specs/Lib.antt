@@ -1,3 +1,5 @@
 pub mod Commands
 pub mod Outcomes
 pub mod Runs
+pub mod Works
+pub mod Statuses

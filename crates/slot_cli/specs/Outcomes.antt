@@ -1,8 +1,8 @@
 -- How a run ends: its status, and the line that tells why.
-use Rattle.std.specs.Prelude.{ℕ, List, [], ◌∷◌, ◌++◌, codes, decimal}
+use Rattle.std.specs.Prelude.{ℕ, Bool, true, false, List, [], ◌∷◌, ◌++◌, codes, decimal}
 use Rattle.slot_core.specs.FaultTexts.{task_fault_text, infeasible_text}
 use Rattle.slot_core.specs.Texts.{worded}
-use Rattle.slot_cli.specs.declared.Status.{Status}
+use Rattle.slot_cli.specs.declared.status.Status.{Status}
 use Rattle.slot_cli.specs.declared.outcome.File.{File}
 use Rattle.slot_cli.specs.declared.outcome.File.TheVariants.{Tasks, Arrivals}
 use Rattle.slot_cli.specs.declared.outcome.Outcome.{Outcome}
@@ -47,3 +47,25 @@ reason_of words Memory = codes "out of memory"
 abbrev pub fault_line : List (List ℕ) → Outcome → List ℕ
 fault_line words Done = []
 fault_line words outcome = reason_of words outcome ++ 10 ∷ []
+
+-- the outcome ends a step of the work, before a byte is written
+abbrev pub is_early : Outcome → Bool
+is_early Done = false
+is_early Usage = false
+is_early WriteFault = false
+is_early _ = true
+
+-- the outcome leaves the output as it was
+abbrev pub is_refusal : Outcome → Bool
+is_refusal Done = false
+is_refusal WriteFault = false
+is_refusal Memory = false
+is_refusal _ = true
+
+-- the line of the outcome tells no value, so that it takes no memory
+abbrev pub has_fixed_line : Outcome → Bool
+has_fixed_line (Unreadable file) = false
+has_fixed_line (TooLarge file) = false
+has_fixed_line (BadTasks fault) = false
+has_fixed_line (Infeasible window) = false
+has_fixed_line _ = true

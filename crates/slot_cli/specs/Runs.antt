@@ -1,7 +1,7 @@
 -- What a run has to answer, where the files tell what they hold.
 use Rattle.std.specs.Prelude.{◌≡◌, ℕ, ◌≤◌, ◌⊎◌, ⊤, Bool, List, [], ◌∷◌, ◌++◌, length, nat_lt, if◌then◌else◌, Option, Some, None, Result, Ok, Err, MatchResult}
 use Rattle.std.specs.Option.{option_map_or}
-use Rattle.slot_core.specs.declared.faults.TaskFault.{TaskFault}
+use Rattle.std.specs.Result.{result_map_both}
 use Rattle.slot_core.specs.declared.tasks.TaskSet.{TaskSet}
 use Rattle.slot_core.specs.Cycles.{cycle_of}
 use Rattle.slot_core.specs.Feasible.{counterexample}
@@ -41,11 +41,7 @@ bytes_of held words file =
 
 -- the set that the bytes of the task file write
 abbrev pub set_of : List ℕ → Stage TaskSet
-set_of bytes = read_or_fault (reading_of_tasks bytes)
-  where
-    read_or_fault : Result TaskSet TaskFault → Stage TaskSet
-    read_or_fault (Ok set) = Ok set
-    read_or_fault (Err fault) = Err (BadTasks fault)
+set_of bytes = result_map_both (λ set. set) BadTasks (reading_of_tasks bytes)
 
 -- the set, where it passes the cycle test
 abbrev pub feasible_set : TaskSet → Stage TaskSet
@@ -63,6 +59,12 @@ abbrev pub no_arrivals : List ℕ → Stage (List ℕ)
 no_arrivals [] = Ok []
 no_arrivals (byte ∷ bytes) = Err BadArrivals
 
+-- the arrivals file is read, and has no byte
+abbrev pub arrivals_of : Held → List (List ℕ) → Stage (List ℕ)
+arrivals_of held words = do
+  bytes ← bytes_of held words Arrivals
+  no_arrivals bytes
+
 -- the text that a command writes, or the outcome that ends the run before it
 abbrev pub text_of : Held → List (List ℕ) → Command → Stage (List ℕ)
 text_of held words Check = do
@@ -70,8 +72,7 @@ text_of held words Check = do
   Ok (check_line set)
 text_of held words (Replay slots) = do
   set ← planned_set held words
-  bytes ← bytes_of held words Arrivals
-  none ← no_arrivals bytes
+  arrivals ← arrivals_of held words
   Ok (trace_text set (trace set [] slots))
 
 abbrev pub expected : Held → List (List ℕ) → Stage (List ℕ)

@@ -1,6 +1,6 @@
 //! The command line.
 
-ghost use Rattle.std.specs.Prelude.{◌≡◌, true};
+ghost use Rattle.std.specs.Prelude.{◌≡◌, ◌≤◌, ℕ, true, Some, IfSome};
 ghost use Rattle.std.specs.Char.{is_ascii_digit};
 ghost use Rattle.std.specs.List.{list_all};
 ghost use Rattle.std.specs.Str.Parse.{digits_value};
@@ -20,7 +20,8 @@ pub enum Command {
 
 /// The command that the words write, or None where they are none of the forms.
 pub fn command_of(words: &Words) -> Option<Command>
-    ensures { result ≡ command_of words.now }
+    ensures command { result ≡ command_of words.now }
+    ensures few { (slots : ℕ) → result ≡ Some (Command.Replay slots) → slots ≤ REPLAY_LIMIT }
 {
     if words.len() == 2 && words.word(0) == "check" {
         return Some(Command::Check);
@@ -36,7 +37,8 @@ pub fn command_of(words: &Words) -> Option<Command>
 
 /// The number that a word writes, from 1 to the limit: 1 to 6 digits, the first not 0.
 fn number_of(limit: u32, word: &str) -> Option<u32>
-    ensures { result ≡ number_of limit word.now }
+    ensures number { result ≡ number_of limit word.now }
+    ensures within { IfSome result (λ n. n ≤ limit) }
 {
     if !is_number(word.as_bytes()) {
         return None;

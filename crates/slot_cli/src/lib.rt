@@ -16,12 +16,21 @@ ghost use Rattle.slot_cli.specs.Commands.{command_of};
 ghost use Rattle.slot_cli.specs.Outcomes.{status_of, name_of};
 ghost use Rattle.slot_cli.specs.Runs.{expected, planned_set, IsAnswer, IsReported, IsWritten};
 
+mod append;
 pub mod command;
 pub mod outcome;
+pub mod report;
+pub mod stages;
+pub mod status;
+pub mod work;
 
+pub use status::Status;
+
+use report::report;
 use slot_core::Words;
 use slot_io::{Files, Sink};
 use std::alloc::Global;
+use work::work;
 
 /// Most slots of a replay.
 pub const REPLAY_LIMIT: u32 = 100_000;
@@ -31,21 +40,6 @@ pub const TASK_FILE_LIMIT: usize = 1_048_576;
 
 /// Most bytes of an arrivals file.
 pub const ARRIVALS_FILE_LIMIT: usize = 4_194_304;
-
-/// How a run ended. The numbers are the program's exit statuses, from 0.
-#[derive(Clone, Copy, PartialEq, Eq, Debug)]
-pub enum Status {
-    Done,
-    Usage,
-    FileFault,
-    TooLarge,
-    BadTasks,
-    Infeasible,
-    BadArrivals,
-    WriteFault,
-    Memory,
-    BadTable,
-}
 
 /// Does what the words ask for: reads the files that they name, writes to `out`, and puts one line on `err`
 /// where it ends otherwise than Done. The order of work is that of `expected`: tasks read, set read, cycle
@@ -88,5 +82,6 @@ pub fn run<F: Files, K: Sink, E: Sink>(
         → planned_set held words.now ≡ Ok set
         → IsServed set (cycle_of set) (history_of (trace set [] slots)) × IsOrdered set (cycle_of set) (history_of (trace set [] slots))) }
 {
-    Status::Memory
+    let outcome = work(alloc, words, files, out);
+    report(alloc, words, outcome, err).status()
 }

@@ -194,4 +194,3 @@ kept-at_start set sound none feasible cycles reaches =
     let of_cycle = IsOfCycle-from_offline set cycles job sound (Contains-from_among jobs job at) in
     (of_cycle.2.some, of_cycle.2.whole)) in
     record { serving = empty; safe = rw fresh (offline_jobs_are_safe set cycles sound none feasible) }
-

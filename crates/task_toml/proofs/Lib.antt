@@ -1,6 +1,7 @@
 pub mod Documents
-pub mod Eachs
+pub mod EachLoop
 pub mod FieldRanges
 pub mod JoinedTasks
 pub mod SameTexts
 pub mod ShapeRanges
+pub mod SoundReadings

@@ -1,5 +1,5 @@
 -- The points and jobs of three cycles are as `spans_until` asks, and its first spans are the plan's.
-use Rattle.std.proofs.Common.{◌≡◌, ℕ, ◌^◌, ◌≤◌, List, [], length, take, filter, sym, ap, ap₂, ◌∙◌, subst, arith}
+use Rattle.std.proofs.Common.{◌≡◌, ℕ, ◌≤◌, List, [], length, take, filter, sym, ap, ap₂, ◌∙◌, subst, arith}
 use Rattle.std.specs.Prelude.{All, Contains, sum_by}
 use Rattle.std.specs.List.{range_with_len}
 use Rattle.slot_core.specs.declared.jobs.Job.{Job}
