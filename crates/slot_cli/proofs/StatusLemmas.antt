@@ -1,5 +1,6 @@
 -- What a status says of the files.
 use Rattle.std.proofs.Common.{◌≡◌, ◌⊎◌, ℕ, Bool, true, false, List, Option, None, Some, IfSome, Ok, Err, refl, sym, ap, subst, ◌∙◌, inl, inr}
+use Rattle.std.specs.Io.KnownBytes.{Appends}
 use Rattle.slot_core.specs.declared.faults.TaskFault.{TaskFault}
 use Rattle.slot_core.specs.declared.jobs.Window.{Window}
 use Rattle.slot_io.specs.Files.{Held}
@@ -13,6 +14,7 @@ use Rattle.slot_cli.specs.Commands.{command_of}
 use Rattle.slot_cli.specs.Outcomes.{status_of, has_fixed_line}
 use Rattle.slot_cli.specs.Runs.{Stage, expected, outcome_of, place_of, IsHostFault}
 use Rattle.slot_cli.specs.Works.{Ends}
+use Rattle.slot_cli.proofs.PlaceLemmas.{expected-done}
 
 -- the outcome is found in the bytes of the files
 abbrev pub is_found : Outcome → Bool
@@ -134,3 +136,36 @@ bad_arrivals-status Memory is = cc
 pub reported_unreadable : (outcome reported : Outcome) (file : File) → reported ≡ Unreadable file → (reported ≡ outcome) ⊎ ((reported ≡ Memory) × (has_fixed_line outcome ≡ false)) → outcome ≡ Unreadable file
 reported_unreadable outcome reported file is (inl same) = sym same ∙ is
 reported_unreadable outcome reported file is (inr (memory, line)) = cc
+
+pub done-status : (outcome : Outcome) → status_of outcome ≡ Status.Done → outcome ≡ Done
+done-status Done is = refl
+done-status Usage is = cc
+done-status (Unreadable file) is = cc
+done-status (TooLarge file) is = cc
+done-status (BadTasks fault) is = cc
+done-status (Infeasible window) is = cc
+done-status BadArrivals is = cc
+done-status WriteFault is = cc
+done-status Memory is = cc
+
+reported_done : (outcome reported : Outcome) → reported ≡ Done → (reported ≡ outcome) ⊎ ((reported ≡ Memory) × (has_fixed_line outcome ≡ false)) → outcome ≡ Done
+reported_done outcome reported is (inl same) = sym same ∙ is
+reported_done outcome reported is (inr (memory, line)) = cc
+
+not_host_done : (command : Option Command) → IsHostFault command Done → ⊥
+not_host_done None host = host
+not_host_done (Some Check) host = host
+not_host_done (Some (Replay slots)) host = host
+
+done_is_due : (command : Option Command) (due : Stage (List ℕ)) (before after : Option (List ℕ)) → Ends command due Done before after → outcome_of due ≡ Done
+done_is_due command due before after ends =
+    elim ends.answers [
+      inl is ↦ sym is
+    | inr (inl memory) ↦ cc
+    | inr (inr (host, place)) ↦ absurd (not_host_done command host)
+    ]
+
+-- where the run is told to be done, the text that is due is written
+pub done-reported : (o : Option Held) (words : List (List ℕ)) (outcome reported : Outcome) (before after : Option (List ℕ)) → reported ≡ Done → (reported ≡ outcome) ⊎ ((reported ≡ Memory) × (has_fixed_line outcome ≡ false)) → ((held : Held) → o ≡ Some held → Ends (command_of words) (expected held words) outcome before after) → IfSome o (λ held. (text : List ℕ) × (expected held words ≡ Ok text) × Appends before after text)
+done-reported o words outcome reported before after is kept ends =
+    IfSome-from_each o (λ held. (text : List ℕ) × (expected held words ≡ Ok text) × Appends before after text) (λ held told. let P : Outcome → Type 0 = λ e. Ends (command_of words) (expected held words) e before after in let at = subst P (reported_done outcome reported is kept) (ends held told) in let (text, due) = expected-done held words (done_is_due (command_of words) (expected held words) before after at) in (text, due, at.written text due))

@@ -2,6 +2,7 @@
 #![tactic(auto)]
 
 ghost use Rattle.std.specs.Prelude.{◌≡◌, ◌≢◌, ◌↔◌, ℕ, List, [], None, Some, Ok, Err, IfSome};
+ghost use Rattle.std.specs.Io.KnownBytes.{Appends};
 ghost use Rattle.slot_core.specs.declared.faults.TaskFault.{TaskFault};
 ghost use Rattle.slot_core.specs.declared.jobs.Window.{Window};
 ghost use Rattle.slot_core.specs.declared.tasks.TaskSet.{TaskSet};
@@ -60,6 +61,8 @@ pub fn run<F: Files, K: Sink, E: Sink>(
         × IsReported words.now outcome (E.written err.old) (E.written err.new) (E.faults err.old) (E.faults err.new) }
 
     // One status each.
+    ensures done { result ≡ Status.Done → IfSome (F.held files.old)
+        (λ held. (text : List ℕ) × (expected held words.now ≡ Ok text) × Appends (K.written out.old) (K.written out.new) text) }
     ensures usage { (result ≡ Status.Usage) ↔ (command_of words.now ≡ None) }
     ensures file_fault { result ≡ Status.FileFault → Rose (F.faults files.old) (F.faults files.new) }
     ensures too_large { result ≡ Status.TooLarge → IfSome (F.held files.old)

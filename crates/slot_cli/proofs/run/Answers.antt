@@ -1,6 +1,6 @@
 use Rattle.std.proofs.Common.{Err, sym, ap, ◌∙◌}
 use Rattle.std.proofs.lemmas.Option.{IfSome_then}
-use Rattle.slot_cli.proofs.StatusLemmas.{is_found, IfSome-from_each, unreadable-status, too_large-status, bad_tasks-status, infeasible-status, bad_arrivals-status, reported_unreadable, due-reported}
+use Rattle.slot_cli.proofs.StatusLemmas.{is_found, IfSome-from_each, unreadable-status, too_large-status, bad_tasks-status, infeasible-status, bad_arrivals-status, done-status, done-reported, reported_unreadable, due-reported}
 use Rattle.slot_cli.proofs.ServedRuns.{served-planned}
 use Rattle.slot_cli.proofs.run.Goals as goal
 
@@ -10,6 +10,12 @@ returns-clause-file_fault g c =
     let (file, is) = unreadable-status c.report.result (sym c.status.ensures ∙ status) in
     let unread = reported_unreadable c.work-outcome.result c.report.result file is c.report.ensures.kept in
     (c.work-outcome.ensures.blamed file unread).0
+
+pub returns-clause-done : goal.returns-clause-done
+returns-clause-done g c =
+    λ status.
+    let is = done-status c.report.result (sym c.status.ensures ∙ status) in
+    done-reported (g.F.Files.held c.args.files.now) c.args.words.now c.work-outcome.result c.report.result _ _ is c.report.ensures.kept c.work-outcome.ensures.ends
 
 -- the outcome of such a status is the one that is due
 pub returns-clause-too_large : goal.returns-clause-too_large
