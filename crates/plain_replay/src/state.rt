@@ -32,7 +32,7 @@ pub(crate) struct State {
 
 impl Model for State {
     ghost use Rattle.plain_replay.specs.Told.{entry_at, slot_line};
-ghost use Rattle.plain_replay.specs.States.{ReplayState};
+    ghost use Rattle.plain_replay.specs.States.{ReplayState};
 
     ghost Value = { ReplayState };
 
@@ -131,7 +131,12 @@ impl State {
     }
 
     /// Runs the slot at the time and writes its line, with the spans after it.
-    pub(crate) fn slot<K: Sink>(&mut self, alloc: Global, plan: &Plan, out: &mut K) -> Result<(), ReplayFault>
+    pub(crate) fn slot<K: Sink>(
+        &mut self,
+        alloc: Global,
+        plan: &Plan,
+        out: &mut K,
+    ) -> Result<(), ReplayFault>
         requires offline { plan.now.tasks.sporadics ≡ [] }
         requires current { IsCurrent plan.now.tasks self.old }
         requires early { self.old.time < 100000 }

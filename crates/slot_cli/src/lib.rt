@@ -25,11 +25,10 @@ pub mod stages;
 pub mod status;
 pub mod work;
 
-pub use status::Status;
-
 use report::report;
 use slot_core::Words;
 use slot_io::{Files, Sink};
+pub use status::Status;
 use std::alloc::Global;
 use work::work;
 

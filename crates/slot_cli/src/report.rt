@@ -9,7 +9,9 @@ ghost use Rattle.slot_io.specs.Sinks.{AppendsPart};
 ghost use Rattle.slot_cli.specs.Outcomes.{name_of, limit_of, reason_of, fault_line, has_fixed_line};
 ghost use Rattle.slot_cli.specs.Runs.{IsReported};
 
-use crate::append::{push, push_number, push_part, push_place, push_signed, push_task, push_window, push_worded};
+use crate::append::{
+    push, push_number, push_part, push_place, push_signed, push_task, push_window, push_worded,
+};
 use crate::outcome::{File, Outcome};
 use slot_core::{Memory, Part, Place, TaskFault, Words};
 use slot_io::Sink;
@@ -61,7 +63,9 @@ fn fixed_line(outcome: Outcome) -> Option<&'static [u8]>
 {
     match outcome {
         Outcome::Done => Some(b""),
-        Outcome::Usage => Some(b"usage: slotshift check T, table T, show B, replay T A N, replay-table B A N, gantt T A N, selfrun N\n"),
+        Outcome::Usage => Some(
+            b"usage: slotshift check T, table T, show B, replay T A N, replay-table B A N, gantt T A N, selfrun N\n",
+        ),
         Outcome::BadArrivals => Some(b"arrivals too many\n"),
         Outcome::WriteFault => Some(b"cannot write\n"),
         Outcome::Memory => Some(OUT_OF_MEMORY),
