@@ -171,11 +171,20 @@ job_by-derived_job set chains raw all is =
     ap (after_in chains) is.key ∙ ap (λ o. option_map_or (λ (x : Chains). slice_index x.after is.t) o 0) c.1 ∙ c.2.after.at is.t is.within ∙ sym (ap (λ ts. longest_after ts is.t) tasks) ∙ sym (ap (chain_after set) is.key) in
     ap (λ b. window raw b (after_in chains raw.key)) before ∙ ap (λ a. window raw (chain_before set raw.key) a) after
 
--- the windows of all raw jobs
-pub map-job_by : (set : TaskSet) (chains : List Chains) (raw : List RawJob) → AreChainsOfGraphs set.graphs chains → ((r : RawJob) → Has raw r → IsRawJob set r) → map (job_by chains) raw ≡ map (derived_job set) raw
-map-job_by set chains [] all each = refl
-map-job_by set chains (r ∷ raw) all each =
-    ap (λ j. j ∷ map (job_by chains) raw) (job_by-derived_job set chains r all (each r (inl refl))) ∙ ap (λ js. derived_job set r ∷ js) (map-job_by set chains raw all (λ s h. each s (inr h)))
+-- the windows of some raw jobs, and of all raw jobs of the first cycle
+map-some : (set : TaskSet) (chains : List Chains) (raw : List RawJob) → AreChainsOfGraphs set.graphs chains → ((r : RawJob) → Has raw r → IsRawJob set r) → map (job_by chains) raw ≡ map (derived_job set) raw
+map-some set chains [] all each = refl
+map-some set chains (r ∷ raw) all each =
+    ap (λ j. j ∷ map (job_by chains) raw) (job_by-derived_job set chains r all (each r (inl refl))) ∙ ap (λ js. derived_job set r ∷ js) (map-some set chains raw all (λ s h. each s (inr h)))
+
+pub cycle_jobs-from_chains : (set : TaskSet) (graphs : List Graph) (chains : List Chains) (raw : List RawJob) → is_sound set ≡ true → graphs ≡ set.graphs → AreChainsOfGraphs graphs chains → raw ≡ raw_jobs set (cycle_of set) 0 → map (job_by chains) raw ≡ map (derived_job set) raw
+cycle_jobs-from_chains set graphs chains raw sound same all unrolled =
+    map-some
+    set
+    chains
+    raw
+    (subst (λ gs. AreChainsOfGraphs gs chains) same all)
+    (λ r h. IsRawJob-from_cycle set r sound (subst (λ xs. Has xs r) unrolled h))
 
 -- one pair more
 AllZip-push : {X Y : Type 0} (R : X → Y → Type 0) (xs : List X) (ys : List Y) (x : X) (y : Y) → AllZip R xs ys → R x y → AllZip R (xs ++ x ∷ []) (ys ++ y ∷ [])

@@ -1,13 +1,17 @@
 -- What soundness says of the graphs and the raw jobs, and the order of the sorted jobs.
-use Rattle.std.proofs.Common.{◌≡◌, get_or, map, ap, sym, ◌∙◌, subst, rules}
+use Rattle.std.proofs.Common.{◌≡◌, true, List, get_or, map, ap, sym, ◌∙◌, subst, rules}
 use Rattle.std.proofs.lemmas.List.Elements.{Contains-get_or}
 use Rattle.slot_core.proofs.ListMembers.{Has, Has-from_Contains}
-use Rattle.window_derive.specs.GraphChains.{AreChainsOfGraphs}
-use Rattle.window_derive.proofs.SoundSets.{graphs_orderable, IsRawJob-from_cycle, HasChains-from_graphs, map-job_by}
+use Rattle.window_derive.specs.GraphChains.{AreChainsOfGraphs, job_by}
+use Rattle.window_derive.proofs.SoundSets.{graphs_orderable, IsRawJob-from_cycle, HasChains-from_graphs, cycle_jobs-from_chains}
 use Rattle.slot_core.specs.declared.jobs.Job.{Job}
 use Rattle.slot_core.specs.declared.jobs.RawJob.{RawJob}
+use Rattle.slot_core.specs.declared.tasks.Graph.{Graph}
+use Rattle.slot_core.specs.declared.tasks.TaskSet.{TaskSet}
 use Rattle.slot_core.specs.Cycles.{cycle_of}
-use Rattle.slot_core.specs.OfflineJobs.{derived_job, cycle_jobs}
+use Rattle.slot_core.specs.Ranges.{is_sound}
+use Rattle.window_derive.specs.declared.windows.Chains.{Chains}
+use Rattle.slot_core.specs.OfflineJobs.{raw_jobs, derived_job, cycle_jobs}
 use Rattle.slot_core.proofs.DistinctKeys.{IsApart, offline_jobs-apart}
 use Rattle.slot_core.specs.Keys.{deadline_order}
 use Rattle.std.specs.Ordering.{is_lt}
@@ -15,6 +19,11 @@ use Rattle.std.proofs.lemmas.Cmp.{nat_list_cmp_total}
 use Rattle.std.proofs.lemmas.List.Sorted.{ranks_by, answers_always}
 use Rattle.window_derive.proofs.DeadlineOrder.{job_cmp, AreInDeadlineOrder-from_sorted}
 use Rattle.window_derive.proofs.derive.Goals as goal
+
+-- the windows before the sort are those of the derived jobs
+windows_derived : (set : TaskSet) (graphs : List Graph) (chains lent : List Chains) (raw : List RawJob) (jobs : List Job) → is_sound set ≡ true → graphs ≡ set.graphs → AreChainsOfGraphs graphs chains → lent ≡ chains → raw ≡ raw_jobs set (cycle_of set) 0 → jobs ≡ map (job_by lent) raw → jobs ≡ map (derived_job set) raw
+windows_derived set graphs chains lent raw jobs sound same all lend unrolled made =
+    made ∙ ap (λ xs. map (job_by xs) raw) lend ∙ cycle_jobs-from_chains set graphs chains raw sound same all unrolled
 
 pub chains_of_graphs-requires : goal.chains_of_graphs-requires
 chains_of_graphs-requires c = rw c.items.ensures (graphs_orderable c.args.tasks.now c.requires.sound)
@@ -30,22 +39,15 @@ windows_of-requires c = λ k d within.
 
 pub returns-clause-jobs : goal.returns-clause-jobs
 returns-clause-jobs c =
-    let set = c.args.tasks.now in
-    let raw = c.args.raw.now in
-    let all : AreChainsOfGraphs set.graphs c.as_slice.result.now = rw (c.as_slice.ensures.value, ← c.items.ensures) c.in_ok-chains.ensures in
-    let each = λ (r : RawJob) (h : Has raw r). IsRawJob-from_cycle set r c.requires.sound (subst (λ xs. Has xs r) c.requires.unrolled h) in
-    let jobs = c.in_ok-jobs.ensures ∙ map-job_by set c.as_slice.result.now raw all each in
+    let jobs = windows_derived c.args.tasks.now c.items.result.now c.in_ok-chains.chains.items c.as_slice.result.now c.args.raw.now c.in_ok-jobs.jobs.items c.requires.sound c.items.ensures c.in_ok-chains.ensures c.as_slice.ensures.value c.requires.unrolled c.in_ok-jobs.ensures in
     rw (← jobs) c.sort_unstable_by.ensures.permutation
 
 pub returns-clause-ordered : goal.returns-clause-ordered
 returns-clause-ordered c =
     let set = c.args.tasks.now in
-    let raw = c.args.raw.now in
-    let all : AreChainsOfGraphs set.graphs c.as_slice.result.now = rw (c.as_slice.ensures.value, ← c.items.ensures) c.in_ok-chains.ensures in
-    let each = λ (r : RawJob) (h : Has raw r). IsRawJob-from_cycle set r c.requires.sound (subst (λ xs. Has xs r) c.requires.unrolled h) in
-    let jobs = c.in_ok-jobs.ensures ∙ map-job_by set c.as_slice.result.now raw all each in
     let cycle = cycle_of set in
     let key = λ (j : Job). j.key in
+    let jobs = windows_derived set c.items.result.now c.in_ok-chains.chains.items c.as_slice.result.now c.args.raw.now c.in_ok-jobs.jobs.items c.requires.sound c.items.ensures c.in_ok-chains.ensures c.as_slice.ensures.value c.requires.unrolled c.in_ok-jobs.ensures in
     let listed : c.in_ok-jobs.jobs.items ≡ cycle_jobs set cycle 0 = jobs ∙ ap (map (derived_job set)) c.requires.unrolled in
     let apart : IsApart key c.in_ok-jobs.jobs.items = subst (IsApart key) (sym listed) (offline_jobs-apart set cycle 1) in
     let up = c.sort_unstable_by.ensures.sorted (λ a b. is_lt (job_cmp a b)) (ranks_by nat_list_cmp_total deadline_order) (answers_always _ _ _ (λ f a r g h. search rules)) in
