@@ -12,11 +12,10 @@ use slot_core::{
 use std::alloc::Global;
 use std::test::Fail;
 
-/// What varies: the names of the graphs, the names and entries of the second one's tasks, the periods.
+/// What varies: the names of the second graph and of its tasks, the tasks' entries, the periods.
 #[derive(Clone, Copy)]
 struct Case {
-    graphs: [&'static str; 2],
-    tasks: [&'static str; 2],
+    names: [&'static str; 3],
     after: [&'static [u16]; 2],
     periods: [u32; 2],
     fault: Option<TaskFault>,
@@ -24,15 +23,13 @@ struct Case {
 
 /// A case of these parts.
 fn case_of(
-    graphs: [&'static str; 2],
-    tasks: [&'static str; 2],
+    names: [&'static str; 3],
     after: [&'static [u16]; 2],
     periods: [u32; 2],
     fault: Option<TaskFault>,
 ) -> Case {
     Case {
-        graphs,
-        tasks,
+        names,
         after,
         periods,
         fault,
@@ -106,103 +103,53 @@ fn set_of(alloc: Global, first: Graph, second: Graph) -> Result<TaskSet, Memory>
 fn set_of_case(alloc: Global, case: &Case) -> Result<TaskSet, Fail>
     ensures { IfOk result (λ set. is_in_range set ≡ true) }
 {
-    let [p, q] = case.graphs;
-    let [a, b] = case.tasks;
+    let [q, a, b] = case.names;
     let [after_a, after_b] = case.after;
-    let first = graph(
+    let [first, second] = case.periods;
+    let p = graph(
         alloc,
-        p,
-        case.periods[0],
+        "p",
+        first,
         task(alloc, "a", &[])?,
         task(alloc, "b", &[0])?,
     )?;
-    let second = graph(
+    let q = graph(
         alloc,
         q,
-        case.periods[1],
+        second,
         task(alloc, a, after_a)?,
         task(alloc, b, after_b)?,
     )?;
-    Ok(set_of(alloc, first, second)?)
+    Ok(set_of(alloc, p, q)?)
 }
 
-/// A key of a part.
-fn place(part: Part, field: Field) -> Place {
-    Place { part, field }
+/// The fault of a doubled key.
+fn doubled(part: Part, field: Field) -> Option<TaskFault> {
+    Some(Doubled(Place { part, field }))
 }
 
 #[test]
 fn tells_the_first_fault(rt: HostRuntime) -> Result<(), Fail> {
-    let graph_name = Doubled(place(Part::Graph(1), Field::Name));
-    let task_name = Doubled(place(Part::Task(1, 1), Field::Name));
-    let first = place(Part::Task(1, 0), Field::After);
-    let second = place(Part::Task(1, 1), Field::After);
+    let graph_name = doubled(Part::Graph(1), Field::Name);
+    let task_name = doubled(Part::Task(1, 1), Field::Name);
+    let entry = doubled(Part::Task(1, 1), Field::After);
+    let no_task = Some(NoSuchTask(Place {
+        part: Part::Task(1, 0),
+        field: Field::After,
+    }));
+    let too_long = Some(CycleTooLong(16773120));
     let cases = [
-        case_of(["p", "q"], ["a", "b"], [&[], &[0]], [2, 3], None),
-        case_of(
-            ["p", "p"],
-            ["a", "b"],
-            [&[], &[0]],
-            [2, 3],
-            Some(graph_name),
-        ),
-        case_of(["p", "q"], ["a", "a"], [&[], &[0]], [2, 3], Some(task_name)),
-        case_of(
-            ["p", "q"],
-            ["a", "b"],
-            [&[], &[0, 0]],
-            [2, 3],
-            Some(Doubled(second)),
-        ),
-        case_of(
-            ["p", "q"],
-            ["a", "b"],
-            [&[2], &[0]],
-            [2, 3],
-            Some(NoSuchTask(first)),
-        ),
-        case_of(
-            ["p", "q"],
-            ["a", "b"],
-            [&[], &[1]],
-            [2, 3],
-            Some(Loop(1, 1)),
-        ),
-        case_of(
-            ["p", "q"],
-            ["a", "b"],
-            [&[1], &[0]],
-            [2, 3],
-            Some(Loop(1, 0)),
-        ),
-        case_of(
-            ["p", "q"],
-            ["a", "b"],
-            [&[], &[0]],
-            [4096, 4095],
-            Some(CycleTooLong(16773120)),
-        ),
-        case_of(
-            ["p", "q"],
-            ["a", "a"],
-            [&[2], &[0]],
-            [2, 3],
-            Some(task_name),
-        ),
-        case_of(
-            ["p", "q"],
-            ["a", "b"],
-            [&[0], &[2]],
-            [2, 3],
-            Some(NoSuchTask(second)),
-        ),
-        case_of(
-            ["p", "q"],
-            ["a", "b"],
-            [&[1], &[0]],
-            [4096, 4095],
-            Some(Loop(1, 0)),
-        ),
+        case_of(["q", "a", "b"], [&[], &[0]], [2, 3], None),
+        case_of(["p", "a", "b"], [&[], &[0]], [2, 3], graph_name),
+        case_of(["q", "a", "a"], [&[], &[0]], [2, 3], task_name),
+        case_of(["q", "a", "b"], [&[], &[0, 0]], [2, 3], entry),
+        case_of(["q", "a", "b"], [&[2], &[0]], [2, 3], no_task),
+        case_of(["q", "a", "b"], [&[], &[1]], [2, 3], Some(Loop(1, 1))),
+        case_of(["q", "a", "b"], [&[1], &[0]], [2, 3], Some(Loop(1, 0))),
+        case_of(["q", "a", "b"], [&[], &[0]], [4096, 4095], too_long),
+        case_of(["q", "a", "a"], [&[2], &[0]], [2, 3], task_name),
+        case_of(["q", "a", "b"], [&[2], &[1]], [2, 3], no_task),
+        case_of(["q", "a", "b"], [&[0], &[]], [64, 65], Some(Loop(1, 0))),
     ];
     for (index, case) in cases.iter().enumerate() {
         let set = set_of_case(rt.alloc(), case)?;

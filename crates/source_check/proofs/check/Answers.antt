@@ -1,5 +1,5 @@
 -- What the ranges say of the sizes and of the lengths of the cycle.
-use Rattle.std.proofs.Common.{◌≤◌, length, sym, ap, subst}
+use Rattle.std.proofs.Common.{◌≤◌, length, sym, subst}
 use Rattle.graph_unroll.proofs.RangeLemmas.{lengths_in_range}
 use Rattle.source_check.specs.Verdicts.{AreFew}
 use Rattle.source_check.proofs.RangeLemmas.{AreFew-from_range, few_sporadics}
