@@ -109,9 +109,9 @@ same_choice t xs ys best first same earliest_one found =
     let m = twin t ys xs first (same-sym xs ys same) found.among found.passes in
     let j = twin t xs ys best same own.1 own.0 in
     let after : IsNotAfter best first =
-        ap is_gt (sym (alike_right job_cmp_total m.0 first best m.3)) ∙ earliest_one.first m.0 (IsAmong-filter may xs m.0 m.2 m.1) in
+    ap is_gt (sym (alike_right job_cmp_total m.0 first best m.3)) ∙ earliest_one.first m.0 (IsAmong-filter may xs m.0 m.2 m.1) in
     let before : IsNotAfter first best =
-        ap is_gt (sym (alike_right job_cmp_total j.0 best first j.3)) ∙ found.first j.0 j.1 j.2 in
+    ap is_gt (sym (alike_right job_cmp_total j.0 best first j.3)) ∙ found.first j.0 j.1 j.2 in
     one_key best first after before
 
 -- the first job of the ordered list that may run is the one that runs

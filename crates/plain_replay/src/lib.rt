@@ -48,7 +48,12 @@ impl From<Failed> for ReplayFault {
 
 /// Writes the trace of so many slots without arrivals, one put a line: the start, each slot with what runs in
 /// it and the first spans after it, and the end. After a fault a part of the text from its front is written.
-pub fn replay<K: Sink>(alloc: Global, plan: &Plan, slots: u32, out: &mut K) -> Result<(), ReplayFault>
+pub fn replay<K: Sink>(
+    alloc: Global,
+    plan: &Plan,
+    slots: u32,
+    out: &mut K,
+) -> Result<(), ReplayFault>
     requires few { slots ≤ 100000 }
     requires offline { plan.now.tasks.sporadics ≡ [] }
     ensures ok { OnOk result (Appends (K.written out.old) (K.written out.new) (trace_text plan.now.tasks (trace plan.now.tasks [] slots))) }

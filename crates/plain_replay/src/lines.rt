@@ -14,7 +14,11 @@ use slot_io::Sink;
 use trace_text::entry_line;
 
 /// Writes the line of an entry.
-pub(crate) fn put_line<K: Sink>(entry: &Entry, tasks: &TaskSet, out: &mut K) -> Result<(), ReplayFault>
+pub(crate) fn put_line<K: Sink>(
+    entry: &Entry,
+    tasks: &TaskSet,
+    out: &mut K,
+) -> Result<(), ReplayFault>
     requires named { what_in_set tasks.now entry.now.what ≡ true }
     ensures ok { OnOk result (Appends (K.written out.old) (K.written out.new) (entry_line tasks.now entry.now)) }
     ensures part { OnErr result (AppendsPart (K.written out.old) (K.written out.new) (entry_line tasks.now entry.now)) }

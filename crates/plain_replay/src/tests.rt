@@ -106,7 +106,9 @@ fn replayed(alloc: Global, tasks: TaskSet, slots: u32) -> Result<MemorySink, Fai
 {
     let mut sink = MemorySink::with_room(alloc, 4096)?;
     let plan = make_plan(alloc, tasks).ok().ok_or("no plan")?;
-    replay(alloc, &plan, slots, &mut sink).ok().ok_or("no trace")?;
+    replay(alloc, &plan, slots, &mut sink)
+        .ok()
+        .ok_or("no trace")?;
     Ok(sink)
 }
 
