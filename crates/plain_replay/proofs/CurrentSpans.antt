@@ -1,22 +1,21 @@
 -- The spans of a current state are those of the scene of its history.
-use Rattle.std.proofs.Common.{◌≡◌, ℕ, zero, suc, ◌+◌, ◌-◌, ◌*◌, ◌/◌, ◌^◌, ◌<◌, ◌≤◌, Bool, true, false, cond, List, [], ◌∷◌, map, filter, length, take, div-mul-le_self, le-leb, refl, sym, ap, ap₂, subst, ◌∙◌, arith}
+use Rattle.std.proofs.Common.{◌≡◌, ℕ, zero, suc, ◌+◌, ◌-◌, ◌*◌, ◌/◌, ◌≤◌, Bool, true, false, cond, List, [], ◌∷◌, length, take, div-mul-le_self, le-leb, refl, sym, ap, ap₂, subst, ◌∙◌, arith}
 use Rattle.std.specs.Prelude.{sum_by, All, Contains, nat_le}
 use Rattle.std.specs.List.{AllByRecursion, range_with_len}
 use Rattle.std.proofs.lemmas.List.Elements.{All-from_recursion}
-use Rattle.std.proofs.lemmas.List.FromFn.{length-range_with_len}
-use Rattle.std.proofs.lemmas.List.Sums.{sum_by-cons, length-filter, count_by-le-length}
+use Rattle.std.proofs.lemmas.List.Sums.{sum_by-cons}
 use Rattle.slot_core.specs.declared.jobs.Job.{Job}
 use Rattle.slot_core.specs.declared.tasks.TaskSet.{TaskSet}
 use Rattle.slot_core.specs.Cycles.{cycle_of}
 use Rattle.slot_core.specs.Demand.{work_by}
-use Rattle.slot_core.specs.Histories.{time_of}
 use Rattle.slot_core.specs.OfflineJobs.{offline_jobs}
 use Rattle.slot_core.specs.Scenes.{unended, remaining, horizon, points_of, scene_of}
 use Rattle.slot_core.specs.Spans.{spans_between, shown_of}
-use Rattle.slot_core.proofs.KeptHistories.{below_end}
-use Rattle.slot_core.proofs.ListMembers.{Has, Contains-from_Has, Has-filter, Has-range_with_len}
+use Rattle.slot_core.proofs.ListMembers.{Contains-from_Has, Has-filter, Has-range_with_len}
 use Rattle.slot_core.proofs.OfflineJobLemmas.{cycle-positive, cycle-at_most}
 use Rattle.interval_build.specs.Ends.{AreRising, last_end}
+use Rattle.cycle_plan.proofs.RisingEnds.{AreRising-filter, length-filter_range}
+use Rattle.cycle_plan.proofs.SpanSums.{spans_between-same}
 use Rattle.plain_replay.specs.Current.{IsCurrent}
 use Rattle.plain_replay.specs.Shown.{HasSpans, shown_after}
 use Rattle.plain_replay.specs.States.{ReplayState}
@@ -25,23 +24,9 @@ use Rattle.plain_replay.proofs.CurrentStates.{waiting-current}
 use Rattle.plain_replay.proofs.NextStates.{points-history_at, past_now}
 use Rattle.plain_replay.proofs.PointSteps.{points_from}
 use Rattle.plain_replay.proofs.RunSteps.{all-from_among}
-use Rattle.plain_replay.proofs.SameSums.{spans_between-same, same-sym}
+use Rattle.plain_replay.proofs.SameSums.{same-sym}
 use Rattle.plain_replay.proofs.SetPoints.{is_plan_point, end_of_cycle}
 use Rattle.plain_replay.proofs.SlotHistories.{IsOffline, time_of-history_at, cycles_at, reaches-history_at, kept-history_at, remaining-history_at}
-
--- the numbers of a range that pass rise, and are no more than the range has
-rising-cond : (b : Bool) (s a : ℕ) (xs : List ℕ) → s < a → AreRising s xs → AreRising a xs → AreRising s (cond b (a ∷ xs) xs)
-rising-cond true s a xs lt skip take = (lt, take)
-rising-cond false s a xs lt skip take = skip
-
-points_from-rising : (p : ℕ → Bool) (s a n : ℕ) → s < a → AreRising s (points_from p a n)
-points_from-rising p s a zero lt = tt
-points_from-rising p s a (suc n) lt =
-    rising-cond (p a) s a (points_from p (a + 1) n) lt (points_from-rising p s (a + 1) n (omega arith)) (points_from-rising p a (a + 1) n (omega arith))
-
-points_from-few : (p : ℕ → Bool) (a n : ℕ) → length (points_from p a n) ≤ n
-points_from-few p a n =
-    omega (arith, length-filter p (range_with_len a n), count_by-le-length p (range_with_len a n), length-range_with_len a n)
 
 -- where the last number passes, it is the last end
 last_end-cond : (b : Bool) (s a : ℕ) (xs : List ℕ) (e : ℕ) → last_end s xs ≡ e → last_end a xs ≡ e → last_end s (cond b (a ∷ xs) xs) ≡ e
@@ -74,7 +59,7 @@ last_end-current set state offline current =
     let past = past_now t (cycle_of set) (cycle-positive set offline.sound) in
     let count : horizon (cycle_of set) state.time - state.time ≡ suc (horizon (cycle_of set) state.time - suc state.time) = omega (arith, past) in
     let cycles : end ≡ suc (t / cycle_of set + 2) * cycle_of set = omega arith in
-    let last = points_from-last (is_plan_point set) t (t + 1) (end - suc t) end (omega (arith, past)) (end_of_cycle set (t / cycle_of set + 2) end cycles) in
+    let last = points_from-last (is_plan_point set) t (t + 1) (end - suc t) end (omega (arith, past)) (end_of_cycle set (t / cycle_of set + 2) end offline.sound offline.feasible cycles) in
     ap (last_end t) (ends-current set state offline current ∙ ap (points_from (is_plan_point set) (t + 1)) count) ∙ last
 
 -- each job is due at one of them
@@ -127,9 +112,9 @@ HasSpans-current set state offline current early =
     let near = horizon-near t (cycle_of set) early (cycle-at_most set offline.sound) in
     let ends = ends-current set state offline current in
     record {
-      rising = subst (AreRising state.time) (sym ends) (points_from-rising (is_plan_point set) t (t + 1) (end - t) (omega arith));
+      rising = subst (AreRising state.time) (sym ends) (AreRising-filter (is_plan_point set) t (t + 1) (end - t) (omega arith));
       near = omega (arith, last_end-current set state offline current);
-      few = omega (arith, ap length ends, points_from-few (is_plan_point set) (t + 1) (end - t));
+      few = omega (arith, ap length ends, length-filter_range (is_plan_point set) (t + 1) (end - t));
       ordered = current.ordered;
       due = due-current set state offline current;
       small = omega (arith, left-current set state offline current);

@@ -1,40 +1,31 @@
 -- The state of a replay is current before the first slot, and every slot keeps it so.
-use Rattle.std.proofs.Common.{◌≡◌, ℕ, zero, suc, ◌+◌, ◌-◌, ◌*◌, ◌/◌, ◌%◌, ◌<◌, ◌≤◌, Bool, true, false, cond, ◌&&◌, eqb, List, [], ◌∷◌, ◌++◌, is_eq, mod-lt, add-one, le-leb, lt-ltb, leb-true, ltb-true, eq-eqb, ne_eqb, refl, sym, ap, ap₂, subst, ◌∙◌, ◌⊎◌, inl, inr, arith}
-use Rattle.std.specs.Prelude.{◌==◌, nat_le, nat_lt}
+use Rattle.std.proofs.Common.{◌≡◌, ◌≤◌, Bool, true, ◌&&◌, [], is_eq, le-leb, lt-ltb, leb-true, ltb-true, sym, ap, ◌∙◌}
+use Rattle.std.specs.Prelude.{nat_le, nat_lt}
 use Rattle.std.specs.List.{AllByRecursion}
 use Rattle.std.specs.Cmp.{Equal-is}
-use Rattle.std.proofs.Math.Nat.{zero-div}
-use Rattle.std.proofs.lemmas.Bool.{cases_lt, and_parts, and_from}
+use Rattle.std.proofs.lemmas.Bool.{and_parts, and_from}
 use Rattle.std.proofs.lemmas.Cmp.{tied_itself}
 use Rattle.std.proofs.lemmas.Map.Lookups.{exact_bytes}
-use Rattle.std.proofs.lemmas.Nat.{div-add-mod', div-mul-add, mod-mul-add}
 use Rattle.slot_core.specs.declared.jobs.Job.{Job}
 use Rattle.slot_core.specs.declared.tasks.TaskSet.{TaskSet}
-use Rattle.slot_core.specs.declared.events.Ran.{Ran}
 use Rattle.slot_core.specs.Cycles.{cycle_of}
 use Rattle.slot_core.specs.Choice.{earliest, ready}
 use Rattle.slot_core.specs.Keys.{key_order, deadline_order}
-use Rattle.slot_core.specs.Histories.{History, time_of}
-use Rattle.slot_core.specs.OfflineJobs.{cycle_jobs, offline_jobs}
-use Rattle.slot_core.specs.Plans.{AreInDeadlineOrder, PlanParts, IsPlan}
-use Rattle.slot_core.specs.Scenes.{unended, remaining, horizon, points_of}
-use Rattle.slot_core.specs.Steps.{after_slot}
-use Rattle.slot_core.specs.Traces.{slot, ran_entry, entry_of}
+use Rattle.slot_core.specs.Histories.{time_of}
+use Rattle.slot_core.specs.Plans.{PlanParts, IsPlan}
+use Rattle.slot_core.specs.Scenes.{remaining, horizon}
+use Rattle.slot_core.specs.Traces.{ran_entry}
 use Rattle.slot_core.proofs.ChoiceLemmas.{same_from_order, job_cmp, job_cmp_total}
-use Rattle.slot_core.proofs.HistoryLemmas.{IsAmong, IsAmong-from_contains, Contains-from_among, unended-start}
+use Rattle.slot_core.proofs.HistoryLemmas.{IsAmong}
 use Rattle.slot_core.proofs.KeptHistories.{ran_of, entry-quiet}
-use Rattle.slot_core.proofs.OfflineJobLemmas.{cycle-positive}
-use Rattle.slot_core.proofs.OfflineWindows.{IsOfCycle-from_offline}
-use Rattle.plain_replay.specs.Current.{HaveSameSums, IsCurrent}
-use Rattle.plain_replay.specs.States.{ReplayState, first_ready, after_first, ends_after, jobs_in_cycle, ends_in_cycle, with_cycle, first_state, with_next_cycle, state_after, next_state}
+use Rattle.plain_replay.specs.Current.{IsCurrent}
+use Rattle.plain_replay.specs.States.{ReplayState, first_ready}
 use Rattle.plain_replay.specs.Told.{history_at, entry_at}
-use Rattle.plain_replay.proofs.CycleOrder.{ordered-append, jobs_in_cycle-same, jobs_in_cycle-ordered, jobs_in_cycle-due}
 use Rattle.plain_replay.proofs.FirstReady.{first-chosen}
-use Rattle.plain_replay.proofs.PointSteps.{points_from, points_from-append, ends_after-points}
-use Rattle.plain_replay.proofs.RunSteps.{after_first-all, after_first-ordered, AreApart, AreApart-from_order, all-from_among, after_first-run}
-use Rattle.plain_replay.proofs.SameSums.{same-append, same-after_run, passes-same, all-same, same-sym}
-use Rattle.plain_replay.proofs.SetPoints.{feasible-from_plan, is_plan_point, points_of-quiet, points_of-start, ends_in_cycle-points}
-use Rattle.plain_replay.proofs.SlotHistories.{IsOffline, time_of-history_at, quiet-history_at, remaining-history_at, cycles_at, IsWaiting, waiting-remaining, one_due-remaining, unended-after_slot, unended-next_cycle, unended-append}
+use Rattle.plain_replay.proofs.RunSteps.{AreApart, AreApart-from_order, all-from_among}
+use Rattle.plain_replay.proofs.SameSums.{passes-same, all-same, same-sym}
+use Rattle.plain_replay.proofs.SetPoints.{feasible-from_plan, is_plan_point}
+use Rattle.plain_replay.proofs.SlotHistories.{IsOffline, time_of-history_at, quiet-history_at, IsWaiting, waiting-remaining, one_due-remaining}
 
 pub offline-from_plan : (plan : PlanParts) → IsPlan plan → plan.tasks.sporadics ≡ [] → IsOffline plan.tasks
 offline-from_plan plan is_plan none =

@@ -9,10 +9,9 @@ use Rattle.std.specs.Cmp.{Equal-is}
 use Rattle.std.specs.Cmp.Lexicographic.{slice_cmp}
 use Rattle.std.proofs.lemmas.Bool.{both_ways, and_parts, and_from}
 use Rattle.std.proofs.lemmas.Cmp.{alike_right, tied_itself}
-use Rattle.slot_core.specs.declared.jobs.Key.{Key}
 use Rattle.slot_core.specs.declared.jobs.Job.{Job}
 use Rattle.slot_core.specs.declared.events.Ran.TheVariants.{Key as RanKey, Idle as RanIdle}
-use Rattle.slot_core.specs.Keys.{key_order, same_key, is_earlier}
+use Rattle.slot_core.specs.Keys.{key_order, is_earlier}
 use Rattle.slot_core.specs.Choice.{earlier_of, earliest, ready}
 use Rattle.slot_core.specs.Plans.{AreInDeadlineOrder}
 use Rattle.slot_core.proofs.ChoiceLemmas.{same_from_key, job_cmp, job_cmp_total, IsNotAfter, IsNotAfter-from_earlier, IsEarliest, IsEarliest-from_earliest}

@@ -1,6 +1,6 @@
 -- A slot of the first job that may run, in a list in deadline order without two jobs of one key.
-use Rattle.std.proofs.Common.{◌≡◌, ℕ, ◌-◌, ◌≤◌, Bool, true, false, cond, List, [], ◌∷◌, ◌++◌, map, Option, Some, None, nat_cmp, is_eq, is_lt, refl, sym, ap, ◌∙◌, inl, inr, arith}
-use Rattle.std.specs.Prelude.{find, filter, nat_le, nat_lt}
+use Rattle.std.proofs.Common.{◌≡◌, ℕ, ◌-◌, ◌≤◌, Bool, true, false, cond, List, [], ◌∷◌, Option, Some, None, nat_cmp, is_eq, is_lt, refl, sym, ap, ◌∙◌, inl, inr, arith}
+use Rattle.std.specs.Prelude.{find, nat_le, nat_lt}
 use Rattle.std.specs.List.{AllByRecursion}
 use Rattle.std.specs.Option.{option_map_or}
 use Rattle.std.specs.Cmp.Lexicographic.{slice_cmp}
@@ -9,13 +9,14 @@ use Rattle.std.proofs.lemmas.Bool.Decides.{nat_tests}
 use Rattle.std.proofs.lemmas.Cmp.{tied_itself, nat_list_cmp_total}
 use Rattle.slot_core.specs.declared.jobs.Key.{Key}
 use Rattle.slot_core.specs.declared.jobs.Job.{Job}
-use Rattle.slot_core.specs.declared.events.Ran.{Ran}
 use Rattle.slot_core.specs.declared.events.Ran.TheVariants.{Key as RanKey, Idle as RanIdle}
 use Rattle.slot_core.specs.Keys.{key_order, same_key, deadline_order, is_earlier}
 use Rattle.slot_core.specs.Plans.{AreInDeadlineOrder}
 use Rattle.slot_core.specs.Steps.{after_run, after_slot}
-use Rattle.slot_core.proofs.ChoiceLemmas.{same_from_key, job_cmp, job_cmp_total}
-use Rattle.slot_core.proofs.HistoryLemmas.{IsAmong}
+use Rattle.slot_core.proofs.ChoiceLemmas.{same_from_key, job_cmp_total}
+use Rattle.slot_core.proofs.DistinctKeys.{IsApart}
+use Rattle.slot_core.proofs.HistoryLemmas.{IsAmong, IsAmong-from_contains, Contains-from_among}
+use Rattle.slot_core.proofs.ListMembers.{Has, Has-from_Contains, Contains-from_Has, AllByRecursion-from_Has}
 use Rattle.plain_replay.specs.States.{first_ready, after_first}
 use Rattle.plain_replay.proofs.FirstReady.{all_among}
 
@@ -41,18 +42,14 @@ after_first-ordered t (j ∷ jobs) ordered =
     by_tests true false rest first = ordered.1
     by_tests false more rest first = (first, rest)
 
+-- what holds of each job holds of all
+pub all-from_among : (P : Job → Type 0) (jobs : List Job) → ((job : Job) → IsAmong job jobs → P job) → AllByRecursion P jobs
+all-from_among P jobs each =
+    AllByRecursion-from_Has P jobs (λ job at. each job (IsAmong-from_contains jobs job (Contains-from_Has jobs job at)))
+
 -- no two jobs have one key
 abbrev pub AreApart : List Job → Type 0
-AreApart [] = Unit {0}
-AreApart (j ∷ jobs) = AllByRecursion (λ (o : Job). j.key ≡ o.key → ⊥) jobs × AreApart jobs
-
-pub all-from_among : (P : Job → Type 0) (jobs : List Job) → ((job : Job) → IsAmong job jobs → P job) → AllByRecursion P jobs
-all-from_among P [] each = tt
-all-from_among P (j ∷ jobs) each = (each j (inl refl), all-from_among P jobs (λ job at. each job (inr at)))
-
-both-all : (P Q R : Job → Type 0) (jobs : List Job) → ((j : Job) → P j → Q j → R j) → AllByRecursion P jobs → AllByRecursion Q jobs → AllByRecursion R jobs
-both-all P Q R [] join p q = tt
-both-all P Q R (j ∷ jobs) join p q = (join j p.0 q.0, both-all P Q R jobs join p.1 q.1)
+AreApart = IsApart (λ (j : Job). j.key)
 
 -- in deadline order this is so where jobs of one key have one deadline
 not_earlier_itself : (a b : Job) → a.key ≡ b.key → a.dl ≡ b.dl → is_earlier a b ≡ true → ⊥
@@ -64,16 +61,18 @@ not_earlier_itself a b key due e =
 pub AreApart-from_order : (jobs : List Job) → AreInDeadlineOrder jobs → ((a b : Job) → IsAmong a jobs → IsAmong b jobs → a.key ≡ b.key → a.dl ≡ b.dl) → AreApart jobs
 AreApart-from_order [] ordered due = tt
 AreApart-from_order (j ∷ jobs) ordered due = (
-  both-all (λ o. is_earlier j o ≡ true) (λ o. j.key ≡ o.key → j.dl ≡ o.dl) (λ o. j.key ≡ o.key → ⊥) jobs (λ o e d key. not_earlier_itself j o key (d key) e) ordered.0 (all-from_among (λ o. j.key ≡ o.key → j.dl ≡ o.dl) jobs (λ o at. due j o (inl refl) (inr at))),
+  λ o at key.
+      let later = IsAmong-from_contains jobs o (Contains-from_Has jobs o at) in
+      not_earlier_itself j o key (due j o (inl refl) (inr later) key) (all_among (λ x. is_earlier j x ≡ true) jobs o ordered.0 later),
   AreApart-from_order jobs ordered.1 (λ a b at_a at_b. due a b (inr at_a) (inr at_b)),
 )
 
 -- a run of another job changes nothing
-run_of_another : (key : Key) (jobs : List Job) → AllByRecursion (λ (o : Job). key ≡ o.key → ⊥) jobs → AllByRecursion (λ (o : Job). 1 ≤ o.left) jobs → after_run key jobs ≡ jobs
+run_of_another : (key : Key) (jobs : List Job) → ((o : Job) → Has jobs o → key ≡ o.key → ⊥) → AllByRecursion (λ (o : Job). 1 ≤ o.left) jobs → after_run key jobs ≡ jobs
 run_of_another key [] other some = refl
 run_of_another key (j ∷ jobs) other some =
-    let differs = false_from_ne_true (same_key j.key key) λ same. other.0 (sym (same_from_key j.key key same)) in
-    let rest = run_of_another key jobs other.1 some.1 in
+    let differs = false_from_ne_true (same_key j.key key) λ same. other j (inl refl) (sym (same_from_key j.key key same)) in
+    let rest = run_of_another key jobs (λ o at. other o (inr at)) some.1 in
     let here : 1 ≤ j.left = some.0 in
     grind (arith, nat_tests)
 
@@ -106,6 +105,7 @@ after_first-run t (j ∷ jobs) apart some =
     by_test true found e rest = sym (run_of_first j jobs (run_of_another j.key jobs apart.0 some.1))
     by_test false None e rest = ap (λ js. j ∷ js) rest
     by_test false (Some o) e rest =
-        let other = all_among (λ (o : Job). j.key ≡ o.key → ⊥) jobs o apart.0 (found-among (λ (o : Job). nat_le o.est t) jobs o e) in
+        let found = Contains-from_among jobs o (found-among (λ (o : Job). nat_le o.est t) jobs o e) in
+        let other = apart.0 o (Has-from_Contains jobs o found) in
         let differs = false_from_ne_true (same_key j.key o.key) λ same. other (same_from_key j.key o.key same) in
         ap (λ js. j ∷ js) rest ∙ sym (run_of_later o.key j jobs differs some.0)

@@ -1,16 +1,11 @@
--- What depends on a list of jobs by sums alone is the same for every order of the list.
-use Rattle.std.proofs.Common.{◌≡◌, ℕ, ◌+◌, ◌-◌, ◌≤◌, Bool, true, false, cond, not, List, [], ◌∷◌, ◌++◌, map, filter, take, refl, sym, ap, ◌∙◌, inl, inr, arith}
-use Rattle.std.specs.Prelude.{sum_by, nat_le, nat_lt, ◌&&◌, IsPermutation}
-use Rattle.std.specs.List.{AllByRecursion}
+-- Lists that have the same jobs in any order, by the sums over them.
+use Rattle.std.proofs.Common.{◌≡◌, ℕ, ◌+◌, ◌-◌, ◌≤◌, Bool, true, false, cond, not, List, [], ◌∷◌, ◌++◌, map, filter, refl, sym, ap, ◌∙◌, inl, inr, arith}
+use Rattle.std.specs.Prelude.{sum_by, nat_lt}
 use Rattle.std.proofs.lemmas.Bool.{cases_Bool, true_from_ne_false, not_from_false, not-true, both_ways}
-use Rattle.std.proofs.lemmas.Bool.Decides.{nat_tests}
 use Rattle.std.proofs.lemmas.List.Sums.{sum_by-cons, sum_by-append}
-use Rattle.std.proofs.lemmas.List.Sorted.{sum_by-IsPermutation}
 use Rattle.slot_core.specs.declared.jobs.Key.{Key}
 use Rattle.slot_core.specs.declared.jobs.Job.{Job}
 use Rattle.slot_core.specs.Keys.{same_key}
-use Rattle.slot_core.specs.Demand.{work_between}
-use Rattle.slot_core.specs.Spans.{least, slack, spare_capacity, spans_between}
 use Rattle.slot_core.specs.Steps.{after_run}
 use Rattle.slot_core.proofs.HistoryLemmas.{IsAmong}
 use Rattle.slot_core.proofs.MovedCycles.{sum_by-map}
@@ -27,9 +22,6 @@ sum_by-filter f p (x ∷ xs) =
     omega (arith, sum_by-cond f (p x) x (filter p xs), sum_by-cons (λ j. cond (p j) (f j) 0) x xs, sum_by-filter f p xs)
 
 -- lists that are the same up to order stay so
-pub same-from_permutation : (xs ys : List Job) → IsPermutation xs ys → HaveSameSums xs ys
-same-from_permutation xs ys moved = λ f. sym (sum_by-IsPermutation f xs ys moved)
-
 pub same-sym : (xs ys : List Job) → HaveSameSums xs ys → HaveSameSums ys xs
 same-sym xs ys same = λ f. sym (same f)
 
@@ -48,23 +40,6 @@ pub same-after_run : (key : Key) (xs ys : List Job) → HaveSameSums xs ys → H
 same-after_run key xs ys same =
     let ran = λ (j : Job). cond (same_key j.key key) (record j { left = j.left - 1 }) j in
     same-filter (λ (j : Job). nat_lt 0 j.left) (map ran xs) (map ran ys) (same-map ran xs ys same)
-
--- so do the spans
-slack-same : (xs ys : List Job) → HaveSameSums xs ys → (s x : ℕ) → slack xs s x ≡ slack ys s x
-slack-same xs ys same s x =
-    let work : work_between xs s x ≡ work_between ys s x = same (λ (j : Job). cond (nat_lt s j.dl && nat_le j.dl x) j.left 0) in
-    rw work refl
-
-spare_capacity-same : (xs ys : List Job) → HaveSameSums xs ys → (end s e : ℕ) → spare_capacity xs end s e ≡ spare_capacity ys end s e
-spare_capacity-same xs ys same end s e = λ i. least (λ x. slack-same xs ys same s x i) e end
-
-pub spans_between-same : (xs ys : List Job) → HaveSameSums xs ys → (end s : ℕ) (points : List ℕ) → spans_between xs end s points ≡ spans_between ys end s points
-spans_between-same xs ys same end s [] = refl
-spans_between-same xs ys same end s (e ∷ points) =
-    let work : work_between xs s e ≡ work_between ys s e = same (λ (j : Job). cond (nat_lt s j.dl && nat_le j.dl e) j.left 0) in
-    let spare : spare_capacity xs end s e ≡ spare_capacity ys end s e = spare_capacity-same xs ys same end s e in
-    let rest = spans_between-same xs ys same end e points in
-    λ i. record { start = s; end = e; work = work i; spare = spare i } ∷ rest i
 
 -- how many jobs pass a test, by sums
 abbrev pub count : (Job → Bool) → List Job → ℕ

@@ -1,7 +1,6 @@
 -- The histories of the slots of a set without sporadic tasks, and what remains in them.
-use Rattle.std.proofs.Common.{◌≡◌, ℕ, zero, suc, ◌+◌, ◌-◌, ◌*◌, ◌/◌, ◌<◌, ◌≤◌, Bool, true, false, List, [], ◌∷◌, ◌++◌, map, filter, not, mul-le-mul_right, refl, sym, ap, subst, ◌∙◌, inl, inr, arith}
-use Rattle.std.specs.Prelude.{Contains, nat_le, nat_lt}
-use Rattle.std.specs.List.{AllByRecursion}
+use Rattle.std.proofs.Common.{◌≡◌, ℕ, zero, suc, ◌+◌, ◌*◌, ◌/◌, ◌<◌, ◌≤◌, true, List, [], ◌∷◌, ◌++◌, mul-le-mul_right, refl, sym, ap, subst, ◌∙◌, inl, inr, arith}
+use Rattle.std.specs.Prelude.{Contains}
 use Rattle.std.proofs.lemmas.List.{map-append}
 use Rattle.std.proofs.lemmas.List.Elements.{Contains-append_cases, Contains-append_right, filter-append, recursion_from_All}
 use Rattle.slot_core.specs.declared.jobs.Job.{Job}
@@ -11,15 +10,16 @@ use Rattle.slot_core.specs.declared.events.Ran.TheVariants.{Idle as RanIdle, Key
 use Rattle.slot_core.specs.Cycles.{cycle_of}
 use Rattle.slot_core.specs.Choice.{choice}
 use Rattle.slot_core.specs.Feasible.{IsFeasible}
-use Rattle.slot_core.specs.Histories.{History, time_of, executed}
+use Rattle.slot_core.specs.Histories.{History, time_of}
 use Rattle.slot_core.specs.OfflineJobs.{cycle_jobs, offline_jobs}
 use Rattle.slot_core.specs.Ranges.{is_sound}
-use Rattle.slot_core.specs.Scenes.{has_ended, with_left, unended, remaining, horizon, scene_of}
+use Rattle.slot_core.specs.Scenes.{unended, remaining, horizon, scene_of}
 use Rattle.slot_core.specs.Steps.{after_slot}
-use Rattle.slot_core.specs.Traces.{slot, ran_entry, entry_of}
+use Rattle.slot_core.specs.Traces.{ran_entry}
 use Rattle.slot_core.proofs.CycleWindows.{IsOfCycle-from_cycle}
-use Rattle.slot_core.proofs.HistoryLemmas.{IsAmong, IsAmong-from_contains, Contains-from_among, IsFresh, unended_own, unended_have_left, unended-fresh, after_run-unended}
-use Rattle.slot_core.proofs.KeptHistories.{IsKept, Reaches, IsAlwaysKept, remaining-quiet, due_now, time_of-ran, kept-after_entry, kept-at_start}
+use Rattle.slot_core.proofs.HistoryLemmas.{IsAmong, Contains-from_among, unended_own, unended_have_left, unended-fresh, after_run-unended}
+use Rattle.slot_core.proofs.KeptHistories.{Reaches, IsAlwaysKept, remaining-quiet, due_now, time_of-ran, kept-after_entry, kept-at_start}
+use Rattle.slot_core.proofs.ListMembers.{Has-from_Contains}
 use Rattle.slot_core.proofs.OfflineWindows.{IsOfCycle-from_offline, same_offline-from_key}
 use Rattle.slot_core.proofs.ServingHistories.{IsQuiet, IsQuiet-from_serving, not_run-early}
 use Rattle.plain_replay.specs.Told.{history_at}
@@ -68,7 +68,7 @@ offline-point set zero job offline (k, below, at) = absurd (omega arith)
 offline-point set (suc n) job offline at =
     elim (Contains-append_cases (offline_jobs set (cycle_of set) n) (cycle_jobs set (cycle_of set) n) job at) [
       | inl early ↦ offline-point set n job offline early
-      | inr late ↦ deadline-point set n job offline.sound offline.feasible (IsAmong-from_contains (cycle_jobs set (cycle_of set) n) job late)
+      | inr late ↦ deadline-point set n job offline.sound offline.feasible (Has-from_Contains (cycle_jobs set (cycle_of set) n) job late)
     ]
 
 -- a job that remains at time t has a slot left, and is due later, at a point up to the horizon

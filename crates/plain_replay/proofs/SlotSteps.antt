@@ -1,15 +1,13 @@
 -- What a slot of a current state tells.
-use Rattle.std.proofs.Common.{◌≡◌, ℕ, suc, ◌+◌, ◌<◌, ◌≤◌, Bool, true, ◌&&◌, List, [], ◌∷◌, length, Option, Some, None, lt-ltb, add-one, refl, sym, ap, subst, ◌∙◌, arith}
-use Rattle.std.specs.Prelude.{All, find, nat_le, nat_lt, slice_get}
+use Rattle.std.proofs.Common.{◌≡◌, ℕ, suc, ◌+◌, ◌≤◌, true, List, [], length, Option, Some, None, lt-ltb, add-one, refl, ap, subst, ◌∙◌}
+use Rattle.std.specs.Prelude.{All, find, nat_le, nat_lt}
 use Rattle.std.specs.Option.{option_map_or}
 use Rattle.std.proofs.lemmas.Bool.{and_from}
 use Rattle.std.proofs.lemmas.List.Elements.{All-from_recursion}
 use Rattle.std.proofs.lemmas.Option.{slice_get_within}
-use Rattle.slot_core.specs.declared.jobs.Key.{Key}
 use Rattle.slot_core.specs.declared.jobs.Key.TheVariants.{Offline}
 use Rattle.slot_core.specs.declared.jobs.Job.{Job}
 use Rattle.slot_core.specs.declared.tasks.Graph.{Graph}
-use Rattle.slot_core.specs.declared.tasks.Task.{Task}
 use Rattle.slot_core.specs.declared.tasks.TaskSet.{TaskSet}
 use Rattle.slot_core.specs.declared.events.Ran.TheVariants.{Idle as RanIdle, Key as RanKey}
 use Rattle.slot_core.specs.declared.events.What.{What}
@@ -17,14 +15,13 @@ use Rattle.slot_core.specs.declared.events.What.TheVariants.{Start}
 use Rattle.slot_core.specs.Arrivals.{key_in_set, what_in_set}
 use Rattle.slot_core.specs.Cycles.{cycle_of}
 use Rattle.slot_core.specs.OfflineJobs.{tasks_of, offline_jobs}
-use Rattle.slot_core.specs.Plans.{PlanParts, IsPlan}
 use Rattle.slot_core.specs.Scenes.{remaining}
 use Rattle.slot_core.specs.Texts.{entry_line}
 use Rattle.slot_core.specs.Traces.{ran_entry, shown_entry}
 use Rattle.slot_core.proofs.HistoryLemmas.{IsAmong, Contains-from_among, unended_own}
 use Rattle.slot_core.proofs.OfflineJobLemmas.{IsOfflineJob, offline_from_cycles}
 use Rattle.plain_replay.specs.Current.{IsCurrent}
-use Rattle.plain_replay.specs.Shown.{shown_after, told_line}
+use Rattle.plain_replay.specs.Shown.{told_line}
 use Rattle.plain_replay.specs.States.{ReplayState, first_ready}
 use Rattle.plain_replay.specs.Told.{history_at, entry_at, slot_line, told}
 use Rattle.plain_replay.proofs.CurrentSpans.{shown-current}

@@ -11,6 +11,8 @@ ghost use Rattle.plain_replay.specs.declared.ReplayFault.TheVariants.{Memory as 
 
 mod lines;
 mod state;
+#[cfg(test)]
+mod tests;
 
 use crate::lines::put_end;
 use crate::state::State;

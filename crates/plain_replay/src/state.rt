@@ -31,7 +31,6 @@ pub(crate) struct State {
 }
 
 impl Model for State {
-    ghost use Rattle.plain_replay.specs.Told.{entry_at, slot_line};
     ghost use Rattle.plain_replay.specs.States.{ReplayState};
 
     ghost Value = { ReplayState };
@@ -111,9 +110,7 @@ impl State {
         let spans = spans_until(alloc, self.time, &self.ends, &self.jobs)?;
         Ok(first_spans(&spans))
     }
-}
 
-impl State {
     /// Lets the slot at the time pass, and answers what happened in it.
     fn step(&mut self, plan: &Plan) -> Result<What, Memory>
         requires offline { plan.now.tasks.sporadics ≡ [] }
@@ -123,7 +120,8 @@ impl State {
         ensures current { OnOk result (IsCurrent plan.now.tasks self.new) }
         ensures time { OnOk result (self.new.time ≡ self.old.time + 1) }
     {
-        let _plan = plan.cycle();
+        // What a plan keeps is known from its cycle.
+        let _cycle = plan.cycle();
         let what = self.run();
         self.pass();
         self.add_next_cycle(plan)?;

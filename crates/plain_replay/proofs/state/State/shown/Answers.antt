@@ -1,5 +1,4 @@
-use Rattle.std.proofs.Common.{◌≡◌, ◌≤◌, ◌^◌, ◌∙◌, ap, length, arith}
-use Rattle.slot_core.specs.Spans.{spans_between}
+use Rattle.std.proofs.Common.{◌≤◌, ◌^◌, ◌∙◌, ap, length, arith}
 use Rattle.interval_build.specs.Ends.{last_end}
 use Rattle.plain_replay.proofs.FirstSpans.{length-spans, shown-first}
 use Rattle.plain_replay.proofs.state.State.shown.Goals as goal

@@ -9,13 +9,13 @@ use Rattle.plain_replay.proofs.state.State.step.Goals as goal
 pub run-what-requires : goal.run-what-requires
 run-what-requires c =
     let plan = c.args.plan.now in
-    let offline = offline-from_plan plan c.cycle-plan.ensures.plan c.requires.offline in
+    let offline = offline-from_plan plan c.cycle-cycle.ensures.plan c.requires.offline in
     all_left-current plan.tasks c.args.self.now offline c.requires.current
 
 pub returns-clause-what : goal.returns-clause-what
 returns-clause-what c =
     let plan = c.args.plan.now in
-    let offline = offline-from_plan plan c.cycle-plan.ensures.plan c.requires.offline in
+    let offline = offline-from_plan plan c.cycle-cycle.ensures.plan c.requires.offline in
     c.run-what.ensures.what ∙ sym (entry-current plan.tasks c.args.self.now offline c.requires.current)
 
 pub returns-clause-current : goal.returns-clause-current
@@ -26,4 +26,4 @@ returns-clause-current c =
     subst
     (IsCurrent plan.tasks)
     (sym after)
-    (IsCurrent-next plan c.args.self.now c.cycle-plan.ensures.plan c.requires.offline c.requires.current)
+    (IsCurrent-next plan c.args.self.now c.cycle-cycle.ensures.plan c.requires.offline c.requires.current)
