@@ -42,9 +42,9 @@ Ends-refused : (command : Command) (due : Stage (List ℕ)) (IsFault : Outcome �
 Ends-refused command due IsFault e o early host refusal =
     record {
       answers = elim refusal [
-        inl memory ↦ inr (inl memory)
-      | inr (inl fault) ↦ inr (inr (host fault))
-      | inr (inr is_due) ↦ inl (sym (ap outcome_of is_due))
+        | inl memory ↦ inr (inl memory)
+        | inr (inl fault) ↦ inr (inr (host fault))
+        | inr (inr is_due) ↦ inl (sym (ap outcome_of is_due))
       ];
       written = λ text _. IsWritten-early e text o early;
     }

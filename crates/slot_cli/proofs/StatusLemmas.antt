@@ -55,9 +55,9 @@ due-found (Err e) outcome found is = ap Err (sym is)
 due-ended : (command : Option Command) (due : Stage (List ℕ)) (outcome : Outcome) (before after : Option (List ℕ)) → is_found outcome ≡ true → Ends command due outcome before after → due ≡ Err outcome
 due-ended command due outcome before after found ends =
     elim ends.answers [
-      inl is ↦ due-found due outcome found is
-    | inr (inl memory) ↦ absurd (not_memory outcome found memory)
-    | inr (inr (host, place)) ↦ absurd (not_host command outcome found host)
+      | inl is ↦ due-found due outcome found is
+      | inr (inl memory) ↦ absurd (not_memory outcome found memory)
+      | inr (inr (host, place)) ↦ absurd (not_host command outcome found host)
     ]
 
 -- the outcome that is reported is that of the work, or want of memory
@@ -160,9 +160,9 @@ not_host_done (Some (Replay slots)) host = host
 done_is_due : (command : Option Command) (due : Stage (List ℕ)) (before after : Option (List ℕ)) → Ends command due Done before after → outcome_of due ≡ Done
 done_is_due command due before after ends =
     elim ends.answers [
-      inl is ↦ sym is
-    | inr (inl memory) ↦ cc
-    | inr (inr (host, place)) ↦ absurd (not_host_done command host)
+      | inl is ↦ sym is
+      | inr (inl memory) ↦ cc
+      | inr (inr (host, place)) ↦ absurd (not_host_done command host)
     ]
 
 -- where the run is told to be done, the text that is due is written

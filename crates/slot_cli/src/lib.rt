@@ -19,17 +19,19 @@ ghost use Rattle.slot_cli.specs.Runs.{expected, planned_set, IsAnswer, IsReporte
 
 mod append;
 pub mod command;
+mod faults;
 pub mod outcome;
-pub mod report;
-pub mod stages;
+mod report;
+mod stages;
 pub mod status;
-pub mod work;
-
-pub use status::Status;
+#[cfg(test)]
+mod tests;
+mod work;
 
 use report::report;
 use slot_core::Words;
 use slot_io::{Files, Sink};
+pub use status::Status;
 use std::alloc::Global;
 use work::work;
 

@@ -23,7 +23,7 @@ pub fn read_file<F: Files>(
 ) -> Result<Vec<u8>, Outcome>
     ensures due { (held : Held) → F.held files.old ≡ Some held
         → MatchResult result (λ bytes. bytes_of held words.now file ≡ Ok bytes.items)
-            (IsRefusal (λ e. e ≡ Outcome.Unreadable file) (bytes_of held words.now file)) }
+        (IsRefusal (λ e. e ≡ Outcome.Unreadable file) (bytes_of held words.now file)) }
     ensures early { IfErr result (λ e. is_early e ≡ true) }
     ensures keeps { F.held files.new ≡ F.held files.old }
     ensures blamed { MatchResult result (λ _. F.faults files.new ≡ F.faults files.old)
@@ -75,7 +75,7 @@ pub fn plan_of(alloc: Global, set: TaskSet) -> Result<Plan, Outcome>
 pub fn planned<F: Files>(alloc: Global, words: &Words, files: &mut F) -> Result<Plan, Outcome>
     ensures due { (held : Held) → F.held files.old ≡ Some held
         → MatchResult result (λ plan. planned_set held words.now ≡ Ok plan.tasks)
-            (IsRefusal (λ e. e ≡ Outcome.Unreadable File.Tasks) (planned_set held words.now)) }
+        (IsRefusal (λ e. e ≡ Outcome.Unreadable File.Tasks) (planned_set held words.now)) }
     ensures plan { IfOk result IsPlan }
     ensures early { IfErr result (λ e. is_early e ≡ true) }
     ensures keeps { F.held files.new ≡ F.held files.old }
@@ -96,7 +96,7 @@ pub fn planned<F: Files>(alloc: Global, words: &Words, files: &mut F) -> Result<
 pub fn read_arrivals<F: Files>(alloc: Global, words: &Words, files: &mut F) -> Result<(), Outcome>
     ensures due { (held : Held) → F.held files.old ≡ Some held
         → MatchResult result (λ _. arrivals_of held words.now ≡ Ok [])
-            (IsRefusal (λ e. e ≡ Outcome.Unreadable File.Arrivals) (arrivals_of held words.now)) }
+        (IsRefusal (λ e. e ≡ Outcome.Unreadable File.Arrivals) (arrivals_of held words.now)) }
     ensures early { IfErr result (λ e. is_early e ≡ true) }
     ensures keeps { F.held files.new ≡ F.held files.old }
     ensures blamed { IfErr result
