@@ -1,0 +1,3 @@
+pub mod FirstJobs
+pub mod InCycles
+pub mod NearJobs

@@ -1,7 +1,11 @@
 //! The plan of a feasible task set.
 #![tactic(auto)]
 
+mod moves;
 pub mod plan;
-pub mod points;
+mod points;
+mod spans;
+#[cfg(test)]
+mod tests;
 
 pub use plan::{Plan, PlanFault, make_plan};

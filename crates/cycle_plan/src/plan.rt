@@ -1,17 +1,24 @@
 //! Plans and how they are made.
 
-ghost use Rattle.std.specs.Prelude.{◌≡◌, ◌≤◌, ◌<◌, ◌*◌, ◌+◌, true, Some, length, slice_get, IfOk, IfSome};
+ghost use Rattle.std.specs.Prelude.{◌≡◌, ◌≤◌, ◌<◌, true, Some, length, slice_get, IfOk, IfSome, IsPermutation};
 ghost use Rattle.slot_core.specs.declared.jobs.Job.{Job};
 ghost use Rattle.slot_core.specs.declared.jobs.Window.{Window};
 ghost use Rattle.slot_core.specs.Cycles.{cycle_of};
-ghost use Rattle.slot_core.specs.Feasible.{counterexample};
-ghost use Rattle.slot_core.specs.OfflineJobs.{moved_job};
-ghost use Rattle.slot_core.specs.Plans.{IsPlan};
+ghost use Rattle.slot_core.specs.Feasible.{counterexample, demand};
+ghost use Rattle.slot_core.specs.OfflineJobs.{cycle_jobs, moved_job};
+ghost use Rattle.slot_core.specs.Plans.{AreInDeadlineOrder, IsPlan};
 ghost use Rattle.slot_core.specs.Ranges.{is_sound};
+ghost use Rattle.demand_test.specs.Verdicts.{verdict_of};
+ghost use Rattle.cycle_plan.specs.declared.plan.PlanFault.TheVariants.{Memory as MemoryFault};
 
-use slot_core::{Job, Span, Sporadic, TaskSet, Window};
+use crate::moves::moved_job;
+use crate::spans::first_spans;
+use demand_test::{Verdict, test, total};
+use graph_unroll::{cycle_of, unroll};
+use slot_core::{Job, Memory, Span, Sporadic, TaskSet, Window};
 use std::alloc::Global;
 use std::marker::Model;
+use window_derive::derive;
 
 /// A sound and feasible task set with its cycle, the offline jobs of the first cycle in deadline order, and
 /// the spans of the first cycle before the first slot. Its type keeps that all agree.
@@ -42,6 +49,14 @@ pub enum PlanFault {
     Infeasible(Window),
 }
 
+impl From<Memory> for PlanFault {
+    ghost from_gives = { λ _ fault. fault ≡ MemoryFault };
+
+    fn from(_memory: Memory) -> PlanFault {
+        PlanFault::Memory
+    }
+}
+
 /// The plan of a sound set, or the counterexample to its feasibility.
 pub fn make_plan(alloc: Global, tasks: TaskSet) -> Result<Plan, PlanFault>
     requires { is_sound tasks ≡ true }
@@ -49,7 +64,48 @@ pub fn make_plan(alloc: Global, tasks: TaskSet) -> Result<Plan, PlanFault>
     ensures plan { IfOk result IsPlan }
     ensures infeasible { (w : Window) → result ≡ Err (PlanFault.Infeasible w) → counterexample tasks (cycle_of tasks) ≡ Some w }
 {
-    Err(PlanFault::Memory)
+    let cycle = cycle_of(&tasks).unwrap();
+    let demand = total(&tasks, cycle);
+    if demand > u64::from(cycle) {
+        return Err(PlanFault::Infeasible(Window {
+            from: 0,
+            until: u64::from(cycle),
+            demand,
+        }));
+    }
+    let jobs = first_jobs(alloc, &tasks)?;
+    match verdict(alloc, &tasks, cycle, &jobs)? {
+        Verdict::Fits => {}
+        Verdict::Fails(window) => return Err(PlanFault::Infeasible(window)),
+    }
+    let spans = first_spans(alloc, &tasks, cycle, &jobs)?;
+    Ok(Plan {
+        tasks,
+        cycle,
+        jobs,
+        spans,
+    })
+}
+
+/// The offline jobs of the first cycle, by deadline and then by key.
+fn first_jobs(alloc: Global, tasks: &TaskSet) -> Result<Vec<Job>, Memory>
+    requires { is_sound tasks.now ≡ true }
+    ensures listed { IfOk result (λ jobs. IsPermutation (cycle_jobs tasks.now (cycle_of tasks.now) 0) jobs.items) }
+    ensures ordered { IfOk result (λ jobs. AreInDeadlineOrder jobs.items) }
+{
+    let raw = unroll(alloc, tasks)?;
+    derive(alloc, tasks, &raw)
+}
+
+/// The cycle test of a set whose demand fits the cycle as a whole, with the jobs of its first cycle.
+fn verdict(alloc: Global, tasks: &TaskSet, cycle: u32, jobs: &[Job]) -> Result<Verdict, Memory>
+    requires sound { is_sound tasks.now ≡ true }
+    requires cycle { cycle ≡ cycle_of tasks.now }
+    requires listed { IsPermutation (cycle_jobs tasks.now cycle 0) jobs.now }
+    requires fits { demand tasks.now cycle 0 cycle ≤ cycle }
+    ensures { IfOk result (λ v. v ≡ verdict_of (counterexample tasks.now cycle)) }
+{
+    test(alloc, jobs, tasks.sporadics.items(), cycle)
 }
 
 impl Plan {
@@ -98,6 +154,6 @@ impl Plan {
         requires near { cycles ≤ 1048576 }
         ensures { IfSome (slice_get self.now.jobs i) (λ job. result ≡ moved_job self.now.tasks self.now.cycle cycles job) }
     {
-        self.jobs[i]
+        moved_job(&self.tasks, self.cycle, cycles, self.jobs[i])
     }
 }

@@ -23,7 +23,7 @@ fn arrivals_by(task: &Sporadic, end: u32) -> u64
     u64::from(later) + 1
 }
 
-/// The slots that the densest arrivals from slot 0 on need by `end`, or none at the limit.
+/// The slots that the densest arrivals from slot 0 on need by `end`, or none from the limit on.
 pub fn needed_by(sporadics: &[Sporadic], end: u32) -> Option<u64>
     ensures { MatchOption result
         (2 ^ 63 ≤ sporadic_demand sporadics.now [] 0 end)
@@ -40,7 +40,7 @@ pub fn needed_by(sporadics: &[Sporadic], end: u32) -> Option<u64>
     Some(needed)
 }
 
-/// What the densest arrivals from slot 0 on need by each end from 0 to `last`.
+/// The slots that the densest arrivals from slot 0 on need by each end from 0 to `last`.
 pub fn needed_table(alloc: Global, sporadics: &[Sporadic], last: u32) -> Result<List<u64>, Memory>
     requires { last < 2 ^ 32 - 1 }
     ensures values { IfOk result

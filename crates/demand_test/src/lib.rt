@@ -40,7 +40,8 @@ pub fn total(tasks: &TaskSet, cycle: u32) -> u64
 }
 
 /// Tries every window that starts in the first cycle and ends in the first two. The jobs are those of one
-/// cycle, whose demand as a whole fits it.
+/// cycle, whose demand as a whole fits it. Memory is also the answer where 64 bits do not hold the slots that
+/// the arrivals of two cycles need, which no sound task set has.
 pub fn test(
     alloc: Global,
     jobs: &[Job],
@@ -52,6 +53,7 @@ pub fn test(
     requires fits { window_demand jobs.now sporadics.now cycle 0 cycle ≤ cycle }
     ensures { IfOk result (λ v. v ≡ verdict_of (counterexample_in jobs.now sporadics.now cycle)) }
 {
+    // An empty cycle has no window, and the table of ends has no place for a next cycle.
     if cycle == 0 {
         return Ok(Verdict::Fits);
     }

@@ -1,0 +1,4 @@
+pub mod Current
+pub mod Shown
+pub mod States
+pub mod Told

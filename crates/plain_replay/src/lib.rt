@@ -7,8 +7,15 @@ ghost use Rattle.slot_core.specs.Texts.{trace_text};
 ghost use Rattle.slot_core.specs.Traces.{trace};
 ghost use Rattle.slot_io.specs.Faults.{Rose};
 ghost use Rattle.slot_io.specs.Sinks.{AppendsPart};
+ghost use Rattle.plain_replay.specs.declared.ReplayFault.TheVariants.{Memory as MemoryFault, Failed as FailedFault};
 
+mod lines;
+mod state;
+
+use crate::lines::put_end;
+use crate::state::State;
 use cycle_plan::Plan;
+use slot_core::{Failed, Memory, What};
 use slot_io::Sink;
 use std::alloc::Global;
 
@@ -21,6 +28,22 @@ pub enum ReplayFault {
     Failed,
 }
 
+impl From<Memory> for ReplayFault {
+    ghost from_gives = { λ _ fault. fault ≡ MemoryFault };
+
+    fn from(_fault: Memory) -> ReplayFault {
+        ReplayFault::Memory
+    }
+}
+
+impl From<Failed> for ReplayFault {
+    ghost from_gives = { λ _ fault. fault ≡ FailedFault };
+
+    fn from(_fault: Failed) -> ReplayFault {
+        ReplayFault::Failed
+    }
+}
+
 /// Writes the trace of so many slots without arrivals, one put a line: the start, each slot with what runs in
 /// it and the first spans after it, and the end. After a fault a part of the text from its front is written.
 pub fn replay<K: Sink>(alloc: Global, plan: &Plan, slots: u32, out: &mut K) -> Result<(), ReplayFault>
@@ -31,5 +54,11 @@ pub fn replay<K: Sink>(alloc: Global, plan: &Plan, slots: u32, out: &mut K) -> R
     ensures counted { K.faults out.old ≤ K.faults out.new }
     ensures failed { result ≡ Err ReplayFault.Failed → Rose (K.faults out.old) (K.faults out.new) }
 {
-    Err(ReplayFault::Memory)
+    let tasks = plan.tasks();
+    let mut state = State::start(alloc, plan)?;
+    state.tell(alloc, 0, What::Start, tasks, out)?;
+    for _slot in 0..slots {
+        state.slot(alloc, plan, out)?;
+    }
+    put_end(slots, tasks, out)
 }

@@ -2,7 +2,6 @@ pub mod CounterexampleLemmas
 pub mod FailingWindows
 pub mod LaterCycles
 pub mod LaterDemand
-pub mod OneSlot
 pub mod PlaceCounts
 pub mod SchedulePlaces
 pub mod ScheduleWindows

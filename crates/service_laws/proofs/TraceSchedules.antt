@@ -28,7 +28,7 @@ use Rattle.service_laws.specs.Verdicts.{FitsMeansASchedule}
 use Rattle.slot_core.proofs.DistinctKeys.{offline_jobs-apart}
 use Rattle.slot_core.proofs.OfflineWindows.{IsOfCycle-from_offline}
 use Rattle.service_laws.proofs.SchedulePlaces.{number_of, places_of, length-places_of, keyed-from_number, count_by-places_of, slice_get-push}
-use Rattle.service_laws.proofs.ServedTraces.{IsKept, IsAlwaysKept, due_now, time_of-ran, kept-after_slots, kept-at_start}
+use Rattle.slot_core.proofs.KeptHistories.{IsKept, IsAlwaysKept, due_now, time_of-ran, kept-after_slots, kept-at_start}
 use Rattle.slot_core.proofs.ServingHistories.{IsPlanned, MayRun, IsServing, empty, start, end, idle, run, IsQuiet-from_serving, at_most_declared}
 
 -- a job stands in places inside its derived window

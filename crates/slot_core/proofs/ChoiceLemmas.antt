@@ -1,18 +1,20 @@
 -- What the earliest job of a list is, and when keys are the same.
-use Rattle.std.proofs.Common.{◌≡◌, ℕ, ◌≤◌, true, false, cond, List, [], ◌∷◌, fold, Some, nat_cmp, is_lt, refl, inl, inr, arith}
-use Rattle.std.specs.Cmp.{Equal-is}
+use Rattle.std.proofs.Common.{◌≡◌, ℕ, ◌≤◌, true, false, cond, List, [], ◌∷◌, fold, Some, Ordering, Less, Equal, Greater, nat_cmp, is_lt, is_gt, refl, ap, ◌∙◌, inl, inr, arith}
+use Rattle.std.specs.Cmp.{Equal-is, IsTotalOrder}
+use Rattle.std.specs.Ordering.{ordering_reverse}
 use Rattle.std.specs.Cmp.Lexicographic.{slice_cmp}
 use Rattle.std.proofs.lemmas.Bool.Decides.{nat_tests}
+use Rattle.std.proofs.lemmas.Cmp.{nat_list_cmp_total, on_total, upto, tied_itself}
 use Rattle.std.proofs.lemmas.Map.Lookups.{exact_bytes}
 use Rattle.slot_core.specs.declared.jobs.Key.{Key}
 use Rattle.slot_core.specs.declared.jobs.Key.TheVariants.{Offline, Sporadic, Firm, Soft}
 use Rattle.slot_core.specs.declared.jobs.Job.{Job}
-use Rattle.slot_core.specs.Keys.{key_order, same_key, is_earlier}
+use Rattle.slot_core.specs.Keys.{key_order, same_key, deadline_order, is_earlier}
 use Rattle.slot_core.specs.Choice.{earlier_of, earliest}
 use Rattle.slot_core.proofs.HistoryLemmas.{IsAmong}
 
 -- keys of one kind and with the same numbers are one
-same_from_order : (a b : Key) → key_order a ≡ key_order b → a ≡ b
+pub same_from_order : (a b : Key) → key_order a ≡ key_order b → a ≡ b
 same_from_order (Offline g t k) (Offline h u l) e = cc
 same_from_order (Sporadic i r) (Sporadic j s) e = cc
 same_from_order (Firm r) (Firm s) e = cc
@@ -27,43 +29,72 @@ pub same_from_key : (a b : Key) → same_key a b ≡ true → a ≡ b
 same_from_key a b same =
     same_from_order a b (exact_bytes (key_order a) (key_order b) ((Equal-is (slice_cmp nat_cmp (key_order a) (key_order b))).0 same))
 
--- the earlier of two jobs is due no later
-earlier-due : (a b : ℕ) (xs ys : List ℕ) → is_lt (slice_cmp nat_cmp (a ∷ xs) (b ∷ ys)) ≡ true → a ≤ b
-earlier-due a b xs ys e = grind (arith, nat_tests)
+-- how two jobs stand by earliest deadline first
+abbrev pub job_cmp : Job → Job → Ordering
+job_cmp a b = slice_cmp nat_cmp (deadline_order a) (deadline_order b)
 
--- a job that is not the earlier one is due no earlier
-later-due : (a b : ℕ) (xs ys : List ℕ) → is_lt (slice_cmp nat_cmp (a ∷ xs) (b ∷ ys)) ≡ false → b ≤ a
-later-due a b xs ys e = grind (arith, nat_tests)
+pub job_cmp_total : IsTotalOrder job_cmp
+job_cmp_total = on_total deadline_order nat_list_cmp_total
 
--- the earliest job is one of the list, and none of them is due before it
+-- the first job does not go after the second
+abbrev pub IsNotAfter : Job → Job → Type 0
+IsNotAfter a b = is_gt (job_cmp a b) ≡ false
+
+-- so it is where it goes before it
+not_gt-from_lt : (o : Ordering) → is_lt o ≡ true → is_gt o ≡ false
+not_gt-from_lt Less e = refl
+not_gt-from_lt Equal e = cc
+not_gt-from_lt Greater e = cc
+
+pub IsNotAfter-from_earlier : (a b : Job) → is_earlier a b ≡ true → IsNotAfter a b
+IsNotAfter-from_earlier a b e = not_gt-from_lt (job_cmp a b) e
+
+-- and where the second does not go before it
+not_gt-from_reverse : (o : Ordering) → is_lt o ≡ false → is_gt (ordering_reverse o) ≡ false
+not_gt-from_reverse Less e = cc
+not_gt-from_reverse Equal e = refl
+not_gt-from_reverse Greater e = refl
+
+pub IsNotAfter-from_not_earlier : (a b : Job) → is_earlier b a ≡ false → IsNotAfter a b
+IsNotAfter-from_not_earlier a b e =
+    ap is_gt (job_cmp_total.antisymm a b) ∙ not_gt-from_reverse (job_cmp b a) e
+
+-- it is due no later then
+due-from_order : (a b : ℕ) (xs ys : List ℕ) → is_gt (slice_cmp nat_cmp (a ∷ xs) (b ∷ ys)) ≡ false → a ≤ b
+due-from_order a b xs ys e = grind (arith, nat_tests)
+
+pub due-from_not_after : (a b : Job) → IsNotAfter a b → a.dl ≤ b.dl
+due-from_not_after a b e = due-from_order a.dl b.dl (key_order a.key) (key_order b.key) e
+
+-- the earliest job is one of the list, and goes after none of them
 pub record IsEarliest (jobs : List Job) (best : Job) : Type 0 where
   pub among : IsAmong best jobs
-  pub least : (job : Job) → IsAmong job jobs → best.dl ≤ job.dl
+  pub first : (job : Job) → IsAmong job jobs → IsNotAfter best job
 
--- a second job that is due no earlier than the first changes nothing
-past_second : (a b best : Job) (js : List Job) → a.dl ≤ b.dl → IsEarliest (a ∷ js) best → IsEarliest (a ∷ b ∷ js) best
-past_second a b best js le first =
+-- where the second of two jobs does not go before the first, it changes nothing
+past_second : (a b best : Job) (js : List Job) → IsNotAfter a b → IsEarliest (a ∷ js) best → IsEarliest (a ∷ b ∷ js) best
+past_second a b best js order more =
     record {
-      among = elim first.among [ inl e ↦ inl e | inr i ↦ inr (inr i) ];
-      least = λ job at.
+      among = elim more.among [ inl e ↦ inl e | inr i ↦ inr (inr i) ];
+      first = λ job at.
           elim at [
-            | inl e ↦ first.least job (inl e)
+            | inl e ↦ more.first job (inl e)
             | inr i ↦ elim i [
-              | inl e ↦ let below : best.dl ≤ a.dl = first.least a (inl refl) in rw e (omega arith)
-              | inr k ↦ first.least job (inr k)
+              | inl e ↦ rw e (upto job_cmp_total best a b (more.first a (inl refl)) order)
+              | inr k ↦ more.first job (inr k)
             ]
           ];
     }
 
--- nor does a first job that is due no earlier than the second
-past_first : (a b best : Job) (js : List Job) → b.dl ≤ a.dl → IsEarliest (b ∷ js) best → IsEarliest (a ∷ b ∷ js) best
-past_first a b best js le rest =
+-- nor does the first where it does not go before the second
+past_first : (a b best : Job) (js : List Job) → IsNotAfter b a → IsEarliest (b ∷ js) best → IsEarliest (a ∷ b ∷ js) best
+past_first a b best js order more =
     record {
-      among = inr rest.among;
-      least = λ job at.
+      among = inr more.among;
+      first = λ job at.
           elim at [
-            | inl e ↦ let below : best.dl ≤ b.dl = rest.least b (inl refl) in rw e (omega arith)
-            | inr i ↦ rest.least job i
+            | inl e ↦ rw e (upto job_cmp_total best b a (more.first b (inl refl)) order)
+            | inr i ↦ more.first job i
           ];
     }
 
@@ -71,14 +102,22 @@ past_first a b best js le rest =
 earliest_from : (a best : Job) (js : List Job) → fold earlier_of (Some a) js ≡ Some best → IsEarliest (a ∷ js) best
 earliest_from a best [] e =
     let same : best ≡ a = cc in
-    record { among = inl same; least = λ job at. elim at [ inl s ↦ rw (same, s) (omega arith) | inr i ↦ absurd i ] }
+    record {
+      among = inl same;
+      first = λ job at.
+          elim at [ inl s ↦ rw (same, s) (ap is_gt (tied_itself job_cmp_total a)) | inr i ↦ absurd i ];
+    }
 earliest_from a best (j ∷ js) e =
     elim (is_earlier j a) as (λ b. is_earlier j a ≡ b → fold earlier_of (cond b (Some j) (Some a)) js ≡ Some best → IsEarliest (a ∷ j ∷ js) best) [
-      | true ↦ λ t f. past_first a j best js (earlier-due j.dl a.dl (key_order j.key) (key_order a.key) t) (earliest_from j best js f)
-      | false ↦ λ t f. past_second a j best js (later-due j.dl a.dl (key_order j.key) (key_order a.key) t) (earliest_from a best js f)
+      | true ↦ λ t f. past_first a j best js (IsNotAfter-from_earlier j a t) (earliest_from j best js f)
+      | false ↦ λ t f. past_second a j best js (IsNotAfter-from_not_earlier a j t) (earliest_from a best js f)
     ] refl e
 
 -- what `earliest` answers is the earliest job
 pub IsEarliest-from_earliest : (jobs : List Job) (best : Job) → earliest jobs ≡ Some best → IsEarliest jobs best
 IsEarliest-from_earliest [] best e = cc
 IsEarliest-from_earliest (j ∷ js) best e = earliest_from j best js e
+
+-- it is due no later than any other
+pub least_due : (jobs : List Job) (best job : Job) → IsEarliest jobs best → IsAmong job jobs → best.dl ≤ job.dl
+least_due jobs best job most at = due-from_not_after best job (most.first job at)

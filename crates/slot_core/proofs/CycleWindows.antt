@@ -73,7 +73,7 @@ counts_moved_back a x moved cycle est dl other_est other_dl left declared e f g 
 no_job_counts : (a x moved cycle est dl other_est other_dl left declared : ℕ) → other_est ≡ est + moved → other_dl ≡ dl + moved → est + declared ≤ dl → 1 ≤ declared → dl ≤ cycle → min (x - moved) cycle ≤ a - moved → cond (nat_le a other_est && nat_le other_dl x) left 0 ≤ 0
 no_job_counts a x moved cycle est dl other_est other_dl left declared e f g h k l = grind (arith, nat_tests)
 
-sum_by-none : {X : Type 0} (xs : List X) → sum_by (λ (x : X). 0) xs ≡ 0
+pub sum_by-none : {X : Type 0} (xs : List X) → sum_by (λ (x : X). 0) xs ≡ 0
 sum_by-none [] = refl
 sum_by-none {X} (x ∷ xs) = omega (arith, sum_by-cons (λ (y : X). 0) x xs, sum_by-none xs)
 

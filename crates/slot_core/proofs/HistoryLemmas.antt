@@ -8,7 +8,7 @@ use Rattle.std.specs.Prelude.{Contains, All}
 use Rattle.slot_core.specs.declared.jobs.Key.{Key}
 use Rattle.slot_core.specs.declared.jobs.Job.{Job}
 use Rattle.slot_core.specs.declared.events.What.TheVariants.{Run}
-use Rattle.slot_core.specs.Histories.{History, executed}
+use Rattle.slot_core.specs.Histories.{History, executed, is_freed}
 use Rattle.slot_core.specs.Scenes.{has_ended, with_left, unended}
 use Rattle.slot_core.specs.Demand.{work_by}
 use Rattle.slot_core.specs.Steps.{after_run}
@@ -123,21 +123,33 @@ pub unended_due : (h : History) (jobs : List Job) (job : Job) (x : ℕ) → work
 unended_due h jobs job x none at runs =
     later-from_no_work (unended h jobs) (with_left h job) x none (IsAmong-unended h jobs job runs at) (some_left h job runs)
 
--- before the first entry a job has all its slots left
-with_left-start : (job : Job) → job.left ≡ job.declared → with_left [] job ≡ job
-with_left-start job whole =
-    let e : job.declared - 0 ≡ job.left = omega arith in
+-- no slot of the job has run and it has not ended early, and its slots left are those that it declares
+pub record IsFresh (h : History) (job : Job) : Type 0 where
+  pub none : executed job.key h ≡ 0
+  pub kept : is_freed job.key h ≡ false
+  pub some : 1 ≤ job.declared
+  pub whole : job.left ≡ job.declared
+
+-- such a job has all its slots left
+with_left-fresh : (h : History) (job : Job) → IsFresh h job → with_left h job ≡ job
+with_left-fresh h job fresh =
+    let e : job.declared - executed job.key h ≡ job.left = omega (arith, fresh.none, fresh.whole) in
     ap (λ n. record job { left = n }) e
 
--- before the first entry no job has ended
-unended_start-cons : (j : Job) (js : List Job) → 1 ≤ j.declared → with_left [] j ≡ j → unended [] js ≡ js → unended [] (j ∷ js) ≡ j ∷ js
-unended_start-cons j js some same rest = grind (arith, nat_tests)
+-- and has not ended
+unended_fresh-cons : (h : History) (j : Job) (js : List Job) → executed j.key h ≡ 0 → is_freed j.key h ≡ false → 1 ≤ j.declared → with_left h j ≡ j → unended h js ≡ js → unended h (j ∷ js) ≡ j ∷ js
+unended_fresh-cons h j js none kept some same rest = grind (arith, nat_tests)
 
-pub unended-start : (jobs : List Job) → ((job : Job) → IsAmong job jobs → (1 ≤ job.declared) × (job.left ≡ job.declared)) → unended [] jobs ≡ jobs
-unended-start [] fresh = refl
-unended-start (j ∷ js) fresh =
+pub unended-fresh : (h : History) (jobs : List Job) → ((job : Job) → IsAmong job jobs → IsFresh h job) → unended h jobs ≡ jobs
+unended-fresh h [] fresh = refl
+unended-fresh h (j ∷ js) fresh =
     let own = fresh j (inl refl) in
-    unended_start-cons j js own.0 (with_left-start j own.1) (unended-start js (λ job at. fresh job (inr at)))
+    unended_fresh-cons h j js own.none own.kept own.some (with_left-fresh h j own) (unended-fresh h js (λ job at. fresh job (inr at)))
+
+-- so it is before the first entry
+pub unended-start : (jobs : List Job) → ((job : Job) → IsAmong job jobs → (1 ≤ job.declared) × (job.left ≡ job.declared)) → unended [] jobs ≡ jobs
+unended-start jobs fresh =
+    unended-fresh [] jobs (λ job at. let own = fresh job at in record { none = refl; kept = refl; some = own.0; whole = own.1 })
 
 -- the jobs after a run, one job at a time
 after_run-cons : (key : Key) (h : History) (job : Job) (jobs : List Job) → after_run key (unended h jobs) ≡ unended (Run key ∷ h) jobs → after_run key (unended h (job ∷ jobs)) ≡ unended (Run key ∷ h) (job ∷ jobs)

@@ -6,9 +6,11 @@ pub mod CycleWindows
 pub mod DistinctKeys
 pub mod FaultLemmas
 pub mod HistoryLemmas
+pub mod KeptHistories
 pub mod ListMembers
 pub mod MovedCycles
 pub mod OfflineJobLemmas
 pub mod OfflineWindows
+pub mod OneSlot
 pub mod ReadyJobs
 pub mod ServingHistories

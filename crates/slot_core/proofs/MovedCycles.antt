@@ -1,5 +1,5 @@
 -- In a feasible set the offline jobs of a cycle are those of the first cycle, with their windows moved.
-use Rattle.std.proofs.Common.{◌≡◌, ℕ, zero, suc, ◌+◌, ◌-◌, ◌*◌, ◌/◌, ◌<◌, ◌≤◌, Bool, true, cond, List, [], ◌∷◌, length, Some, arith, refl, sym, subst, ap, ◌∙◌}
+use Rattle.std.proofs.Common.{◌≡◌, ℕ, zero, suc, ◌+◌, ◌-◌, ◌*◌, ◌/◌, ◌<◌, ◌≤◌, Bool, true, cond, List, [], ◌∷◌, length, Some, arith, le_of_eq, refl, sym, subst, ap, ◌∙◌}
 use Rattle.std.specs.Prelude.{sum_by, nat_le, ◌&&◌, map, flat_map, slice_get}
 use Rattle.std.specs.Option.{option_map_or}
 use Rattle.std.specs.List.{range_with_len, enumerate_from}
@@ -15,8 +15,8 @@ use Rattle.slot_core.specs.declared.tasks.TaskSet.{TaskSet}
 use Rattle.slot_core.specs.Cycles.{cycle_of}
 use Rattle.slot_core.specs.Precedence.{wcet_of, longest_before, longest_after}
 use Rattle.slot_core.specs.Ranges.{is_sound, is_between}
-use Rattle.slot_core.specs.OfflineJobs.{tasks_of, release_of, deadline_of, instance_jobs, graph_jobs, raw_jobs, chain_before, chain_after, derived_job, cycle_jobs}
-use Rattle.slot_core.specs.Feasible.{declared_within, demand, IsFeasible}
+use Rattle.slot_core.specs.OfflineJobs.{tasks_of, release_of, deadline_of, instance_jobs, graph_jobs, raw_jobs, chain_before, chain_after, derived_job, cycle_jobs, moved_key, moved_job}
+use Rattle.slot_core.specs.Feasible.{declared_within, IsFeasible}
 use Rattle.slot_core.proofs.ChainLemmas.{HasNoLoop}
 use Rattle.slot_core.proofs.ChainRoom.{sum_below, chain_room}
 use Rattle.slot_core.proofs.OfflineJobLemmas.{graph_in_range-from_sound, task_in_range-from_sound, HasNoLoop-from_sound, cycle-multiple}
@@ -44,7 +44,7 @@ wcet-from_sound set g t graph task sound graph_at task_at =
     task_fits _ _ _ task.wcet (task_in_range-from_sound set g t graph task sound graph_at task_at)
 
 -- sums over what is made of each item of a list
-sum_by-map : {X Y : Type 0} (f : Y → ℕ) (h : X → Y) (xs : List X) → sum_by f (map h xs) ≡ sum_by (λ x. f (h x)) xs
+pub sum_by-map : {X Y : Type 0} (f : Y → ℕ) (h : X → Y) (xs : List X) → sum_by f (map h xs) ≡ sum_by (λ x. f (h x)) xs
 sum_by-map f h [] = refl
 sum_by-map f h (x ∷ xs) =
     omega (arith, sum_by-cons f (h x) (map h xs), sum_by-cons (λ y. f (h y)) x xs, sum_by-map f h xs)
@@ -178,7 +178,7 @@ dl_moves : (n q period offset deadline after cycle i j k : ℕ) → q * period �
 dl_moves n q period offset deadline after cycle i j k e at_j at_k le =
     omega (arith, ap (λ c. n * c) e, ap (λ c. c * period) at_j, ap (λ c. c * period) at_k)
 
-IsMoved-from_instance : (set : TaskSet) (n g t i j k : ℕ) (graph : Graph) (task : Task) → is_sound set ≡ true → IsFeasible set (cycle_of set) → slice_get set.graphs g ≡ Some graph → slice_get graph.tasks t ≡ Some task → i < cycle_of set / graph.period → j ≡ n * (cycle_of set / graph.period) + i → k ≡ 0 * (cycle_of set / graph.period) + i → IsMoved (cycle_of set) (n * cycle_of set) (job_of set g graph k t task) (job_of set g graph j t task)
+pub IsMoved-from_instance : (set : TaskSet) (n g t i j k : ℕ) (graph : Graph) (task : Task) → is_sound set ≡ true → IsFeasible set (cycle_of set) → slice_get set.graphs g ≡ Some graph → slice_get graph.tasks t ≡ Some task → i < cycle_of set / graph.period → j ≡ n * (cycle_of set / graph.period) + i → k ≡ 0 * (cycle_of set / graph.period) + i → IsMoved (cycle_of set) (n * cycle_of set) (job_of set g graph k t task) (job_of set g graph j t task)
 IsMoved-from_instance set n g t i j k graph task sound feasible graph_at task_at within at_j at_k =
     let whole = cycle-multiple set g graph sound graph_at in
     let q = cycle_of set / graph.period in
@@ -201,3 +201,19 @@ pub cycle_jobs-moved : (set : TaskSet) (n : ℕ) (f h : Job → ℕ) → is_soun
 cycle_jobs-moved set n f h sound feasible each =
     let cycle = cycle_of set in
     omega (arith, cycle_jobs-sum set f cycle n, cycle_jobs-sum set h cycle 0, places-le-places_from_0 (graph_sum set f cycle n) (graph_sum set h cycle 0) set.graphs (λ g graph graph_at. range-le-range (instance_sum set f (g, graph)) (instance_sum set h (g, graph)) (n * (cycle / graph.period)) (0 * (cycle / graph.period)) (cycle / graph.period) (λ i j k within at_j at_k. places-le-places_from_0 (λ (t : ℕ × Task). f (job_of set g graph j t.0 t.1)) (λ (t : ℕ × Task). h (job_of set g graph k t.0 t.1)) graph.tasks (λ t task task_at. each (job_of set g graph k t task) (job_of set g graph j t task) (IsMoved-from_instance set n g t i j k graph task sound feasible graph_at task_at within at_j at_k)))))
+
+-- an instance of cycle n is the one of the first cycle, moved
+moved_instance : (set : TaskSet) (n g t i j k : ℕ) (graph : Graph) (task : Task) → is_sound set ≡ true → IsFeasible set (cycle_of set) → slice_get set.graphs g ≡ Some graph → slice_get graph.tasks t ≡ Some task → i < cycle_of set / graph.period → j ≡ n * (cycle_of set / graph.period) + i → k ≡ 0 * (cycle_of set / graph.period) + i → job_of set g graph j t task ≡ moved_job set (cycle_of set) n (job_of set g graph k t task)
+moved_instance set n g t i j k graph task sound feasible graph_at task_at within at_j at_k =
+    let m = IsMoved-from_instance set n g t i j k graph task sound feasible graph_at task_at within at_j at_k in
+    let count : option_map_or (λ (gr : Graph). cycle_of set / gr.period) (slice_get set.graphs g) 0 ≡ cycle_of set / graph.period = ap (λ o. option_map_or (λ (gr : Graph). cycle_of set / gr.period) o 0) graph_at in
+    let instance : j ≡ k + n * (cycle_of set / graph.period) = omega arith in
+    let key : Offline g t j ≡ moved_key set (cycle_of set) n (Offline g t k) = rw (count, instance) refl in
+    λ d. record { key = key d; est = m.est d; dl = m.dl d; left = task.wcet; declared = task.wcet }
+
+-- a sum over the jobs of a cycle is that over those of the first cycle, moved
+pub cycle_jobs-same : (set : TaskSet) (n : ℕ) (f : Job → ℕ) → is_sound set ≡ true → IsFeasible set (cycle_of set) → sum_by f (cycle_jobs set (cycle_of set) n) ≡ sum_by (λ j. f (moved_job set (cycle_of set) n j)) (cycle_jobs set (cycle_of set) 0)
+cycle_jobs-same set n f sound feasible =
+    let cycle = cycle_of set in
+    let h = λ (j : Job). f (moved_job set (cycle_of set) n j) in
+    omega (arith, cycle_jobs-sum set f cycle n, cycle_jobs-sum set h cycle 0, places-le-places_from_0 (graph_sum set f cycle n) (graph_sum set h cycle 0) set.graphs (λ g graph graph_at. range-le-range (instance_sum set f (g, graph)) (instance_sum set h (g, graph)) (n * (cycle / graph.period)) (0 * (cycle / graph.period)) (cycle / graph.period) (λ i j k within at_j at_k. places-le-places_from_0 (λ (t : ℕ × Task). f (job_of set g graph j t.0 t.1)) (λ (t : ℕ × Task). h (job_of set g graph k t.0 t.1)) graph.tasks (λ t task task_at. le_of_eq (ap f (moved_instance set n g t i j k graph task sound feasible graph_at task_at within at_j at_k))))), places-le-places_from_0 (graph_sum set h cycle 0) (graph_sum set f cycle n) set.graphs (λ g graph graph_at. range-le-range (instance_sum set h (g, graph)) (instance_sum set f (g, graph)) (0 * (cycle / graph.period)) (n * (cycle / graph.period)) (cycle / graph.period) (λ i k j within at_k at_j. places-le-places_from_0 (λ (t : ℕ × Task). h (job_of set g graph k t.0 t.1)) (λ (t : ℕ × Task). f (job_of set g graph j t.0 t.1)) graph.tasks (λ t task task_at. le_of_eq (sym (ap f (moved_instance set n g t i j k graph task sound feasible graph_at task_at within at_j at_k)))))))

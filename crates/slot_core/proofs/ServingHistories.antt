@@ -1,5 +1,6 @@
 -- Histories in which each run is of a job that may run there.
 use Rattle.std.proofs.Common.{◌≡◌, ℕ, suc, ◌<◌, ◌≤◌, Bool, true, false, ◌||◌, cond, List, [], ◌∷◌, ◌++◌, refl, ap, ap₂, arith}
+use Rattle.std.proofs.lemmas.Bool.{false_from_ne_true}
 use Rattle.std.proofs.lemmas.Bool.Decides.{nat_tests}
 use Rattle.std.specs.Prelude.{Contains, nat_le}
 use Rattle.slot_core.specs.declared.jobs.Key.{Key}
@@ -62,6 +63,21 @@ at_most_declared (end s) job at = at_most_declared s job at
 at_most_declared (idle s) job at = at_most_declared s job at
 at_most_declared {h = Run key ∷ h} (run may s) job at =
     at_most-run job.declared (executed job.key h) (same_key job.key key) (is_freed job.key h) (at_most_declared s job at) (λ same. may.runs job at (same_from_key job.key key same))
+
+-- a job whose window starts later has not run
+not_run-cond : (same : Bool) (ran : ℕ) → same ≡ false → ran ≡ 0 → cond same (suc ran) ran ≡ 0
+not_run-cond same ran other none = rw (other, none) refl
+
+pub not_run-early : {set : TaskSet} {cycles : ℕ} {h : History} → IsServing set cycles h → (job : Job) → IsPlanned set cycles job → time_of h ≤ job.est → executed job.key h ≡ 0
+not_run-early empty job at early = refl
+not_run-early (start s) job at early = not_run-early s job at early
+not_run-early (end s) job at early = not_run-early s job at early
+not_run-early (idle s) job at early = not_run-early s job at (omega arith)
+not_run-early {h = Run key ∷ h} (run may s) job at early =
+    let other = false_from_ne_true (same_key job.key key) λ same.
+    let started = may.started job at (same_from_key job.key key same) in
+    absurd (omega arith) in
+    not_run-cond (same_key job.key key) (executed job.key h) other (not_run-early s job at (omega arith))
 
 -- a start entry at the bottom does not change the time
 pub time_of-at_start : {set : TaskSet} {cycles : ℕ} {h : History} → IsServing set cycles h → time_of (h ++ Start ∷ []) ≡ time_of h

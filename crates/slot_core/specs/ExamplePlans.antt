@@ -1,5 +1,5 @@
 -- Plans of the examples, and sets that have none: each holds by computing the definitions.
-use Rattle.std.specs.Prelude.{◌≡◌, ℕ, ℤ, pos, negsuc, List, [], ◌∷◌, codes, Option, Some, None, refl}
+use Rattle.std.specs.Prelude.{◌≡◌, ℕ, ℤ, pos, negsuc, [], ◌∷◌, codes, Option, Some, None, refl}
 use Rattle.std.specs.Fmt.{digits}
 use Rattle.slot_core.specs.declared.jobs.Span.{Span}
 use Rattle.slot_core.specs.declared.jobs.Window.{Window}
@@ -8,7 +8,7 @@ use Rattle.slot_core.specs.Cycles.{cycle_of}
 use Rattle.slot_core.specs.Feasible.{counterexample}
 use Rattle.slot_core.specs.Plans.{plan_spans}
 use Rattle.slot_core.specs.Reports.{check_line}
-use Rattle.slot_core.specs.ExampleSets.{task, lone_task, plain_graph, set_of, pair_graph, pair_set, offset_set, alarm_set, flight_set}
+use Rattle.slot_core.specs.ExampleSets.{task, lone_task, set_of, pair_graph, pair_set, offset_set, alarm_set, flight_set}
 
 abbrev span : ℕ → ℕ → ℕ → ℤ → Span
 span start end work spare = record { start = start; end = end; work = work; spare = spare }

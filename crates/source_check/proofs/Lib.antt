@@ -1,0 +1,4 @@
+pub mod CycleLemmas
+pub mod EntryLemmas
+pub mod FaultSteps
+pub mod RangeLemmas

@@ -17,6 +17,7 @@ if_Ok : {X : Type 0} (b : Bool) (x y : X) (fault : TaskFault) → (if b then Ok 
 if_Ok true x y fault h = (refl, cc)
 if_Ok false x y fault h = cc
 
+-- a number, a name, a list of texts and a list of tables
 pub number_at-Ok : (place : Place) (low high : ℕ) (absent : Option ℕ) (d : Option Data) → ForSome absent (λ a. is_between low high a ≡ true) → (n : ℕ) → number_at place low high absent d ≡ Ok n
     → is_between low high n ≡ true
 number_at-Ok place low high None None fits n h = cc

@@ -12,10 +12,12 @@ joined p = record { name = p.0.name; wcet = p.0.wcet; after = p.1 }
 abbrev pub all_joined : List NamedTask → List (List ℕ) → List Task
 all_joined ts ls = map joined (zip ts ls)
 
+-- lists that are made of the tasks
 pub all_joined-map : (f : NamedTask → List ℕ) (ts : List NamedTask) → all_joined ts (map f ts) ≡ map (λ t. joined (t, f t)) ts
 all_joined-map f [] = refl
 all_joined-map f (t ∷ ts) = ap (λ xs. joined (t, f t) ∷ xs) (all_joined-map f ts)
 
+-- nothing is to come where either list has ended
 pub all_joined-empty_first : (ts : List NamedTask) (ls : List (List ℕ)) → length ts ≡ 0 → all_joined ts ls ≡ []
 all_joined-empty_first [] ls h = refl
 all_joined-empty_first (t ∷ ts) ls h = absurd (omega arith)

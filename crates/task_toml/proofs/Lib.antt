@@ -1,5 +1,5 @@
 pub mod Documents
-pub mod Eachs
+pub mod EachLoop
 pub mod FieldRanges
 pub mod JoinedTasks
 pub mod SameTexts

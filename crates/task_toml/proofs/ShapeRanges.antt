@@ -28,24 +28,27 @@ step {r = Err fault} fact h then = cc
 any : {X : Type 0} (r : Read X) (x : X) → r ≡ Ok x → Unit {0}
 any r x h = tt
 
+-- what an absent number is lies in the range
 no_default : (low high : ℕ) → ForSome None (λ a. is_between low high a ≡ true)
 no_default low high = λ a h. cc
 
 default : (low high n : ℕ) → is_between low high n ≡ true → ForSome (Some n) (λ a. is_between low high a ≡ true)
 default low high n h = λ a is. let same : n ≡ a = cc in rw (← same) h
 
+-- the ranges of a task whose entries are still names
 abbrev pub named_in_range : NamedTask → Bool
 named_in_range task = is_name task.name && is_between 1 SLOT_LIMIT task.wcet && nat_le (length task.after) AFTER_LIMIT
 
+-- a task, a graph and a sporadic task of the right shape are in range
 task_of-Ok : (g t : ℕ) (m : Members) (task : NamedTask) → task_of g t m ≡ Ok task → named_in_range task ≡ true
 task_of-Ok g t m task h =
     let at = λ (field : Field). let place : Place = record { part = TaskPart g t; field = field } in place in
     step (any (known_keys (TaskPart g t) m)) h (λ known _ h.
-    step (name_at-Ok (at Name) (at_key Name known)) h (λ name is_name h.
+    step (name_at-Ok (at Name) (at_key Name known)) h (λ name name_fits h.
     step (number_at-Ok (at Wcet) 1 SLOT_LIMIT None (at_key Wcet known) (no_default 1 SLOT_LIMIT)) h (λ wcet fits h.
     step (texts_at-Ok (at After) AFTER_LIMIT (at_key After known)) h (λ after few h.
     let same : record { name = name; wcet = wcet; after = after } ≡ task = cc in
-    rw (← same, is_name, fits, few)))))
+    rw (← same, name_fits, fits, few)))))
 
 -- what holds of each item that is read holds of all
 each-Ok : {X : Type 0} (p : X → Bool) (f : ℕ → Members → Read X) → ((n : ℕ) (t : Members) (x : X) → f n t ≡ Ok x → p x ≡ true) → (n : ℕ) (ts : List Members) (xs : List X) → each f n ts ≡ Ok xs
@@ -57,6 +60,7 @@ each-Ok p f good n (t ∷ ts) xs h =
     let same : x ∷ ys ≡ xs = cc in
     rw (← same) (ap suc count, rw (fits, all))))
 
+-- indexes for names leave tasks in range
 with_indexes-in_range : (all ts : List NamedTask) → list_all task_in_range (map (with_indexes all) ts) ≡ list_all named_in_range ts
 with_indexes-in_range all [] = refl
 with_indexes-in_range all (t ∷ ts) = rw (length-map, with_indexes-in_range all ts)
@@ -65,25 +69,25 @@ graph_of-Ok : (g : ℕ) (m : Members) (graph : Graph) → graph_of g m ≡ Ok gr
 graph_of-Ok g m graph h =
     let at = λ (field : Field). let place : Place = record { part = GraphPart g; field = field } in place in
     step (any (known_keys (GraphPart g) m)) h (λ known _ h.
-    step (name_at-Ok (at Name) (at_key Name known)) h (λ name is_name h.
+    step (name_at-Ok (at Name) (at_key Name known)) h (λ name name_fits h.
     step (number_at-Ok (at Period) 1 SLOT_LIMIT None (at_key Period known) (no_default 1 SLOT_LIMIT)) h (λ period period_fits h.
     step (number_at-Ok (at Offset) 0 (period - 1) (Some 0) (at_key Offset known) (default 0 (period - 1) 0 (grind (arith, nat_tests)))) h (λ offset offset_fits h.
     step (number_at-Ok (at Deadline) 1 (period - offset) (Some (period - offset)) (at_key Deadline known) (default 1 (period - offset) (period - offset) (grind (arith, nat_tests)))) h (λ deadline deadline_fits h.
     step (tables_at-Ok (at TaskKey) TASK_LIMIT (at_key TaskKey known)) h (λ tables few h.
     step (each-Ok named_in_range (task_of g) (task_of-Ok g) 0 tables) h (λ tasks (count, all) h.
     let same : record { name = name; period = period; offset = offset; deadline = deadline; tasks = map (with_indexes tasks) tasks } ≡ graph = cc in
-    rw (← same, is_name, period_fits, offset_fits, deadline_fits, length-map, count, few, with_indexes-in_range tasks tasks, all))))))))
+    rw (← same, name_fits, period_fits, offset_fits, deadline_fits, length-map, count, few, with_indexes-in_range tasks tasks, all))))))))
 
 sporadic_of-Ok : (s : ℕ) (m : Members) (sporadic : SporadicTask) → sporadic_of s m ≡ Ok sporadic → sporadic_in_range sporadic ≡ true
 sporadic_of-Ok s m sporadic h =
     let at = λ (field : Field). let place : Place = record { part = SporadicPart s; field = field } in place in
     step (any (known_keys (SporadicPart s) m)) h (λ known _ h.
-    step (name_at-Ok (at Name) (at_key Name known)) h (λ name is_name h.
+    step (name_at-Ok (at Name) (at_key Name known)) h (λ name name_fits h.
     step (number_at-Ok (at Wcet) 1 SLOT_LIMIT None (at_key Wcet known) (no_default 1 SLOT_LIMIT)) h (λ wcet wcet_fits h.
     step (number_at-Ok (at Separation) 1 SLOT_LIMIT None (at_key Separation known) (no_default 1 SLOT_LIMIT)) h (λ separation separation_fits h.
     step (number_at-Ok (at Deadline) 1 separation (Some separation) (at_key Deadline known) (default 1 separation separation (grind (arith, nat_tests)))) h (λ deadline deadline_fits h.
     let same : record { name = name; wcet = wcet; separation = separation; deadline = deadline } ≡ sporadic = cc in
-    rw (← same, is_name, wcet_fits, separation_fits, deadline_fits))))))
+    rw (← same, name_fits, wcet_fits, separation_fits, deadline_fits))))))
 
 -- a set of the right shape is in range
 pub set_of-Ok : (m : Members) (set : TaskSet) → set_of m ≡ Ok set → is_in_range set ≡ true

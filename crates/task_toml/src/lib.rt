@@ -7,19 +7,18 @@ ghost use Rattle.task_toml.specs.Reading.{document_of, reading_of_tasks, set_of}
 ghost use Rattle.task_toml.specs.TomlFields.{Answers, AnswersAs};
 ghost use Rattle.toml.specs.View.{table_view};
 
-mod check;
 mod fields;
 mod graphs;
 mod tables;
 #[cfg(test)]
 mod tests;
 
-use check::check_set;
 use fields::{check_keys, number_at};
 use graphs::{read_graphs, read_sporadics};
 use slot_core::{
     Field, GRAPH_LIMIT, Part, SOFT_DEFAULT, SOFT_LIMIT, SPORADIC_LIMIT, TaskFault, TaskSet,
 };
+use source_check::check;
 use std::alloc::Global;
 use tables::{tables_at, tables_or_none_at};
 use toml::Table;
@@ -33,7 +32,7 @@ pub fn read_tasks(alloc: Global, bytes: &[u8]) -> Result<TaskSet, TaskFault>
 {
     let document = read_document(alloc, bytes)?;
     let set = read_set(alloc, &document)?;
-    check_set(alloc, &set)?;
+    check(alloc, &set)?;
     Ok(set)
 }
 

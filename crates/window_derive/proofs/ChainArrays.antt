@@ -1,6 +1,6 @@
 -- One step along an order, where the longest chains are counted.
-use Rattle.std.proofs.Common.{◌≡◌, ℕ, zero, suc, ◌+◌, ◌<◌, ◌≤◌, max, cond, List, [], ◌∷◌, ◌++◌, length, map, get_or, set, take, drop, replicate, Some, refl, sym, ap, ◌∙◌, subst, inl, inr, ⊎_elim, add-one, arith}
-use Rattle.std.specs.Prelude.{fold, slice_get, slice_index}
+use Rattle.std.proofs.Common.{◌≡◌, ℕ, zero, suc, ◌+◌, ◌<◌, ◌≤◌, max, cond, List, [], ◌∷◌, length, map, get_or, set, take, drop, replicate, refl, sym, ap, ◌∙◌, subst, inl, inr, arith}
+use Rattle.std.specs.Prelude.{fold, slice_index}
 use Rattle.std.proofs.lemmas.Bool.{cases_eq}
 use Rattle.std.proofs.lemmas.List.{take_more, take_all, drop_more, drop_all, get_or-set_same, get_or-set_other}
 use Rattle.std.proofs.lemmas.Option.{slice_get-get_or}
@@ -55,21 +55,21 @@ AreBefore-more tasks order before i v sound is within long so_far e =
           elim (cases_eq u t) [
             | inl e ↦ ap (slice_index (set before t v)) e ∙ here ∙ value ∙ sym (ap (longest_before tasks) e)
             | inr other ↦
-              let old : Has (take i order) u =
-                  elim (Has-append_cases (take i order) (t ∷ []) u (subst (λ xs. Has xs u) (take_more order i 0 within) h)) [
-                    | inl a ↦ a
-                    | inr b ↦ elim b [ inl e ↦ absurd (other (sym e)) | inr none ↦ absurd none ]
-                  ] in
-              get_or-set_other before t u v 0 other ∙ so_far.done u old
+                let old : Has (take i order) u =
+                elim (Has-append_cases (take i order) (t ∷ []) u (subst (λ xs. Has xs u) (take_more order i 0 within) h)) [
+                  | inl a ↦ a
+                  | inr b ↦ elim b [ inl e ↦ absurd (other (sym e)) | inr none ↦ absurd none ]
+                ] in
+                get_or-set_other before t u v 0 other ∙ so_far.done u old
           ];
       small = λ u.
           elim (cases_eq u t) [
             | inl e ↦
-              let at_u : slice_index (set before t v) u ≡ v = ap (slice_index (set before t v)) e ∙ here in
-              omega (arith, chain_bound tasks t sound below)
+                let at_u : slice_index (set before t v) u ≡ v = ap (slice_index (set before t v)) e ∙ here in
+                omega (arith, chain_bound tasks t sound below)
             | inr other ↦
-              let at_u : slice_index (set before t v) u ≡ slice_index before u = get_or-set_other before t u v 0 other in
-              omega (arith, so_far.small u)
+                let at_u : slice_index (set before t v) u ≡ slice_index before u = get_or-set_other before t u v 0 other in
+                omega (arith, so_far.small u)
           ];
     }
 

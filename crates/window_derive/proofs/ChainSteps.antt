@@ -1,8 +1,8 @@
 -- The longest chains of a graph, by its entries.
-use Rattle.std.proofs.Common.{◌≡◌, ℕ, zero, suc, ◌+◌, ◌*◌, ◌<◌, ◌≤◌, ◌⊎◌, max, Bool, true, false, cond, List, [], ◌∷◌, length, map, get_or, take, drop, Some, refl, sym, ap, ◌∙◌, subst, inl, inr, ⊎_elim, arith}
+use Rattle.std.proofs.Common.{◌≡◌, ℕ, zero, suc, ◌+◌, ◌*◌, ◌<◌, ◌≤◌, ◌⊎◌, max, true, false, cond, List, [], ◌∷◌, length, map, get_or, take, drop, Some, refl, ap, ◌∙◌, subst, inl, inr, arith}
 use Rattle.std.specs.Prelude.{filter, fold, sum_by, slice_get}
 use Rattle.std.specs.List.{range_with_len}
-use Rattle.std.proofs.lemmas.Bool.{cases_lt, cases_order, false≢true}
+use Rattle.std.proofs.lemmas.Bool.{cases_lt, cases_order}
 use Rattle.std.proofs.lemmas.Grind.{fold-append}
 use Rattle.std.proofs.lemmas.List.{map_more}
 use Rattle.std.proofs.lemmas.List.Sums.{sum_by-cons}
@@ -25,8 +25,8 @@ has_entries tasks t p after =
     elim (cases_lt t (length tasks)) [
       | inl within ↦ within
       | inr past ↦
-        let none : Has (after_of tasks t) p = Has-from_equal (after_of tasks t) p after in
-        absurd (subst (λ xs. Has xs p) (after_of-past tasks t past) none)
+          let none : Has (after_of tasks t) p = Has-from_equal (after_of tasks t) p after in
+          absurd (subst (λ xs. Has xs p) (after_of-past tasks t past) none)
     ]
 
 -- orderable tasks are on no loop
@@ -74,9 +74,9 @@ greatest-le step weight n t m each =
     elim (chain_cases step n t c.0 c.1) [
       | inl e ↦ let none : 0 ≡ x = ap (sum_by weight) e ∙ c.2 in omega arith
       | inr g ↦
-        let sum : sum_by weight (g.next ∷ g.rest) ≡ x = ap (sum_by weight) g.is ∙ c.2 in
-        let listed = Has-map (sum_by weight) (chains step n g.next) g.rest g.goes in
-        omega (arith, each g.next g.steps, fold_max-at 0 (map (sum_by weight) (chains step n g.next)) (sum_by weight g.rest) listed, sum_by-cons weight g.next g.rest)
+          let sum : sum_by weight (g.next ∷ g.rest) ≡ x = ap (sum_by weight) g.is ∙ c.2 in
+          let listed = Has-map (sum_by weight) (chains step n g.next) g.rest g.goes in
+          omega (arith, each g.next g.steps, fold_max-at 0 (map (sum_by weight) (chains step n g.next)) (sum_by weight g.rest) listed, sum_by-cons weight g.next g.rest)
     ]
 
 -- the longest chain before a task, by its entries
@@ -86,13 +86,13 @@ longest_before-by_entries tasks t sound =
     let entries = after_of tasks t in
     let m = fold max 0 (map f entries) in
     let up : longest_before tasks t ≤ m =
-        greatest-le (predecessors tasks) (wcet_of tasks) (length tasks) t m λ p h.
-        let after = (Has-filter_passes (comes_after tasks t) (range_with_len 0 (length tasks)) p h).1 in
-        fold_max-at 0 (map f entries) (f p) (Has-map f entries p (Has-from_equal entries p after)) in
+    greatest-le (predecessors tasks) (wcet_of tasks) (length tasks) t m λ p h.
+    let after = (Has-filter_passes (comes_after tasks t) (range_with_len 0 (length tasks)) p h).1 in
+    fold_max-at 0 (map f entries) (f p) (Has-map f entries p (Has-from_equal entries p after)) in
     let down : m ≤ longest_before tasks t =
-        fold_max-le 0 (longest_before tasks t) (map f entries) (omega arith) λ x at.
-        let c = Has-map_cases f entries x at in
-        omega (arith, c.2, longest_before-step tasks t c.0 sound (equal-from_Has entries c.0 c.1)) in
+    fold_max-le 0 (longest_before tasks t) (map f entries) (omega arith) λ x at.
+    let c = Has-map_cases f entries x at in
+    omega (arith, c.2, longest_before-step tasks t c.0 sound (equal-from_Has entries c.0 c.1)) in
     omega arith
 
 -- the longest chain after a task that these tasks make
@@ -107,14 +107,14 @@ longest_after-by_successors tasks done t sound all =
     let test = λ (s : ℕ). comes_after tasks s t in
     let m = longest_by tasks done t in
     let up : longest_after tasks t ≤ m =
-        greatest-le (successors tasks) (wcet_of tasks) (length tasks) t m λ s h.
-        let after = (Has-filter_passes test (range_with_len 0 (length tasks)) s h).1 in
-        fold_max-at 0 (map f (filter test done)) (f s) (Has-map f (filter test done) s (Has-filter test done s (all s after) after)) in
+    greatest-le (successors tasks) (wcet_of tasks) (length tasks) t m λ s h.
+    let after = (Has-filter_passes test (range_with_len 0 (length tasks)) s h).1 in
+    fold_max-at 0 (map f (filter test done)) (f s) (Has-map f (filter test done) s (Has-filter test done s (all s after) after)) in
     let down : m ≤ longest_after tasks t =
-        fold_max-le 0 (longest_after tasks t) (map f (filter test done)) (omega arith) λ x at.
-        let c = Has-map_cases f (filter test done) x at in
-        let after = (Has-filter_passes test done c.0 c.1).1 in
-        omega (arith, c.2, longest_after-step tasks c.0 t sound after) in
+    fold_max-le 0 (longest_after tasks t) (map f (filter test done)) (omega arith) λ x at.
+    let c = Has-map_cases f (filter test done) x at in
+    let after = (Has-filter_passes test done c.0 c.1).1 in
+    omega (arith, c.2, longest_after-step tasks c.0 t sound after) in
     omega arith
 
 -- one task more before those that make chains
@@ -168,8 +168,8 @@ successors_after tasks order i t s sound is at after =
     let at_s : slice_get order place.0 ≡ Some s = slice_get-get_or order place.0 s place.1 ∙ ap Some place.2 in
     let before = place-from_Has order place.0 t (predecessors_before tasks order place.0 s t sound is at_s after) in
     let same : i ≡ before.0 =
-        elim (cases_order i before.0) [
-          | inl e ↦ e
-          | inr apart ↦ elim apart [ inl low ↦ absurd (one_place tasks order i before.0 t is at before.2 low) | inr high ↦ absurd (one_place tasks order before.0 i t is before.2 at high) ]
-        ] in
+    elim (cases_order i before.0) [
+      | inl e ↦ e
+      | inr apart ↦ elim apart [ inl low ↦ absurd (one_place tasks order i before.0 t is at before.2 low) | inr high ↦ absurd (one_place tasks order before.0 i t is before.2 at high) ]
+    ] in
     Has-from_later order (i + 1) place.0 s (omega (arith, before.1)) at_s

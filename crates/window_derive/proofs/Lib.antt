@@ -1,6 +1,8 @@
 pub mod BoolLists
 pub mod ChainArrays
 pub mod ChainSteps
+pub mod DeadlineOrder
 pub mod LoopLemmas
 pub mod OrderLemmas
+pub mod SoundSets
 pub mod StuckLemmas

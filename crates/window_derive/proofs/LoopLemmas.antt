@@ -1,6 +1,6 @@
 -- Marks of tasks, and paths along `after` entries.
-use Rattle.std.proofs.Common.{◌≡◌, ℕ, zero, suc, ◌+◌, ◌<◌, ◌≤◌, Bool, true, false, not, ◌||◌, cond, eqb, ◌==◌, List, [], ◌∷◌, ◌++◌, length, get_or, set, Option, Some, None, refl, sym, ap, ◌∙◌, ⊎_elim, add-one, arith}
-use Rattle.std.specs.Prelude.{All, slice_get, find}
+use Rattle.std.proofs.Common.{◌≡◌, ℕ, zero, suc, ◌+◌, ◌<◌, ◌≤◌, Bool, true, false, not, ◌||◌, cond, ◌==◌, List, [], ◌∷◌, length, get_or, set, Option, Some, refl, sym, ap, ◌∙◌, ⊎_elim, add-one, arith}
+use Rattle.std.specs.Prelude.{All, find}
 use Rattle.std.specs.List.{list_any, list_all, range_with_len}
 use Rattle.std.specs.Option.{option_map_or}
 use Rattle.std.proofs.lemmas.Bool.{and_parts, not-true, cases_eq, eq-eqb, ne_eqb}
@@ -8,8 +8,8 @@ use Rattle.std.proofs.lemmas.List.{get_or-set_same, get_or-set_other}
 use Rattle.std.proofs.lemmas.List.Elements.{Contains-get_or}
 use Rattle.std.proofs.lemmas.Option.{slice_get-get_or, slice_get_past}
 use Rattle.slot_core.specs.declared.tasks.Task.{Task}
-use Rattle.slot_core.specs.Precedence.{after_of, wcet_of, comes_after, leads_to, is_on_loop}
-use Rattle.slot_core.proofs.ListMembers.{Has, Has-from_Contains, list_any-from_Has}
+use Rattle.slot_core.specs.Precedence.{after_of, wcet_of, comes_after, leads_to}
+use Rattle.slot_core.proofs.ListMembers.{Has-from_Contains, list_any-from_Has}
 use Rattle.window_derive.specs.Marks.{is_marked}
 
 -- where no element is true, no task is marked

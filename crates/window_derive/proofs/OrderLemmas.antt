@@ -1,8 +1,8 @@
 -- Orders of tasks in which predecessors go first.
 use Rattle.std.proofs.Common.{◌≡◌, ℕ, zero, suc, ◌+◌, ◌<◌, ◌≤◌, Bool, true, false, not, ◌&&◌, ◌||◌, eqb, List, [], ◌∷◌, ◌++◌, length, take, set, Some, None, refl, sym, ap, ◌∙◌, inl, inr, ⊎_elim, arith}
-use Rattle.std.specs.Prelude.{slice_get, Contains}
+use Rattle.std.specs.Prelude.{slice_get}
 use Rattle.std.specs.List.{list_any, list_all, range_with_len, IsDistinct}
-use Rattle.std.proofs.lemmas.Bool.{and_parts, not-true, both_ways, false≢true, false_from_ne_true, cases_Bool, cases_eq, eqb-true, ne_eqb}
+use Rattle.std.proofs.lemmas.Bool.{and_parts, not-true, both_ways, false_from_ne_true, cases_Bool, cases_eq, eqb-true, ne_eqb}
 use Rattle.std.proofs.lemmas.Cmp.{nat_eq_equiv}
 use Rattle.std.proofs.lemmas.List.{take-append-le, take_at}
 use Rattle.std.proofs.lemmas.List.Folds.{list_any-append}
@@ -11,7 +11,7 @@ use Rattle.std.proofs.lemmas.Map.Steps.{length-le_from_distinct_below}
 use Rattle.std.proofs.lemmas.Option.{slice_get-get_or}
 use Rattle.slot_core.specs.declared.tasks.Task.{Task}
 use Rattle.slot_core.specs.Precedence.{after_of, comes_after, predecessors, leads_to, is_on_loop}
-use Rattle.slot_core.proofs.ListMembers.{Has, Contains-from_Has, Has-append_cases, Has-append_right, Has-filter, Has-filter_passes, Has-range_with_len, Has-range_with_len_bounds, Has-from_list_any, list_any-from_Has, passes_from_list_all, AllByRecursion-from_Has}
+use Rattle.slot_core.proofs.ListMembers.{Has, Contains-from_Has, Has-append_cases, Has-append_right, Has-filter, Has-filter_passes, Has-range_with_len, Has-range_with_len_bounds, Has-from_list_any, passes_from_list_all, AllByRecursion-from_Has}
 use Rattle.window_derive.specs.Orders.{IsOrder, is_listed, next_task, first_on_loop}
 use Rattle.window_derive.specs.Marks.{is_marked, next_by}
 use Rattle.window_derive.proofs.BoolLists.{same_tests, list_all-same, list_all-from_Has, find-Some, find-same, None-from_fails, equal-from_Has, Has-from_equal, slice_get-push, place-from_Has, Has-from_place}

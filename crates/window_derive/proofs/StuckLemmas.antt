@@ -1,17 +1,16 @@
 -- Where tasks are left and none is next, some task is on a loop.
-use Rattle.std.proofs.Common.{◌≡◌, ℕ, zero, suc, ◌+◌, ◌<◌, ◌≤◌, Bool, true, false, not, ◌&&◌, eqb, List, [], ◌∷◌, length, Option, Some, None, refl, sym, ap, ◌∙◌, inl, inr, ⊎_elim, arith}
+use Rattle.std.proofs.Common.{◌≡◌, ℕ, zero, suc, ◌+◌, ◌<◌, ◌≤◌, true, false, not, ◌&&◌, eqb, List, [], ◌∷◌, length, Some, None, refl, sym, inl, inr, ⊎_elim, arith}
 use Rattle.std.specs.Prelude.{is_some}
 use Rattle.std.specs.List.{list_any, list_all, range_with_len, IsDistinct}
-use Rattle.std.proofs.lemmas.Bool.{and_cases, not-false, both_ways, false_from_ne_true, cases_Bool, eqb-true, eq-eqb}
+use Rattle.std.proofs.lemmas.Bool.{and_cases, not-false, both_ways, cases_Bool, eq-eqb}
 use Rattle.std.proofs.lemmas.Map.Steps.{le-length_from_below}
 use Rattle.slot_core.specs.declared.tasks.Task.{Task}
-use Rattle.slot_core.specs.Precedence.{after_of, comes_after, predecessors, leads_to, is_on_loop}
-use Rattle.slot_core.proofs.ListMembers.{Has, Has-filter_passes, Has-range_with_len, Has-range_with_len_bounds, Has-from_list_any, list_any-from_Has, passes_from_list_all}
+use Rattle.slot_core.specs.Precedence.{comes_after, predecessors, leads_to, is_on_loop}
+use Rattle.slot_core.proofs.ListMembers.{Has, Has-filter_passes, Has-range_with_len, Has-range_with_len_bounds, list_any-from_Has, passes_from_list_all}
 use Rattle.slot_core.proofs.ChainLemmas.{leads_to_push}
 use Rattle.slot_core.proofs.FaultLemmas.{find-None}
 use Rattle.window_derive.specs.Orders.{is_listed, next_task, first_on_loop}
 use Rattle.window_derive.proofs.BoolLists.{fails-from_list_all, equal-from_Has, Has-from_equal}
-use Rattle.window_derive.proofs.LoopLemmas.{IsNamed}
 use Rattle.window_derive.proofs.OrderLemmas.{IsDistinct-cons, below_cons, length-le_from_below}
 
 -- a task that is not listed

@@ -1,3 +1,4 @@
 pub mod Chains
+pub mod GraphChains
 pub mod Marks
 pub mod Orders

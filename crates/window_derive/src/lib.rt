@@ -12,11 +12,15 @@ ghost use Rattle.window_derive.specs.Orders.{IsOrder, first_on_loop};
 mod chains;
 mod loops;
 mod places;
+#[cfg(test)]
+mod tests;
+mod windows;
 
 use loops::first_on_loop;
 use places::next_task;
 use slot_core::{Graph, Job, Memory, RawJob, TaskSet};
 use std::alloc::Global;
+use windows::{by_deadline, chains_of_graphs, windows_of};
 
 /// Most tasks of a graph that has an order here.
 const MOST_TASKS: usize = 32;
@@ -61,5 +65,8 @@ pub fn derive(alloc: Global, tasks: &TaskSet, raw: &[RawJob]) -> Result<Vec<Job>
     ensures jobs { IfOk result (λ jobs. IsPermutation (map (derived_job tasks.now) raw.now) jobs.items) }
     ensures ordered { IfOk result (λ jobs. AreInDeadlineOrder jobs.items) }
 {
-    Err(Memory)
+    let chains = chains_of_graphs(alloc, tasks.graphs.items())?;
+    let mut jobs = windows_of(alloc, raw, chains.as_slice())?;
+    jobs.sort_unstable_by(by_deadline);
+    Ok(jobs)
 }

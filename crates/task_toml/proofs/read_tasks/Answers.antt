@@ -2,9 +2,9 @@ use Rattle.toml.specs.View.{table_view}
 use Rattle.task_toml.proofs.ShapeRanges.{set_of-Ok}
 use Rattle.task_toml.proofs.read_tasks.Goals as goal
 
-pub check_set-requires : goal.check_set-requires
-check_set-requires c = set_of-Ok (table_view c.in_ok-document.document) c.in_ok-set.set c.in_ok-set.ensures
+pub check-requires : goal.check-requires
+check-requires c = set_of-Ok (table_view c.in_ok-document.document) c.in_ok-set.set c.in_ok-set.ensures
 
 pub returns-clause-sound : goal.returns-clause-sound
 returns-clause-sound c =
-    rw (set_of-Ok (table_view c.in_ok-document.document) c.in_ok-set.set c.in_ok-set.ensures, c.in_ok-check_set.ensures.ok)
+    rw (set_of-Ok (table_view c.in_ok-document.document) c.in_ok-set.set c.in_ok-set.ensures, c.in_ok-check.ensures.ok)

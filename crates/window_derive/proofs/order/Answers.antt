@@ -1,10 +1,10 @@
 -- The order so far, one task more, and whole.
-use Rattle.std.proofs.Common.{◌≡◌, ◌+◌, ◌<◌, ◌≤◌, true, false, not, cond, [], ◌∷◌, ◌++◌, replicate, length, length-set, Some, None, refl, sym, ap, ◌∙◌, rules, arith}
+use Rattle.std.proofs.Common.{◌≡◌, ◌+◌, ◌<◌, ◌≤◌, true, false, not, cond, [], ◌∷◌, ◌++◌, replicate, length, length-set, refl, sym, ap, ◌∙◌, rules, arith}
 use Rattle.std.proofs.lemmas.List.{length_push}
 use Rattle.std.specs.Prelude.{is_some}
-use Rattle.window_derive.specs.Orders.{is_listed, next_task}
+use Rattle.window_derive.specs.Orders.{is_listed}
 use Rattle.window_derive.proofs.LoopLemmas.{unmarked}
-use Rattle.window_derive.proofs.OrderLemmas.{IsOrdered, IsOrdered-nil, IsOrdered-push, IsNext-from_next_task, IsOrder-from_ordered, next_task-from_marks, loopless-from_order, marked-push}
+use Rattle.window_derive.proofs.OrderLemmas.{IsOrdered-nil, IsOrdered-push, IsNext-from_next_task, IsOrder-from_ordered, next_task-from_marks, loopless-from_order, marked-push}
 use Rattle.window_derive.proofs.StuckLemmas.{loop-from_stuck}
 use Rattle.window_derive.proofs.order.Goals as goal
 

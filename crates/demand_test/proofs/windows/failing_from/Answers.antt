@@ -1,7 +1,7 @@
-use Rattle.std.proofs.Common.{◌≡◌, ℕ, ◌+◌, ◌-◌, ◌<◌, true, List, length, take, get_or, sum, Some, sym, refl, arith}
+use Rattle.std.proofs.Common.{◌≡◌, ℕ, ◌+◌, ◌-◌, ◌<◌, ◌≤◌, true, List, length, take, get_or, sum, None, Some, sym, refl, ap, ◌∙◌, inl, inr, arith}
 use Rattle.std.specs.Prelude.{nat_lt}
-use Rattle.std.proofs.lemmas.Bool.{lt-ltb}
-use Rattle.std.proofs.lemmas.List.Sums.{sum_by_more}
+use Rattle.std.proofs.lemmas.Bool.{cases_eq, lt-ltb, le-ltb}
+use Rattle.std.proofs.lemmas.List.Sums.{sum_by_more, sum_by-take-le}
 use Rattle.demand_test.specs.Ends.{failing_in}
 use Rattle.demand_test.proofs.FirstSome.{first_some-found, first_some-from_none}
 use Rattle.demand_test.proofs.windows.failing_from.Goals as goal
@@ -11,6 +11,33 @@ failing_in-Some : (due arrivals : List ℕ) (a b needed : ℕ) → sum (take (b 
 failing_in-Some due arrivals a b needed is more =
     let fails : nat_lt (b - a) needed ≡ true = lt-ltb (b - a) needed more in
     rw (is, fails) refl
+
+-- the window whose slots are enough
+failing_in-None : (due arrivals : List ℕ) (a b needed : ℕ) → sum (take (b + 1) due) + get_or arrivals (b - a) 0 ≡ needed → needed ≤ b - a → failing_in due arrivals a b ≡ None
+failing_in-None due arrivals a b needed is fits = rw (is, le-ltb (b - a) needed fits) refl
+
+pub overflow_add-needed : goal.overflow_add-needed
+overflow_add-needed c =
+    let due = c.args.due.now in
+    let step = sum_by_more (λ x. x) due c.loop-until.until 0 c.loop-until-test.true in
+    let most = sum_by-take-le (λ x. x) due (c.loop-until.until + 1) in
+    let small = c.requires.small (c.loop-until.until - c.args.from) 0 (omega arith) in
+    omega arith
+
+pub loop-until-preserved : goal.loop-until-preserved
+loop-until-preserved c =
+    let due = c.args.due.now in
+    let arrivals = c.args.arrivals.now in
+    let a = c.args.from in
+    let b = c.loop-until.until in
+    let step = sum_by_more (λ x. x) due b 0 c.loop-until-test.true in
+    let here = failing_in-None due arrivals a b (c.loop-until.sum + get_or due b 0 + get_or arrivals (b - a) 0) (omega arith) c.if-slots-needed.false in (
+      omega arith,
+      λ k low high. elim (cases_eq k b) [
+        | inl same ↦ ap (failing_in due arrivals a) same ∙ here
+        | inr other ↦ c.loop-until.invariant.1 k low (omega arith)
+      ],
+    )
 
 pub returns-then-slots-needed : goal.returns-then-slots-needed
 returns-then-slots-needed c =

@@ -1,7 +1,7 @@
 use Rattle.std.proofs.Common.{◌≡◌, drop, length, map}
 use Rattle.toml.specs.View.{table_view}
 use Rattle.task_toml.specs.Reading.{each, task_of}
-use Rattle.task_toml.proofs.Eachs.{with_before}
+use Rattle.task_toml.proofs.EachLoop.{with_before}
 use Rattle.task_toml.proofs.graphs.read_named_tasks.Given as goal
 
 abbrev pub invariant-loop-t : goal.invariant-loop-t

@@ -1,6 +1,5 @@
 -- The longest chains after one task more are counted.
-use Rattle.std.proofs.Common.{◌≡◌, ℕ, ◌+◌, ◌-◌, ◌<◌, ◌≤◌, get_or, length, drop, sym, ap, ◌∙◌, rules, arith}
-use Rattle.std.specs.Prelude.{slice_index}
+use Rattle.std.proofs.Common.{◌-◌, get_or, rules, arith}
 use Rattle.window_derive.proofs.ChainArrays.{place_within, longest_by-none, longest_by-small, longest_by-more, AreChainsAfter-from_all}
 use Rattle.window_derive.proofs.chains.chains_after.Goals as goal
 

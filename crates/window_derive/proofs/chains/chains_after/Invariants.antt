@@ -7,5 +7,5 @@ use Rattle.window_derive.proofs.chains.chains_after.Given as goal
 abbrev pub invariant-loop-place : goal.invariant-loop-place
 invariant-loop-place l = record {
   long : length l.after ≡ 32;
-  raised : (t : ℕ) → slice_index l.after t ≡ longest_by l.tasks (drop l.place l.order) t
+  raised : (t : ℕ) → slice_index l.after t ≡ longest_by l.tasks (drop l.place l.order) t;
 }

@@ -1,6 +1,6 @@
 -- The longest chain before one task more.
-use Rattle.std.proofs.Common.{◌≡◌, ◌+◌, ◌<◌, ◌≤◌, get_or, set, take, length, length-set, sym, ap, ◌∙◌, subst, rules, arith}
-use Rattle.window_derive.proofs.ChainArrays.{AreBefore, AreBefore-none, AreBefore-more, AreChainsBefore-from_all, place_within}
+use Rattle.std.proofs.Common.{◌≤◌, length, length-set, ◌∙◌, rules, arith}
+use Rattle.window_derive.proofs.ChainArrays.{AreBefore-none, AreBefore-more, AreChainsBefore-from_all, place_within}
 use Rattle.window_derive.proofs.chains.chains_before.Goals as goal
 
 pub loop-task-init : goal.loop-task-init

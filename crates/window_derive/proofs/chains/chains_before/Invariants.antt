@@ -6,5 +6,5 @@ use Rattle.window_derive.proofs.chains.chains_before.Given as goal
 abbrev pub invariant-loop-task : goal.invariant-loop-task
 invariant-loop-task l = record {
   long : length l.before ≡ 32;
-  so_far : AreBefore l.tasks (take l.task-index l.order) l.before
+  so_far : AreBefore l.tasks (take l.task-index l.order) l.before;
 }

@@ -1,5 +1,5 @@
 -- The entries of the task.
-use Rattle.std.proofs.Common.{◌≡◌, ℕ, ◌+◌, ◌<◌, max, fold, map, length, List, sym, ap, ◌∙◌, arith}
+use Rattle.std.proofs.Common.{◌≡◌, ℕ, ◌+◌, ◌<◌, max, fold, map, length, sym, ap, ◌∙◌, arith}
 use Rattle.std.specs.Prelude.{slice_index}
 use Rattle.slot_core.specs.Precedence.{after_of, wcet_of}
 use Rattle.window_derive.proofs.LoopLemmas.{after_of-at, entries_below}
@@ -17,5 +17,5 @@ returns c =
     let f = λ (p : ℕ). slice_index c.args.before.now p + wcet_of tasks p in
     let within : c.from.result < length tasks = rw c.from.ensures c.requires.task in
     let entries : c.items.result.now ≡ after_of tasks c.args.task =
-        c.items.ensures ∙ sym (after_of-at tasks c.from.result c.index-tasks-from.result within) ∙ ap (after_of tasks) c.from.ensures in
+    c.items.ensures ∙ sym (after_of-at tasks c.from.result c.index-tasks-from.result within) ∙ ap (after_of tasks) c.from.ensures in
     c.longest_of.ensures ∙ ap (λ xs. fold max 0 (map f xs)) entries

@@ -7,5 +7,5 @@ use Rattle.window_derive.proofs.chains.raise.Given as goal
 abbrev pub invariant-loop-entry : goal.invariant-loop-entry
 invariant-loop-entry l = record {
   long : length l.after ≡ 32;
-  raised : (t : ℕ) → slice_index l.after t ≡ cond (list_any (λ a. a == t) (take l.entry-index l.entries)) (max (slice_index l.initial.after t) l.chain) (slice_index l.initial.after t)
+  raised : (t : ℕ) → slice_index l.after t ≡ cond (list_any (λ a. a == t) (take l.entry-index l.entries)) (max (slice_index l.initial.after t) l.chain) (slice_index l.initial.after t);
 }

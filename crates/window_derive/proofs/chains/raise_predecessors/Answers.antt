@@ -1,5 +1,5 @@
 -- The entries of the task.
-use Rattle.std.proofs.Common.{◌≡◌, ℕ, ◌+◌, ◌<◌, ◌≤◌, ◌==◌, max, cond, length, get_or, List, sym, ap, ◌∙◌, arith}
+use Rattle.std.proofs.Common.{◌≡◌, ◌+◌, ◌<◌, ◌==◌, max, cond, length, get_or, sym, ap, ◌∙◌}
 use Rattle.std.specs.Prelude.{slice_index}
 use Rattle.std.specs.List.{list_any}
 use Rattle.slot_core.specs.declared.tasks.Task.{Task}
@@ -19,7 +19,7 @@ returns c = λ t.
     let after = c.args.after.now in
     let within : c.from-place.result < length tasks = rw c.from-place.ensures c.requires.task in
     let entries : c.items.result.now ≡ after_of tasks c.args.task =
-        c.items.ensures ∙ sym (after_of-at tasks c.from-place.result c.index-tasks-place-2.result within) ∙ ap (after_of tasks) c.from-place.ensures in
+    c.items.ensures ∙ sym (after_of-at tasks c.from-place.result c.index-tasks-place-2.result within) ∙ ap (after_of tasks) c.from-place.ensures in
     let slots = λ (task : Task). task.wcet in
     let wcet = wcet_of-at tasks c.from-place.result c.index-tasks-place.result within c.index-tasks-place.is ∙ ap slots c.index-tasks-place.is in
     let before = slice_index after in

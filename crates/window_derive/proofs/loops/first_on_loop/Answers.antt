@@ -1,5 +1,5 @@
 -- This task is not on a loop.
-use Rattle.std.proofs.Common.{◌≡◌, ◌+◌, ◌-◌, length, sym, ◌∙◌, arith}
+use Rattle.std.proofs.Common.{◌+◌, ◌-◌, length, sym, ◌∙◌, arith}
 use Rattle.slot_core.specs.Precedence.{is_on_loop}
 use Rattle.window_derive.specs.Orders.{first_on_loop}
 use Rattle.window_derive.proofs.LoopLemmas.{find_later}

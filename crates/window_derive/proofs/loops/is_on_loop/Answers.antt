@@ -1,9 +1,7 @@
 -- One entry more.
-use Rattle.std.proofs.Common.{◌≡◌, ℕ, suc, ◌+◌, ◌-◌, Bool, true, false, ◌||◌, List, replicate, length, length-set, refl, sym, ap, ◌∙◌, arith, rules}
+use Rattle.std.proofs.Common.{◌≡◌, ◌+◌, ◌-◌, true, false, replicate, length, length-set, refl, sym, ap, ◌∙◌, arith, rules}
 use Rattle.std.specs.List.{list_any, range_with_len}
-use Rattle.std.proofs.lemmas.Bool.{or_left, or_right}
 use Rattle.slot_core.specs.Precedence.{leads_to, is_on_loop}
-use Rattle.window_derive.specs.Marks.{is_marked}
 use Rattle.window_derive.proofs.LoopLemmas.{leads_more, leads_none, any_here, any_later}
 use Rattle.window_derive.proofs.loops.is_on_loop.Goals as goal
 

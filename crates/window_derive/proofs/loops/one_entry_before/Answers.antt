@@ -1,9 +1,8 @@
 -- What the tasks so far are marked by.
-use Rattle.std.proofs.Common.{◌≡◌, ℕ, ◌+◌, ◌<◌, ◌≤◌, false, length, replicate, refl, sym, ap, ◌∙◌, arith, length-set, below_more, ⊎_elim}
+use Rattle.std.proofs.Common.{◌≡◌, ◌<◌, ◌≤◌, false, length, replicate, refl, sym, ap, ◌∙◌, arith, length-set, below_more, ⊎_elim}
 use Rattle.std.specs.List.{list_any}
 use Rattle.std.proofs.lemmas.Bool.{cases_lt}
 use Rattle.slot_core.specs.declared.tasks.Task.{Task}
-use Rattle.slot_core.specs.Precedence.{after_of}
 use Rattle.window_derive.specs.Marks.{is_marked}
 use Rattle.window_derive.proofs.LoopLemmas.{unmarked, marked_same, marked_other, after_of-at, after_of-past, entries_below}
 use Rattle.window_derive.proofs.loops.one_entry_before.Goals as goal

@@ -1,8 +1,8 @@
 -- The predecessors of a task are its entries.
-use Rattle.std.proofs.Common.{◌≡◌, ◌&&◌, Bool, true, not, sym, ap, ◌∙◌}
+use Rattle.std.proofs.Common.{◌≡◌, ◌&&◌, true, not, sym, ap, ◌∙◌}
 use Rattle.std.specs.List.{list_all}
-use Rattle.slot_core.specs.Precedence.{after_of, predecessors}
-use Rattle.window_derive.specs.Marks.{is_marked, is_next_by}
+use Rattle.slot_core.specs.Precedence.{predecessors}
+use Rattle.window_derive.specs.Marks.{is_marked}
 use Rattle.window_derive.proofs.LoopLemmas.{after_of-at, entries_below}
 use Rattle.window_derive.proofs.OrderLemmas.{list_all-predecessors}
 use Rattle.window_derive.proofs.places.is_next.Goals as goal

@@ -1,5 +1,5 @@
 -- This task is not next.
-use Rattle.std.proofs.Common.{◌≡◌, ◌+◌, ◌-◌, length, sym, ◌∙◌, arith}
+use Rattle.std.proofs.Common.{◌+◌, ◌-◌, length, sym, ◌∙◌, arith}
 use Rattle.window_derive.specs.Marks.{is_next_by, next_by}
 use Rattle.window_derive.proofs.LoopLemmas.{find_later}
 use Rattle.window_derive.proofs.places.next_task.Goals as goal

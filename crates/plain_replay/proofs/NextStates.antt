@@ -1,0 +1,243 @@
+-- The state of a replay is current before the first slot, and every slot keeps it so.
+use Rattle.std.proofs.Common.{◌≡◌, ℕ, zero, suc, ◌+◌, ◌-◌, ◌*◌, ◌/◌, ◌%◌, ◌<◌, ◌≤◌, Bool, true, false, cond, eqb, List, [], ◌∷◌, ◌++◌, add-one, eq-eqb, ne_eqb, refl, sym, ap, ap₂, subst, ◌∙◌, ◌⊎◌, inl, inr, arith}
+use Rattle.std.specs.Prelude.{◌==◌}
+use Rattle.std.specs.List.{AllByRecursion}
+use Rattle.std.proofs.Math.Nat.{zero-div}
+use Rattle.std.proofs.lemmas.Bool.{cases_lt}
+use Rattle.std.proofs.lemmas.Nat.{div-add-mod', div-mul-add, mod-mul-add, mod_below}
+use Rattle.slot_core.specs.declared.jobs.Job.{Job}
+use Rattle.slot_core.specs.declared.tasks.TaskSet.{TaskSet}
+use Rattle.slot_core.specs.declared.events.Ran.{Ran}
+use Rattle.slot_core.specs.declared.events.Ran.TheVariants.{Idle as RanIdle, Key as RanKey}
+use Rattle.slot_core.specs.Cycles.{cycle_of}
+use Rattle.slot_core.specs.Histories.{History, time_of}
+use Rattle.slot_core.specs.OfflineJobs.{cycle_jobs, offline_jobs}
+use Rattle.slot_core.specs.Plans.{AreInDeadlineOrder, PlanParts, IsPlan}
+use Rattle.slot_core.specs.Scenes.{unended, remaining, horizon, points_of}
+use Rattle.slot_core.specs.Steps.{after_slot}
+use Rattle.slot_core.specs.Traces.{slot, ran_entry, entry_of}
+use Rattle.slot_core.proofs.HistoryLemmas.{IsAmong, Contains-from_among, unended-start}
+use Rattle.slot_core.proofs.OfflineJobLemmas.{cycle-positive}
+use Rattle.slot_core.proofs.OfflineWindows.{IsOfCycle-from_offline}
+use Rattle.plain_replay.specs.Current.{HaveSameSums, IsCurrent}
+use Rattle.plain_replay.specs.States.{ReplayState, first_ready, after_first, ends_after, jobs_in_cycle, ends_in_cycle, with_cycle, first_state, with_next_cycle, state_after, next_state}
+use Rattle.plain_replay.specs.Told.{history_at, entry_at}
+use Rattle.plain_replay.proofs.CurrentStates.{waiting-current, apart-current, some_left-current, entry-current, offline-from_plan}
+use Rattle.plain_replay.proofs.CycleOrder.{all-append, ordered-append, jobs_in_cycle-same, jobs_in_cycle-ordered, jobs_in_cycle-due}
+use Rattle.plain_replay.proofs.PointSteps.{points_from, points_from-append, ends_after-points}
+use Rattle.plain_replay.proofs.RunSteps.{after_first-all, after_first-ordered, all-from_among, after_first-run}
+use Rattle.plain_replay.proofs.SameSums.{same-append, same-after_run}
+use Rattle.plain_replay.proofs.SetPoints.{is_plan_point, points_of-quiet, points_of-start, ends_in_cycle-points}
+use Rattle.plain_replay.proofs.SlotHistories.{IsOffline, time_of-history_at, quiet-history_at, remaining-history_at, cycles_at, unended-after_slot, unended-next_cycle, unended-append}
+
+-- jobs in deadline order that are due by m
+pub record IsUpTo (m : ℕ) (jobs : List Job) : Type 0 where
+  pub ordered : AreInDeadlineOrder jobs
+  pub due : AllByRecursion (λ (j : Job). j.dl ≤ m) jobs
+
+-- so it is with the jobs of the next cycle
+all-weaker : (P Q : Job → Type 0) (jobs : List Job) → ((j : Job) → P j → Q j) → AllByRecursion P jobs → AllByRecursion Q jobs
+all-weaker P Q [] weaker all = tt
+all-weaker P Q (j ∷ jobs) weaker all = (weaker j all.0, all-weaker P Q jobs weaker all.1)
+
+with_cycle-ordered : (plan : PlanParts) (n : ℕ) (jobs : List Job) → IsPlan plan → IsUpTo (n * cycle_of plan.tasks) jobs → IsUpTo (suc n * cycle_of plan.tasks) (jobs ++ jobs_in_cycle plan n)
+with_cycle-ordered plan n jobs is_plan up_to =
+    let fresh = jobs_in_cycle plan n in
+    let start = n * cycle_of plan.tasks in
+    let end = suc n * cycle_of plan.tasks in
+    let due = jobs_in_cycle-due plan n is_plan in
+    record {
+      ordered = ordered-append start jobs fresh up_to.ordered (jobs_in_cycle-ordered plan n is_plan) up_to.due (all-from_among (λ (j : Job). start < j.dl) fresh (λ j at. (due j at).0));
+      due = all-append (λ (j : Job). j.dl ≤ end) jobs fresh (all-weaker (λ (j : Job). j.dl ≤ start) (λ (j : Job). j.dl ≤ end) jobs (λ j low. omega arith) up_to.due) (all-from_among (λ (j : Job). j.dl ≤ end) fresh (λ j at. (due j at).1));
+    }
+
+-- the points up to the start of cycle n, with the ends of the plan's spans in it
+with_cycle-ends : (plan : PlanParts) (n a m : ℕ) (ends : List ℕ) → IsPlan plan → a + m ≡ 1 + n * cycle_of plan.tasks → ends ≡ points_from (is_plan_point plan.tasks) a m → ends ++ ends_in_cycle plan n ≡ points_from (is_plan_point plan.tasks) a (m + cycle_of plan.tasks)
+with_cycle-ends plan n a m ends is_plan at same =
+    ap₂ (λ xs ys. xs ++ ys) same (ends_in_cycle-points plan n (a + m) is_plan at) ∙ sym (points_from-append (is_plan_point plan.tasks) a m (cycle_of plan.tasks))
+
+-- before the first slot
+three_cycles : (set : TaskSet) → IsOffline set → remaining set (cycle_of set) (history_at set 0) ≡ [] ++ cycle_jobs set (cycle_of set) 0 ++ cycle_jobs set (cycle_of set) 1 ++ cycle_jobs set (cycle_of set) 2
+unfolding history_at
+three_cycles set offline =
+    let jobs = offline_jobs set (cycle_of set) 3 in
+    let fresh = unended-start jobs (λ job at.
+    let of_cycle = IsOfCycle-from_offline set 3 job offline.sound (Contains-from_among jobs job at) in
+    (of_cycle.2.some, of_cycle.2.whole)) in
+    remaining-history_at set 0 offline ∙ (ap (λ d. unended [] (offline_jobs set (cycle_of set) (d + 3))) (zero-div (cycle_of set)) ∙ fresh)
+
+first_ends : (plan : PlanParts) → IsPlan plan → (first_state plan).ends ≡ points_of plan.tasks (cycle_of plan.tasks) (history_at plan.tasks 0)
+unfolding history_at
+first_ends plan is_plan =
+    let cycle = cycle_of plan.tasks in
+    let one = with_cycle-ends plan 0 1 0 [] is_plan (omega arith) refl in
+    let two = with_cycle-ends plan 1 1 (0 + cycle) ([] ++ ends_in_cycle plan 0) is_plan (omega arith) one in
+    let three = with_cycle-ends plan 2 1 (0 + cycle + cycle) ([] ++ ends_in_cycle plan 0 ++ ends_in_cycle plan 1) is_plan (omega arith) two in
+    three ∙ sym (points_of-start plan.tasks (0 + cycle + cycle + cycle) (cycle-positive plan.tasks is_plan.sound) (omega arith))
+
+pub IsCurrent-first : (plan : PlanParts) → IsPlan plan → plan.tasks.sporadics ≡ [] → IsCurrent plan.tasks (first_state plan)
+IsCurrent-first plan is_plan none =
+    let set = plan.tasks in
+    let c = cycle_jobs plan.tasks (cycle_of plan.tasks) in
+    let own = jobs_in_cycle plan in
+    let same = λ (n : ℕ). jobs_in_cycle-same plan n is_plan in
+    let one = same-append [] [] (c 0) (own 0) (λ f. refl) (same 0) in
+    let two = same-append ([] ++ c 0) ([] ++ own 0) (c 1) (own 1) one (same 1) in
+    let three = same-append ([] ++ c 0 ++ c 1) ([] ++ own 0 ++ own 1) (c 2) (own 2) two (same 2) in
+    let up_to_0 : IsUpTo (0 * cycle_of plan.tasks) [] = record { ordered = tt; due = tt } in
+    let up_to_1 = with_cycle-ordered plan 0 [] is_plan up_to_0 in
+    let up_to_2 = with_cycle-ordered plan 1 ([] ++ own 0) is_plan up_to_1 in
+    let up_to_3 = with_cycle-ordered plan 2 ([] ++ own 0 ++ own 1) is_plan up_to_2 in
+    record {
+      jobs = subst (λ js. HaveSameSums js (first_state plan).jobs) (sym (three_cycles plan.tasks (offline-from_plan plan is_plan none))) three;
+      ordered = up_to_3.ordered;
+      ends = first_ends plan is_plan;
+    }
+
+-- the next slot starts a cycle, or lies in the same cycle as this one
+data NextSlot (t cycle : ℕ) : Type 0 where
+  turn : suc t % cycle ≡ 0 → suc t / cycle ≡ suc (t / cycle) → suc t ≡ suc (t / cycle) * cycle → NextSlot t cycle
+  inside : (suc t % cycle ≡ 0 → ⊥) → suc t / cycle ≡ t / cycle → NextSlot t cycle
+
+next_slot : (t cycle : ℕ) → 1 ≤ cycle → NextSlot t cycle
+next_slot t cycle some = by_order (cases_lt (suc (t % cycle)) cycle)
+  where
+    by_order : (suc (t % cycle) < cycle) ⊎ (cycle ≤ suc (t % cycle)) → NextSlot t cycle
+    by_order (inl lt) =
+        let split : suc t ≡ t / cycle * cycle + suc (t % cycle) = omega (arith, div-add-mod' t cycle) in
+        let rest : suc t % cycle ≡ suc (t % cycle) = ap (λ n. n % cycle) split ∙ mod-mul-add (t / cycle) cycle (suc (t % cycle)) lt in
+        inside
+        (λ e. absurd (omega arith))
+        (ap (λ n. n / cycle) split ∙ div-mul-add (t / cycle) cycle (suc (t % cycle)) lt)
+    by_order (inr ge) =
+        let whole : suc t ≡ suc (t / cycle) * cycle = omega (arith, div-add-mod' t cycle, mod_below t cycle some) in
+        let split : suc t ≡ suc (t / cycle) * cycle + 0 = omega arith in
+        turn
+        (ap (λ n. n % cycle) split ∙ mod-mul-add (suc (t / cycle)) cycle 0 some)
+        (ap (λ n. n / cycle) split ∙ div-mul-add (suc (t / cycle)) cycle 0 some)
+        whole
+
+-- what is the same up to order stays so in a slot
+same-after_slot : (ran : Ran) (xs ys : List Job) → HaveSameSums xs ys → HaveSameSums (after_slot ran xs) (after_slot ran ys)
+same-after_slot RanIdle xs ys same = same
+same-after_slot (RanKey key) xs ys same = same-after_run key xs ys same
+
+-- the jobs after a slot, of the cycles that counted before it
+slot-jobs : (set : TaskSet) (state : ReplayState) → IsOffline set → IsCurrent set state → HaveSameSums (unended (history_at set (suc state.time)) (offline_jobs set (cycle_of set) (cycles_at set state.time))) (after_first state.time state.jobs)
+unfolding history_at entry_at
+slot-jobs set state offline current =
+    let t = state.time in
+    let h = history_at set state.time in
+    let ran = first_ready state.time state.jobs in
+    let jobs = offline_jobs set (cycle_of set) (cycles_at set state.time) in
+    let code = after_first-run t state.jobs (apart-current set state offline current) (some_left-current set state offline current) in
+    let model : unended (history_at set (suc state.time)) jobs ≡ after_slot ran (unended h jobs) = ap (λ what. unended (what ∷ h) jobs) (entry-current set state offline current) ∙ unended-after_slot ran h jobs in
+    let before : HaveSameSums (unended h jobs) state.jobs = subst (λ js. HaveSameSums js state.jobs) (remaining-history_at set t offline) current.jobs in
+    subst
+    (λ js. HaveSameSums js (after_first state.time state.jobs))
+    (sym model)
+    (subst (HaveSameSums (after_slot ran (unended h jobs))) (sym code) (same-after_slot ran (unended h jobs) state.jobs before))
+
+slot-ordered : (set : TaskSet) (state : ReplayState) → IsOffline set → IsCurrent set state → IsUpTo (cycles_at set state.time * cycle_of set) (after_first state.time state.jobs)
+slot-ordered set state offline current =
+    let end = cycles_at set state.time * cycle_of set in
+    record {
+      ordered = after_first-ordered state.time state.jobs current.ordered;
+      due = after_first-all (λ (j : Job). j.dl ≤ end) state.time state.jobs (λ j n low. low) (all-from_among (λ (j : Job). j.dl ≤ end) state.jobs (λ job at. (waiting-current set state job offline current at).near));
+    }
+
+-- the points after a time, by the test for one
+pub points-history_at : (set : TaskSet) (t : ℕ) → IsOffline set → points_of set (cycle_of set) (history_at set t) ≡ points_from (is_plan_point set) (t + 1) (horizon (cycle_of set) t - t)
+points-history_at set t offline =
+    points_of-quiet set (history_at set t) (quiet-history_at set t offline) ∙ ap (λ n. points_from (is_plan_point set) (n + 1) (horizon (cycle_of set) n - n)) (time_of-history_at set t)
+
+-- those after a slot, up to the horizon before it
+pub past_now : (t cycle : ℕ) → 1 ≤ cycle → t < horizon cycle t
+past_now t cycle some = omega (arith, div-add-mod' t cycle, mod_below t cycle some)
+
+slot-ends : (set : TaskSet) (state : ReplayState) → IsOffline set → IsCurrent set state → ends_after (suc state.time) state.ends ≡ points_from (is_plan_point set) (suc state.time + 1) (horizon (cycle_of set) state.time - suc state.time)
+slot-ends set state offline current =
+    let t = state.time in
+    let count = horizon (cycle_of set) state.time - suc state.time in
+    let later : horizon (cycle_of set) state.time - state.time ≡ suc (horizon (cycle_of set) state.time - suc state.time) = omega (arith, past_now state.time (cycle_of set) (cycle-positive set offline.sound)) in
+    let before : state.ends ≡ points_from (is_plan_point set) (suc state.time) (suc count) = current.ends ∙ (points-history_at set t offline ∙ ap₂ (points_from (is_plan_point set)) (add-one state.time) later) in
+    ap (ends_after (suc t)) before ∙ ends_after-points (is_plan_point set) (suc t) count
+
+-- the state after a slot is current, where the slot after it lies in the same cycle
+IsCurrent-inside : (plan : PlanParts) (state : ReplayState) → IsOffline plan.tasks → IsCurrent plan.tasks state → suc state.time / cycle_of plan.tasks ≡ state.time / cycle_of plan.tasks → IsCurrent plan.tasks (record { time = suc state.time; jobs = after_first state.time state.jobs; ends = ends_after (suc state.time) state.ends })
+IsCurrent-inside plan state offline current same_cycle =
+    let set = plan.tasks in
+    let t = state.time in
+    let cycle = cycle_of plan.tasks in
+    let h = history_at plan.tasks (suc state.time) in
+    let jobs : remaining set cycle h ≡ unended h (offline_jobs set cycle (cycles_at set t)) = remaining-history_at set (suc t) offline ∙ ap (λ d. unended h (offline_jobs set cycle (d + 3))) same_cycle in
+    let ends : points_of set cycle h ≡ points_from (is_plan_point set) (suc t + 1) (horizon cycle t - suc t) = points-history_at set (suc t) offline ∙ ap (λ d. points_from (is_plan_point set) (suc t + 1) ((d + 3) * cycle - suc t)) same_cycle in
+    record {
+      jobs = subst (λ js. HaveSameSums js (after_first state.time state.jobs)) (sym jobs) (slot-jobs set state offline current);
+      ordered = (slot-ordered set state offline current).ordered;
+      ends = slot-ends set state offline current ∙ sym ends;
+    }
+
+-- and, with the next cycle, where it starts a cycle
+further_now : (t cycle : ℕ) → suc t / cycle ≡ suc (t / cycle) → horizon cycle (suc t) ≡ horizon cycle t + cycle
+further_now t cycle e =
+    let moved : (suc t / cycle + 3) * cycle ≡ (suc (t / cycle) + 3) * cycle = ap (λ d. (d + 3) * cycle) e in
+    omega arith
+
+IsCurrent-turn : (plan : PlanParts) (state : ReplayState) → IsPlan plan → IsOffline plan.tasks → IsCurrent plan.tasks state → suc state.time / cycle_of plan.tasks ≡ suc (state.time / cycle_of plan.tasks) → suc state.time ≡ suc (state.time / cycle_of plan.tasks) * cycle_of plan.tasks → IsCurrent plan.tasks (with_cycle plan (cycles_at plan.tasks state.time) (record { time = suc state.time; jobs = after_first state.time state.jobs; ends = ends_after (suc state.time) state.ends }))
+IsCurrent-turn plan state is_plan offline current next_cycle start =
+    let set = plan.tasks in
+    let t = state.time in
+    let cycle = cycle_of plan.tasks in
+    let n = cycles_at plan.tasks state.time in
+    let h = history_at plan.tasks (suc state.time) in
+    let old = after_first state.time state.jobs in
+    let fresh = unended-next_cycle set (suc t) n offline (omega arith) (omega arith) in
+    let more : cycles_at set (suc t) ≡ suc n = omega arith in
+    let jobs : remaining set cycle h ≡ unended h (offline_jobs set cycle n) ++ cycle_jobs set cycle n = remaining-history_at set (suc t) offline ∙ (ap (λ m. unended h (offline_jobs set cycle m)) more ∙ (unended-append h (offline_jobs set cycle n) (cycle_jobs set cycle n) ∙ ap (λ js. unended h (offline_jobs set cycle n) ++ js) fresh)) in
+    let same = same-append (unended h (offline_jobs set cycle n)) old (cycle_jobs set cycle n) (jobs_in_cycle plan n) (slot-jobs set state offline current) (jobs_in_cycle-same plan n is_plan) in
+    let count = horizon cycle t - suc t in
+    let past = past_now t cycle (cycle-positive set offline.sound) in
+    let ends = with_cycle-ends plan n (suc t + 1) count (ends_after (suc t) state.ends) is_plan (omega arith) (slot-ends set state offline current) in
+    let further : horizon cycle (suc t) ≡ horizon cycle t + cycle = further_now t cycle next_cycle in
+    let reach : horizon cycle t - suc t + cycle ≡ horizon cycle (suc t) - suc t = omega arith in
+    record {
+      jobs = subst (λ js. HaveSameSums js (old ++ jobs_in_cycle plan n)) (sym jobs) same;
+      ordered = (with_cycle-ordered plan n old is_plan (slot-ordered set state offline current)).ordered;
+      ends = ends ∙ (ap (points_from (is_plan_point set) (suc t + 1)) reach ∙ sym (points-history_at set (suc t) offline));
+    }
+
+-- the third cycle from a time on comes in where the time is the start of a cycle
+with_next_cycle-turn : (plan : PlanParts) (n : ℕ) (state : ReplayState) → plan.cycle ≡ cycle_of plan.tasks → state.time % cycle_of plan.tasks ≡ 0 → state.time / cycle_of plan.tasks + 2 ≡ n → with_next_cycle plan state ≡ with_cycle plan n state
+with_next_cycle-turn plan n state own even is =
+    let test : (state.time % plan.cycle == 0) ≡ true = eq-eqb (state.time % plan.cycle) 0 (ap (λ c. state.time % c) own ∙ even) in
+    let number : state.time / plan.cycle + 2 ≡ n = ap (λ c. state.time / c + 2) own ∙ is in
+    ap (λ b. cond b (with_cycle plan (state.time / plan.cycle + 2) state) state) test ∙ ap (λ m. with_cycle plan m state) number
+
+with_next_cycle-inside : (plan : PlanParts) (state : ReplayState) → plan.cycle ≡ cycle_of plan.tasks → (state.time % cycle_of plan.tasks ≡ 0 → ⊥) → with_next_cycle plan state ≡ state
+with_next_cycle-inside plan state own odd =
+    let test : (state.time % plan.cycle == 0) ≡ false = ne_eqb (state.time % plan.cycle) 0 (λ e. odd (sym (ap (λ c. state.time % c) own) ∙ e)) in
+    ap (λ b. cond b (with_cycle plan (state.time / plan.cycle + 2) state) state) test
+
+-- each slot keeps the state current
+pub IsCurrent-next : (plan : PlanParts) (state : ReplayState) → IsPlan plan → plan.tasks.sporadics ≡ [] → IsCurrent plan.tasks state → IsCurrent plan.tasks (next_state plan state)
+IsCurrent-next plan state is_plan none current =
+    subst
+    (λ t. IsCurrent plan.tasks (state_after plan t state))
+    (sym (add-one state.time))
+    (by_slot (next_slot state.time (cycle_of plan.tasks) (cycle-positive plan.tasks is_plan.sound)))
+  where
+    after : ReplayState
+    after = record { time = suc state.time; jobs = after_first state.time state.jobs; ends = ends_after (suc state.time) state.ends }
+
+    by_slot : NextSlot state.time (cycle_of plan.tasks) → IsCurrent plan.tasks (state_after plan (suc state.time) state)
+    by_slot (inside odd same_cycle) =
+        subst
+        (IsCurrent plan.tasks)
+        (sym (with_next_cycle-inside plan after is_plan.cycle odd))
+        (IsCurrent-inside plan state (offline-from_plan plan is_plan none) current same_cycle)
+    by_slot (turn even next_cycle start) =
+        subst
+        (IsCurrent plan.tasks)
+        (sym (with_next_cycle-turn plan (cycles_at plan.tasks state.time) after is_plan.cycle even (omega arith)))
+        (IsCurrent-turn plan state is_plan (offline-from_plan plan is_plan none) current next_cycle start)

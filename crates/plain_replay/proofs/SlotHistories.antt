@@ -1,0 +1,141 @@
+-- The histories of the slots of a set without sporadic tasks, and what remains in them.
+use Rattle.std.proofs.Common.{◌≡◌, ℕ, zero, suc, ◌+◌, ◌-◌, ◌*◌, ◌/◌, ◌<◌, ◌≤◌, Bool, true, false, List, [], ◌∷◌, ◌++◌, map, filter, not, mul-le-mul_right, refl, sym, ap, subst, ◌∙◌, inl, inr, arith}
+use Rattle.std.specs.Prelude.{Contains, nat_le, nat_lt}
+use Rattle.std.specs.List.{AllByRecursion}
+use Rattle.std.proofs.lemmas.List.{map-append}
+use Rattle.std.proofs.lemmas.List.Elements.{Contains-append_cases, Contains-append_right, filter-append, recursion_from_All}
+use Rattle.slot_core.specs.declared.jobs.Job.{Job}
+use Rattle.slot_core.specs.declared.tasks.TaskSet.{TaskSet}
+use Rattle.slot_core.specs.declared.events.Ran.{Ran}
+use Rattle.slot_core.specs.declared.events.Ran.TheVariants.{Idle as RanIdle, Key as RanKey}
+use Rattle.slot_core.specs.Cycles.{cycle_of}
+use Rattle.slot_core.specs.Choice.{choice}
+use Rattle.slot_core.specs.Feasible.{IsFeasible}
+use Rattle.slot_core.specs.Histories.{History, time_of, executed}
+use Rattle.slot_core.specs.OfflineJobs.{cycle_jobs, offline_jobs}
+use Rattle.slot_core.specs.Ranges.{is_sound}
+use Rattle.slot_core.specs.Scenes.{has_ended, with_left, unended, remaining, horizon, scene_of}
+use Rattle.slot_core.specs.Steps.{after_slot}
+use Rattle.slot_core.specs.Traces.{slot, ran_entry, entry_of}
+use Rattle.slot_core.proofs.CycleWindows.{IsOfCycle-from_cycle}
+use Rattle.slot_core.proofs.HistoryLemmas.{IsAmong, IsAmong-from_contains, Contains-from_among, IsFresh, unended_own, unended_have_left, unended-fresh, after_run-unended}
+use Rattle.slot_core.proofs.KeptHistories.{IsKept, Reaches, IsAlwaysKept, remaining-quiet, due_now, time_of-ran, kept-after_entry, kept-at_start}
+use Rattle.slot_core.proofs.OfflineWindows.{IsOfCycle-from_offline, same_offline-from_key}
+use Rattle.slot_core.proofs.ServingHistories.{IsQuiet, IsQuiet-from_serving, not_run-early}
+use Rattle.plain_replay.specs.Told.{history_at}
+use Rattle.plain_replay.proofs.FirstReady.{all_among}
+use Rattle.plain_replay.proofs.SetPoints.{is_plan_point, deadline-point}
+
+-- a set that is replayed: sound and feasible, without sporadic tasks
+pub record IsOffline (set : TaskSet) : Type 0 where
+  pub sound : is_sound set ≡ true
+  pub none : set.sporadics ≡ []
+  pub feasible : IsFeasible set (cycle_of set)
+
+-- the time after n slots is n
+pub time_of-history_at : (set : TaskSet) (n : ℕ) → time_of (history_at set n) ≡ n
+unfolding history_at
+time_of-history_at set zero = refl
+time_of-history_at set (suc n) =
+    time_of-ran (choice set.sporadics (cycle_of set) (scene_of set (cycle_of set) (history_at set n))) (history_at set n) ∙ ap suc (time_of-history_at set n)
+
+-- no deadline is at risk after any number of slots
+pub kept-history_at : (set : TaskSet) (n : ℕ) → IsOffline set → IsAlwaysKept set (history_at set n)
+unfolding history_at
+kept-history_at set zero offline = kept-at_start set offline.sound offline.none offline.feasible
+kept-history_at set (suc n) offline =
+    kept-after_entry set (history_at set n) offline.sound (kept-history_at set n offline)
+
+-- the cycles that count at time t
+abbrev pub cycles_at : TaskSet → ℕ → ℕ
+cycles_at set t = t / cycle_of set + 3
+
+pub reaches-history_at : (set : TaskSet) (n cycles : ℕ) → cycles_at set n ≤ cycles → Reaches set (history_at set n) cycles
+reaches-history_at set n cycles le = rw (time_of-history_at set n) le
+
+pub quiet-history_at : (set : TaskSet) (n : ℕ) → IsOffline set → IsQuiet (history_at set n)
+quiet-history_at set n offline =
+    IsQuiet-from_serving (kept-history_at set n offline (cycles_at set n) (reaches-history_at set n (cycles_at set n) (omega arith))).serving
+
+-- what remains is of the offline jobs
+pub remaining-history_at : (set : TaskSet) (n : ℕ) → IsOffline set → remaining set (cycle_of set) (history_at set n) ≡ unended (history_at set n) (offline_jobs set (cycle_of set) (cycles_at set n))
+remaining-history_at set n offline =
+    remaining-quiet set (history_at set n) (quiet-history_at set n offline) ∙ ap (λ t. unended (history_at set n) (offline_jobs set (cycle_of set) (t / cycle_of set + 3))) (time_of-history_at set n)
+
+-- the deadline of an offline job is a point
+offline-point : (set : TaskSet) (cycles : ℕ) (job : Job) → IsOffline set → Contains (offline_jobs set (cycle_of set) cycles) job → is_plan_point set job.dl ≡ true
+offline-point set zero job offline (k, below, at) = absurd (omega arith)
+offline-point set (suc n) job offline at =
+    elim (Contains-append_cases (offline_jobs set (cycle_of set) n) (cycle_jobs set (cycle_of set) n) job at) [
+      | inl early ↦ offline-point set n job offline early
+      | inr late ↦ deadline-point set n job offline.sound offline.feasible (IsAmong-from_contains (cycle_jobs set (cycle_of set) n) job late)
+    ]
+
+-- a job that remains at time t has a slot left, and is due later, at a point up to the horizon
+pub record IsWaiting (set : TaskSet) (t : ℕ) (job : Job) : Type 0 where
+  pub some : 1 ≤ job.left
+  pub later : t < job.dl
+  pub near : job.dl ≤ horizon (cycle_of set) t
+  pub point : is_plan_point set job.dl ≡ true
+
+pub waiting-remaining : (set : TaskSet) (n : ℕ) (job : Job) → IsOffline set → IsAmong job (remaining set (cycle_of set) (history_at set n)) → IsWaiting set n job
+waiting-remaining set n job offline at =
+    let h = history_at set n in
+    let cycles = cycles_at set n in
+    let jobs = offline_jobs set (cycle_of set) (cycles_at set n) in
+    let listed : IsAmong job (unended h jobs) = subst (IsAmong job) (remaining-history_at set n offline) at in
+    let own = unended_own h jobs job listed in
+    let planned = Contains-from_among jobs own.0 own.1.listed in
+    let reaches = reaches-history_at set n cycles (omega arith) in
+    let early = due_now set h cycles offline.sound reaches (kept-history_at set n offline cycles reaches) own.0 planned own.1.runs in
+    let of_cycle = IsOfCycle-from_offline set cycles own.0 offline.sound planned in
+    let due : job.dl ≡ own.0.dl = ap (λ (j : Job). j.dl) own.1.same in
+    let end : (of_cycle.0 + 1) * cycle_of set ≤ cycles_at set n * cycle_of set = mul-le-mul_right (cycle_of set) (omega (arith, of_cycle.1)) in
+    record {
+      some = all_among (λ (j : Job). 1 ≤ j.left) (unended h jobs) job (recursion_from_All (λ (j : Job). 1 ≤ j.left) (unended h jobs) (unended_have_left h jobs)) listed;
+      later = omega (arith, time_of-history_at set n);
+      near = omega (arith, of_cycle.2.ends);
+      point = rw due (offline-point set cycles own.0 offline planned);
+    }
+
+-- those of one key have one deadline
+pub one_due-remaining : (set : TaskSet) (n : ℕ) (a b : Job) → IsOffline set → IsAmong a (remaining set (cycle_of set) (history_at set n)) → IsAmong b (remaining set (cycle_of set) (history_at set n)) → a.key ≡ b.key → a.dl ≡ b.dl
+one_due-remaining set n a b offline at_a at_b key =
+    let h = history_at set n in
+    let cycles = cycles_at set n in
+    let jobs = offline_jobs set (cycle_of set) (cycles_at set n) in
+    let same = remaining-history_at set n offline in
+    let x = unended_own h jobs a (subst (IsAmong a) same at_a) in
+    let y = unended_own h jobs b (subst (IsAmong b) same at_b) in
+    let key_x = ap (λ (j : Job). j.key) x.1.same in
+    let key_y = ap (λ (j : Job). j.key) y.1.same in
+    let due_x = ap (λ (j : Job). j.dl) x.1.same in
+    let due_y = ap (λ (j : Job). j.dl) y.1.same in
+    let one = same_offline-from_key set cycles x.0 y.0 (Contains-from_among jobs x.0 x.1.listed) (Contains-from_among jobs y.0 y.1.listed) (sym key_x ∙ (key ∙ key_y)) in
+    due_x ∙ (ap (λ (j : Job). j.dl) one ∙ sym due_y)
+
+-- a slot changes the unended jobs as it changes a list of jobs
+pub unended-after_slot : (ran : Ran) (h : History) (jobs : List Job) → unended (ran_entry ran ∷ h) jobs ≡ after_slot ran (unended h jobs)
+unended-after_slot RanIdle h jobs = refl
+unended-after_slot (RanKey key) h jobs = sym (after_run-unended key h jobs)
+
+-- the jobs of a cycle that starts now or later have all their slots left
+pub unended-next_cycle : (set : TaskSet) (n cycles : ℕ) → IsOffline set → cycles_at set n ≤ suc cycles → n ≤ cycles * cycle_of set → unended (history_at set n) (cycle_jobs set (cycle_of set) cycles) ≡ cycle_jobs set (cycle_of set) cycles
+unended-next_cycle set n cycles offline le early =
+    let h = history_at set n in
+    let jobs = cycle_jobs set (cycle_of set) cycles in
+    let kept = kept-history_at set n offline (suc cycles) (reaches-history_at set n (suc cycles) le) in
+    let quiet = IsQuiet-from_serving kept.serving in
+    unended-fresh h jobs λ job at.
+    let listed = Contains-from_among jobs job at in
+    let of_cycle = IsOfCycle-from_cycle set cycles job offline.sound listed in
+    record {
+      none = not_run-early kept.serving job (Contains-append_right (offline_jobs set (cycle_of set) cycles) jobs job listed) (omega (arith, of_cycle.starts, time_of-history_at set n));
+      kept = quiet.3 job.key;
+      some = of_cycle.some;
+      whole = of_cycle.whole;
+    }
+
+-- of joined lists
+pub unended-append : (h : History) (xs ys : List Job) → unended h (xs ++ ys) ≡ unended h xs ++ unended h ys
+unended-append h xs ys = simp (filter-append, map-append)

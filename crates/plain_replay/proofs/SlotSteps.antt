@@ -1,0 +1,86 @@
+-- What a slot of a current state tells.
+use Rattle.std.proofs.Common.{◌≡◌, ℕ, suc, ◌+◌, ◌<◌, ◌≤◌, Bool, true, ◌&&◌, List, [], ◌∷◌, length, Option, Some, None, lt-ltb, add-one, refl, sym, ap, subst, ◌∙◌, arith}
+use Rattle.std.specs.Prelude.{All, find, nat_le, nat_lt, slice_get}
+use Rattle.std.specs.Option.{option_map_or}
+use Rattle.std.proofs.lemmas.Bool.{and_from}
+use Rattle.std.proofs.lemmas.List.Elements.{All-from_recursion}
+use Rattle.std.proofs.lemmas.Option.{slice_get_within}
+use Rattle.slot_core.specs.declared.jobs.Key.{Key}
+use Rattle.slot_core.specs.declared.jobs.Key.TheVariants.{Offline}
+use Rattle.slot_core.specs.declared.jobs.Job.{Job}
+use Rattle.slot_core.specs.declared.tasks.Graph.{Graph}
+use Rattle.slot_core.specs.declared.tasks.Task.{Task}
+use Rattle.slot_core.specs.declared.tasks.TaskSet.{TaskSet}
+use Rattle.slot_core.specs.declared.events.Ran.TheVariants.{Idle as RanIdle, Key as RanKey}
+use Rattle.slot_core.specs.declared.events.What.{What}
+use Rattle.slot_core.specs.declared.events.What.TheVariants.{Start}
+use Rattle.slot_core.specs.Arrivals.{key_in_set, what_in_set}
+use Rattle.slot_core.specs.Cycles.{cycle_of}
+use Rattle.slot_core.specs.OfflineJobs.{tasks_of, offline_jobs}
+use Rattle.slot_core.specs.Plans.{PlanParts, IsPlan}
+use Rattle.slot_core.specs.Scenes.{remaining}
+use Rattle.slot_core.specs.Texts.{entry_line}
+use Rattle.slot_core.specs.Traces.{ran_entry, shown_entry}
+use Rattle.slot_core.proofs.HistoryLemmas.{IsAmong, Contains-from_among, unended_own}
+use Rattle.slot_core.proofs.OfflineJobLemmas.{IsOfflineJob, offline_from_cycles}
+use Rattle.plain_replay.specs.Current.{IsCurrent}
+use Rattle.plain_replay.specs.Shown.{shown_after, told_line}
+use Rattle.plain_replay.specs.States.{ReplayState, first_ready}
+use Rattle.plain_replay.specs.Told.{history_at, entry_at, slot_line, told}
+use Rattle.plain_replay.proofs.CurrentSpans.{shown-current}
+use Rattle.plain_replay.proofs.CurrentStates.{some_left-current, entry-current}
+use Rattle.plain_replay.proofs.RunSteps.{found-among}
+use Rattle.plain_replay.proofs.SameSums.{all-same}
+use Rattle.plain_replay.proofs.SlotHistories.{IsOffline, cycles_at, remaining-history_at}
+
+-- each job has a slot left
+pub all_left-current : (set : TaskSet) (state : ReplayState) → IsOffline set → IsCurrent set state → All (λ (j : Job). 1 ≤ j.left) state.jobs
+all_left-current set state offline current =
+    All-from_recursion (λ (j : Job). 1 ≤ j.left) state.jobs (some_left-current set state offline current)
+
+-- the key of an offline job lies in the set
+offline-named : (set : TaskSet) (cycles : ℕ) (job : Job) → IsOfflineJob set (cycle_of set) 0 cycles job → key_in_set set job.key ≡ true
+offline-named set cycles job offline =
+    let key : job.key ≡ Offline offline.g offline.t offline.k = ap (λ (j : Job). j.key) offline.instance_of.derived in
+    let tasks : tasks_of set offline.g ≡ offline.graph.tasks = ap (λ o. option_map_or (λ (g : Graph). g.tasks) o []) offline.instance_of.graph_at in
+    let graph = lt-ltb offline.g (length set.graphs) (slice_get_within set.graphs offline.g offline.graph offline.instance_of.graph_at) in
+    let task = lt-ltb offline.t (length offline.graph.tasks) (slice_get_within offline.graph.tasks offline.t offline.task offline.instance_of.task_at) in
+    let both : key_in_set set (Offline offline.g offline.t offline.k) ≡ true = and_from (nat_lt offline.g (length set.graphs)) (nat_lt offline.t (length (tasks_of set offline.g))) graph (rw tasks task) in
+    ap (key_in_set set) key ∙ both
+
+remaining-named : (set : TaskSet) (n : ℕ) (job : Job) → IsOffline set → IsAmong job (remaining set (cycle_of set) (history_at set n)) → key_in_set set job.key ≡ true
+remaining-named set n job offline at =
+    let h = history_at set n in
+    let cycles = cycles_at set n in
+    let jobs = offline_jobs set (cycle_of set) (cycles_at set n) in
+    let own = unended_own h jobs job (subst (IsAmong job) (remaining-history_at set n offline) at) in
+    let planned = offline_from_cycles set (cycle_of set) cycles own.0 (Contains-from_among jobs own.0 own.1.listed) in
+    ap (λ (j : Job). key_in_set set j.key) own.1.same ∙ offline-named set cycles own.0 planned
+
+-- so what happens in a slot names what the set has
+ready-named : (set : TaskSet) (t : ℕ) (jobs : List Job) → ((job : Job) → IsAmong job jobs → key_in_set set job.key ≡ true) → what_in_set set (ran_entry (first_ready t jobs)) ≡ true
+ready-named set t jobs named = go (find (λ (j : Job). nat_le j.est t) jobs) refl
+  where
+    go : (found : Option Job) → find (λ (j : Job). nat_le j.est t) jobs ≡ found → what_in_set set (ran_entry (option_map_or (λ (j : Job). RanKey j.key) found RanIdle)) ≡ true
+    go None e = refl
+    go (Some job) e = named job (found-among (λ (j : Job). nat_le j.est t) jobs job e)
+
+pub entry_at-named : (set : TaskSet) (state : ReplayState) → IsOffline set → IsCurrent set state → what_in_set set (entry_at set state.time) ≡ true
+entry_at-named set state offline current =
+    let each = all-same (λ j. key_in_set set j.key) (remaining set (cycle_of set) (history_at set state.time)) state.jobs current.jobs (λ job at. remaining-named set state.time job offline at) in
+    ap (what_in_set set) (entry-current set state offline current) ∙ ready-named set state.time state.jobs each
+
+-- the line of a slot, from the state after it
+pub told_line-slot : (set : TaskSet) (t : ℕ) (what : What) (state : ReplayState) → IsOffline set → IsCurrent set state → what ≡ entry_at set t → state.time ≡ t + 1 → told_line set t what state ≡ slot_line set t
+unfolding told_line slot_line
+told_line-slot set t what state offline current is later =
+    let at : state.time ≡ suc t = later ∙ add-one t in
+    let shown = shown-current set state offline current in
+    ap (λ s. entry_line set (record { time = t; what = what; shown = s })) shown ∙ (ap (λ n. entry_line set (shown_entry set (cycle_of set) t what (history_at set n))) at ∙ ap (λ w. entry_line set (shown_entry set (cycle_of set) t w (history_at set (suc t)))) is)
+
+-- and that of the start, from the state before the first slot
+pub told_line-start : (set : TaskSet) (state : ReplayState) → IsOffline set → IsCurrent set state → state.time ≡ 0 → told_line set 0 Start state ≡ told set 0
+unfolding told_line told history_at
+told_line-start set state offline current at =
+    let shown = shown-current set state offline current in
+    ap (λ s. entry_line set (record { time = 0; what = Start; shown = s })) shown ∙ ap (λ n. entry_line set (shown_entry set (cycle_of set) 0 Start (history_at set n))) at

@@ -1,0 +1,6 @@
+use Rattle.std.proofs.Common.{◌≡◌, ◌-◌, length, take}
+use Rattle.plain_replay.proofs.lines.first_spans.Given as goal
+
+abbrev pub invariant-loop-span : goal.invariant-loop-span
+invariant-loop-span l =
+    l.shown ≡ record { spans = take l.span-index l.span-items; more = length l.fn.spans - 8 }

@@ -1,0 +1,192 @@
+-- What a sound set says of its graphs and of the raw jobs of its first cycle.
+use Rattle.std.proofs.Common.{◌≡◌, ℕ, zero, suc, ◌+◌, ◌-◌, ◌*◌, ◌/◌, ◌<◌, ◌≤◌, Bool, true, ◌&&◌, List, [], ◌∷◌, ◌++◌, length, map, get_or, take, Some, refl, sym, ap, ◌∙◌, subst, inl, inr, arith}
+use Rattle.std.specs.Prelude.{slice_get, slice_index, All, nat_le}
+use Rattle.std.specs.List.{AllZip, list_all, range_with_len}
+use Rattle.std.specs.Option.{option_map_or}
+use Rattle.std.proofs.lemmas.Bool.{cases_lt, and_parts, leb-true}
+use Rattle.std.proofs.lemmas.Bool.Decides.{nat_tests}
+use Rattle.std.proofs.lemmas.List.{take_more}
+use Rattle.std.proofs.lemmas.Option.{slice_get-get_or, slice_get_past, slice_get_within}
+use Rattle.std.proofs.Math.Nat.{mul-le-mul_right}
+use Rattle.slot_core.specs.declared.TheConstants.{TASK_LIMIT}
+use Rattle.slot_core.specs.declared.jobs.Key.TheVariants.{Offline}
+use Rattle.slot_core.specs.declared.jobs.Job.{Job}
+use Rattle.slot_core.specs.declared.jobs.RawJob.{RawJob}
+use Rattle.slot_core.specs.declared.tasks.Task.{Task}
+use Rattle.slot_core.specs.declared.tasks.Graph.{Graph}
+use Rattle.slot_core.specs.declared.tasks.TaskSet.{TaskSet}
+use Rattle.slot_core.specs.Cycles.{cycle_of}
+use Rattle.slot_core.specs.OfflineJobs.{raw_jobs, derived_job, tasks_of, release_of, chain_before, chain_after}
+use Rattle.slot_core.specs.Precedence.{wcet_of, is_on_loop, longest_before, longest_after}
+use Rattle.slot_core.specs.Ranges.{is_sound, is_between, graph_in_range, task_in_range}
+use Rattle.slot_core.proofs.ListMembers.{Has, Has-map, Contains-from_Has, Has-range_with_len_bounds}
+use Rattle.slot_core.proofs.ChainLemmas.{HasNoLoop}
+use Rattle.slot_core.proofs.OfflineJobLemmas.{offline_from_cycle, graph_in_range-from_sound, task_in_range-from_sound, HasNoLoop-from_sound, cycle-multiple, cycle-at_most}
+use Rattle.slot_core.proofs.MovedCycles.{GraphFits, GraphFits-from_sound}
+use Rattle.window_derive.specs.declared.windows.Chains.{Chains}
+use Rattle.window_derive.specs.Chains.{AreOrderable}
+use Rattle.window_derive.specs.GraphChains.{AreChainsOf, AreChainsOfGraphs, HasChains, before_in, after_in, job_by}
+use Rattle.window_derive.proofs.BoolLists.{None-from_fails}
+
+-- what the ranges say of the number of tasks and of the slots of a task. Here alone the value of TASK_LIMIT counts
+few_tasks : (graph : Graph) → graph_in_range graph ≡ true → length graph.tasks ≤ 32
+few_tasks graph h =
+    let (counted, _) = and_parts _ (list_all task_in_range graph.tasks) h in
+    let (_, count) = and_parts _ (is_between 1 TASK_LIMIT (length graph.tasks)) counted in
+    omega (arith, leb-true (length graph.tasks) TASK_LIMIT (and_parts (nat_le 1 (length graph.tasks)) (nat_le (length graph.tasks) TASK_LIMIT) count).1)
+
+slots_fit : (name after : Bool) (wcet : ℕ) → (name && is_between 1 4096 wcet && after) ≡ true → (1 ≤ wcet) × (wcet ≤ 4096)
+slots_fit name after wcet h = grind (arith, nat_tests)
+
+-- the tasks of a graph of the set are those at its place
+tasks_at : (set : TaskSet) (g : ℕ) (graph : Graph) → slice_get set.graphs g ≡ Some graph → tasks_of set g ≡ graph.tasks
+tasks_at set g graph at = ap (λ o. option_map_or (λ (x : Graph). x.tasks) o []) at
+
+wcet_at : (tasks : List Task) (t : ℕ) (task : Task) → slice_get tasks t ≡ Some task → wcet_of tasks t ≡ task.wcet
+wcet_at tasks t task at = ap (λ o. option_map_or (λ (x : Task). x.wcet) o 0) at
+
+wcet_past : (tasks : List Task) (t : ℕ) → length tasks ≤ t → wcet_of tasks t ≡ 0
+wcet_past tasks t past = ap (λ o. option_map_or (λ (x : Task). x.wcet) o 0) (slice_get_past tasks t past)
+
+-- what stands within a list
+slice_get-within : {X : Type 0} (xs : List X) (i : ℕ) → i < length xs → (x : X) × (slice_get xs i ≡ Some x)
+slice_get-within [] i within = absurd (omega arith)
+slice_get-within (x ∷ xs) zero within = (x, refl)
+slice_get-within (x ∷ xs) (suc i) within = slice_get-within xs i (omega arith)
+
+-- the slots of a task of a graph of a sound set
+task_slots : (set : TaskSet) (g : ℕ) (graph : Graph) → is_sound set ≡ true → slice_get set.graphs g ≡ Some graph → (t : ℕ) → t < length graph.tasks → (1 ≤ wcet_of graph.tasks t) × (wcet_of graph.tasks t ≤ 4096)
+task_slots set g graph sound at t within =
+    let task = slice_get-within graph.tasks t within in
+    let fits = slots_fit _ _ task.0.wcet (task_in_range-from_sound set g t graph task.0 sound at task.1) in
+    let value = wcet_at graph.tasks t task.0 task.1 in
+    (omega arith, omega arith)
+
+-- the graphs of a sound set have an order
+AreOrderable-from_sound : (set : TaskSet) (g : ℕ) (graph : Graph) → is_sound set ≡ true → slice_get set.graphs g ≡ Some graph → AreOrderable graph.tasks
+AreOrderable-from_sound set g graph sound at =
+    let tasks = graph.tasks in
+    let no_loop : HasNoLoop tasks = subst HasNoLoop (tasks_at set g graph at) (HasNoLoop-from_sound set g sound) in
+    let slots = task_slots set g graph sound at in
+    record {
+      count = few_tasks graph (graph_in_range-from_sound set g graph sound at);
+      named = λ t p after. (no_loop.named t p after).1;
+      loopless = None-from_fails (is_on_loop tasks) (range_with_len 0 (length tasks)) λ t listed.
+          let bounds = Has-range_with_len_bounds 0 (length tasks) t listed in
+          no_loop.loopless t (omega (arith, bounds.1));
+      some = λ t within. (slots t within).0;
+      few = λ t.
+          elim (cases_lt t (length tasks)) [
+            | inl within ↦ (slots t within).1
+            | inr past ↦ let none = wcet_past tasks t past in omega arith
+          ];
+    }
+
+pub graphs_orderable : (set : TaskSet) → is_sound set ≡ true → All (λ (g : Graph). AreOrderable g.tasks) set.graphs
+graphs_orderable set sound = λ k d within.
+    AreOrderable-from_sound set k (get_or set.graphs k d) sound (slice_get-get_or set.graphs k d within)
+
+-- the raw job of a task of a graph of the set
+pub record IsRawJob (set : TaskSet) (raw : RawJob) : Type 0 where
+  pub g : ℕ
+  pub t : ℕ
+  pub k : ℕ
+  pub graph : Graph
+  pub key : raw.key ≡ Offline g t k
+  pub graph_at : slice_get set.graphs g ≡ Some graph
+  pub within : t < length graph.tasks
+  pub early : raw.release ≤ 4096
+
+-- an instance of the first cycle is released in it
+released_early : (q period offset cycle k : ℕ) → q * period ≡ cycle → k < 1 * q → offset ≤ period → k * period + offset ≤ cycle
+released_early q period offset cycle k whole first fits =
+    let times : k + 1 ≤ q = omega arith in
+    omega (arith, mul-le-mul_right period times)
+
+pub IsRawJob-from_cycle : (set : TaskSet) (raw : RawJob) → is_sound set ≡ true → Has (raw_jobs set (cycle_of set) 0) raw → IsRawJob set raw
+IsRawJob-from_cycle set raw sound listed =
+    let cycle = cycle_of set in
+    let jobs = raw_jobs set cycle 0 in
+    let job = derived_job set raw in
+    let is = offline_from_cycle set cycle 0 job (Contains-from_Has (map (derived_job set) jobs) job (Has-map (derived_job set) jobs raw listed)) in
+    let same : raw.key ≡ Offline is.g is.t is.k = ap (λ (j : Job). j.key) is.instance_of.derived in
+    let starts : raw.release + chain_before set raw.key ≡ release_of is.graph is.k + chain_before set (Offline is.g is.t is.k) =
+    ap (λ (j : Job). j.est) is.instance_of.derived in
+    let chain = ap (chain_before set) same in
+    let fits : GraphFits is.graph = GraphFits-from_sound set is.g is.graph sound is.instance_of.graph_at in
+    let whole = cycle-multiple set is.g is.graph sound is.instance_of.graph_at in
+    let early = released_early (cycle / is.graph.period) is.graph.period is.graph.offset cycle is.k whole is.below (omega (arith, fits.within)) in
+    record {
+      g = is.g;
+      t = is.t;
+      k = is.k;
+      graph = is.graph;
+      key = same;
+      graph_at = is.instance_of.graph_at;
+      within = slice_get_within is.graph.tasks is.t is.task is.instance_of.task_at;
+      early = omega (arith, cycle-at_most set sound);
+    }
+
+-- what stands at a place of two lists that match
+AllZip-slice_get : {X Y : Type 0} (R : X → Y → Type 0) (xs : List X) (ys : List Y) (i : ℕ) (x : X) → AllZip R xs ys → slice_get xs i ≡ Some x → (y : Y) × (slice_get ys i ≡ Some y) × R x y
+AllZip-slice_get R [] [] i x all at = absurd (cc at)
+AllZip-slice_get R [] (y ∷ ys) i x all at = absurd all
+AllZip-slice_get R (z ∷ xs) [] i x all at = absurd all
+AllZip-slice_get R (z ∷ xs) (y ∷ ys) zero x all at =
+    let same : z ≡ x = cc at in
+    (y, refl, subst (λ w. R w y) same all.0)
+AllZip-slice_get R (z ∷ xs) (y ∷ ys) (suc i) x all at = AllZip-slice_get R xs ys i x all.1 at
+
+same_graph : (g h t u k l : ℕ) → Offline g t k ≡ Offline h u l → g ≡ h
+same_graph g h t u k l e = cc
+
+same_task : (g h t u k l : ℕ) → Offline g t k ≡ Offline h u l → t ≡ u
+same_task g h t u k l e = cc
+
+-- chains of the graphs of a sound set are those of its raw jobs
+pub HasChains-from_graphs : (set : TaskSet) (chains : List Chains) (raw : RawJob) → is_sound set ≡ true → AreChainsOfGraphs set.graphs chains → IsRawJob set raw → HasChains chains raw
+HasChains-from_graphs set chains raw sound all is =
+    let c = AllZip-slice_get (λ (g : Graph) (x : Chains). AreChainsOf g.tasks x) set.graphs chains is.g is.graph all is.graph_at in
+    let listed = slice_get_within chains is.g c.0 c.1 in
+    let few = (AreOrderable-from_sound set is.g is.graph sound is.graph_at).count in
+    record {
+      listed = λ g t k e.
+          let same = sym e ∙ is.key in
+          (omega (arith, same_graph g is.g t is.t k is.k same), omega (arith, same_task g is.g t is.t k is.k same, is.within));
+      early = is.early;
+    }
+
+-- the job with chains of so many slots
+abbrev window : RawJob → ℕ → ℕ → Job
+window raw before after =
+    record { key = raw.key; est = raw.release + before; dl = raw.deadline - after; left = raw.wcet; declared = raw.wcet }
+
+pub job_by-derived_job : (set : TaskSet) (chains : List Chains) (raw : RawJob) → AreChainsOfGraphs set.graphs chains → IsRawJob set raw → job_by chains raw ≡ derived_job set raw
+job_by-derived_job set chains raw all is =
+    let c = AllZip-slice_get (λ (g : Graph) (x : Chains). AreChainsOf g.tasks x) set.graphs chains is.g is.graph all is.graph_at in
+    let tasks = tasks_at set is.g is.graph is.graph_at in
+    let before : before_in chains raw.key ≡ chain_before set raw.key =
+    ap (before_in chains) is.key ∙ ap (λ o. option_map_or (λ (x : Chains). slice_index x.before is.t) o 0) c.1 ∙ c.2.before.at is.t is.within ∙ sym (ap (λ ts. longest_before ts is.t) tasks) ∙ sym (ap (chain_before set) is.key) in
+    let after : after_in chains raw.key ≡ chain_after set raw.key =
+    ap (after_in chains) is.key ∙ ap (λ o. option_map_or (λ (x : Chains). slice_index x.after is.t) o 0) c.1 ∙ c.2.after.at is.t is.within ∙ sym (ap (λ ts. longest_after ts is.t) tasks) ∙ sym (ap (chain_after set) is.key) in
+    ap (λ b. window raw b (after_in chains raw.key)) before ∙ ap (λ a. window raw (chain_before set raw.key) a) after
+
+-- the windows of all raw jobs
+pub map-job_by : (set : TaskSet) (chains : List Chains) (raw : List RawJob) → AreChainsOfGraphs set.graphs chains → ((r : RawJob) → Has raw r → IsRawJob set r) → map (job_by chains) raw ≡ map (derived_job set) raw
+map-job_by set chains [] all each = refl
+map-job_by set chains (r ∷ raw) all each =
+    ap (λ j. j ∷ map (job_by chains) raw) (job_by-derived_job set chains r all (each r (inl refl))) ∙ ap (λ js. derived_job set r ∷ js) (map-job_by set chains raw all (λ s h. each s (inr h)))
+
+-- one pair more
+AllZip-push : {X Y : Type 0} (R : X → Y → Type 0) (xs : List X) (ys : List Y) (x : X) (y : Y) → AllZip R xs ys → R x y → AllZip R (xs ++ x ∷ []) (ys ++ y ∷ [])
+AllZip-push R [] [] x y all h = (h, tt)
+AllZip-push R [] (z ∷ ys) x y all h = absurd all
+AllZip-push R (z ∷ xs) [] x y all h = absurd all
+AllZip-push R (z ∷ xs) (w ∷ ys) x y all h = (all.0, AllZip-push R xs ys x y all.1 h)
+
+-- the chains of one graph more
+pub AreChainsOfGraphs-more : (graphs : List Graph) (chains new : List Chains) (i : ℕ) (graph : Graph) (c : Chains) → i < length graphs → graph ≡ get_or graphs i graph → AreChainsOfGraphs (take i graphs) chains → AreChainsOf graph.tasks c → new ≡ chains ++ c ∷ [] → AreChainsOfGraphs (take (i + 1) graphs) new
+AreChainsOfGraphs-more graphs chains new i graph c within is all of_graph pushed =
+    let more = AllZip-push (λ (g : Graph) (x : Chains). AreChainsOf g.tasks x) (take i graphs) chains graph c all of_graph in
+    let taken : take (i + 1) graphs ≡ take i graphs ++ graph ∷ [] = take_more graphs i graph within ∙ ap (λ g. take i graphs ++ g ∷ []) (sym is) in
+    rw (taken, pushed) more
