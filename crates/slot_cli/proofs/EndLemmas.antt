@@ -1,5 +1,5 @@
 -- How the work of a command ends.
-use Rattle.std.proofs.Common.{◌≡◌, ◌≢◌, ◌⊎◌, ℕ, ◌≤◌, Bool, true, false, List, [], Option, None, Some, Result, Ok, Err, refl, sym, ap, subst, ◌∙◌, inl, inr, arith}
+use Rattle.std.proofs.Common.{◌≡◌, ℕ, ◌≤◌, true, List, [], Option, None, Some, Ok, Err, refl, sym, ap, subst, ◌∙◌, inl, inr, arith}
 use Rattle.std.proofs.KnownBytes.{Appends-nil}
 use Rattle.std.specs.Io.KnownBytes.{Appends}
 use Rattle.std.specs.Option.{option_map_or}
@@ -14,7 +14,7 @@ use Rattle.slot_cli.specs.declared.command.Command.TheVariants.{Check, Replay}
 use Rattle.slot_cli.specs.declared.outcome.File.TheVariants.{Tasks, Arrivals}
 use Rattle.slot_cli.specs.declared.outcome.Outcome.{Outcome}
 use Rattle.slot_cli.specs.declared.outcome.Outcome.TheVariants.{Done, Usage, Unreadable, TooLarge, BadTasks, Infeasible, BadArrivals, WriteFault, Memory}
-use Rattle.slot_cli.specs.Outcomes.{is_early, is_refusal}
+use Rattle.slot_cli.specs.Outcomes.{is_early}
 use Rattle.slot_cli.specs.Commands.{command_of}
 use Rattle.slot_cli.specs.Runs.{Stage, ◌>>=◌, text_of, expected, planned_set, arrivals_of, outcome_of, place_of, IsHostFault, IsWritten}
 use Rattle.slot_cli.specs.Works.{IsRefusal, IsBlamed, IsWriting, Ends}

@@ -1,5 +1,5 @@
 -- What `parse` gives of a number on the command line.
-use Rattle.std.proofs.Common.{◌≡◌, ℕ, ◌<◌, ◌≤◌, ◌+◌, ◌^◌, true, not, ◌&&◌, ◌==◌, nat_le, List, [], ◌∷◌, length, Result, Ok, arith, rules}
+use Rattle.std.proofs.Common.{◌≡◌, ℕ, ◌<◌, ◌≤◌, ◌^◌, true, not, ◌&&◌, ◌==◌, nat_le, List, [], ◌∷◌, length, Result, Ok, arith, rules}
 use Rattle.std.specs.Char.{is_ascii_digit}
 use Rattle.std.specs.List.{list_all}
 use Rattle.std.specs.Str.Parse.{digits_value, ParsesUnsigned}

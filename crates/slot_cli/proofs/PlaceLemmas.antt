@@ -18,7 +18,7 @@ use Rattle.slot_cli.specs.declared.command.Command.TheVariants.{Check, Replay}
 use Rattle.slot_cli.specs.declared.outcome.File.{File}
 use Rattle.slot_cli.specs.declared.outcome.File.TheVariants.{Tasks, Arrivals}
 use Rattle.slot_cli.specs.declared.outcome.Outcome.{Outcome}
-use Rattle.slot_cli.specs.declared.outcome.Outcome.TheVariants.{Done, Usage, Unreadable, TooLarge, BadTasks, Infeasible, BadArrivals, WriteFault, Memory}
+use Rattle.slot_cli.specs.declared.outcome.Outcome.TheVariants.{Done, Usage, Unreadable, TooLarge, BadTasks, Infeasible}
 use Rattle.slot_cli.specs.Commands.{command_of}
 use Rattle.slot_cli.specs.Outcomes.{name_of, limit_of}
 use Rattle.slot_cli.specs.Runs.{Stage, ◌>>=◌, expected, within_limit, bytes_of, set_of, feasible_set, planned_set, no_arrivals, arrivals_of, text_of, outcome_of, place_of}

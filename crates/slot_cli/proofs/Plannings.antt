@@ -1,5 +1,5 @@
 -- What the steps up to the plan give.
-use Rattle.std.proofs.Common.{◌≡◌, ℕ, ◌+◌, ◌-◌, ◌<◌, ◌≤◌, true, List, length, Option, Some, None, Result, Ok, Err, refl, sym, ap, subst, ◌∙◌, arith}
+use Rattle.std.proofs.Common.{◌≡◌, ℕ, ◌<◌, List, length, Option, Some, None, Ok, refl, sym, ap, subst, ◌∙◌, arith}
 use Rattle.std.proofs.lemmas.List.Sorted.{length_permutation}
 use Rattle.slot_core.specs.declared.jobs.Job.{Job}
 use Rattle.slot_core.specs.declared.jobs.Span.{Span}
@@ -10,13 +10,10 @@ use Rattle.slot_core.specs.Feasible.{IsFeasible, counterexample}
 use Rattle.slot_core.specs.OfflineJobs.{cycle_jobs}
 use Rattle.slot_core.specs.Plans.{PlanParts, IsPlan, plan_spans}
 use Rattle.slot_core.specs.Reports.{check_line}
-use Rattle.slot_core.specs.Ranges.{is_sound}
 use Rattle.slot_core.proofs.OfflineJobLemmas.{cycle-positive}
-use Rattle.demand_test.proofs.FeasibleLemmas.{counterexample-fails, IsFeasible-from_none}
-use Rattle.slot_cli.specs.declared.outcome.Outcome.{Outcome}
-use Rattle.slot_cli.specs.declared.outcome.Outcome.TheVariants.{Infeasible}
+use Rattle.demand_test.proofs.FeasibleLemmas.{counterexample-fails}
 use Rattle.slot_cli.specs.Works.{counts_line}
-use Rattle.slot_cli.specs.Runs.{Stage, feasible_set}
+use Rattle.slot_cli.specs.Runs.{feasible_set}
 
 -- a feasible set has no counterexample
 no_counterexample : (set : TaskSet) (o : Option Window) → counterexample set (cycle_of set) ≡ o → 0 < cycle_of set → IsFeasible set (cycle_of set) → o ≡ None

@@ -1,19 +1,17 @@
 -- The plan's set is sound and feasible, so that every trace of it is served.
-use Rattle.std.proofs.Common.{◌≡◌, ℕ, ◌<◌, ◌≤◌, Bool, true, List, [], ◌∷◌, length, Option, None, Some, Result, Ok, Err, refl, sym, ap, subst, ◌∙◌, arith}
-use Rattle.std.specs.Prelude.{◌&&◌, nat_le, is_none}
+use Rattle.std.proofs.Common.{◌≡◌, ℕ, ◌≤◌, true, List, [], ◌∷◌, length, Option, None, Some, Ok, Err, refl, subst, arith}
+use Rattle.std.specs.Prelude.{nat_le, is_none}
 use Rattle.std.specs.List.{list_all}
 use Rattle.std.specs.Option.{option_map_or}
 use Rattle.std.specs.Result.{result_map_both}
 use Rattle.std.proofs.lemmas.Bool.{and_parts, leb-true}
-use Rattle.slot_core.specs.declared.TheConstants.{GRAPH_LIMIT, SPORADIC_LIMIT, SOFT_LIMIT}
-use Rattle.slot_core.specs.declared.faults.TaskFault.{TaskFault}
+use Rattle.slot_core.specs.declared.TheConstants.{SPORADIC_LIMIT}
 use Rattle.slot_core.specs.declared.jobs.Window.{Window}
-use Rattle.slot_core.specs.declared.tasks.Sporadic.{Sporadic}
 use Rattle.slot_core.specs.declared.tasks.TaskSet.{TaskSet}
 use Rattle.slot_core.specs.Cycles.{cycle_of}
 use Rattle.slot_core.specs.Faults.{set_fault}
 use Rattle.slot_core.specs.Feasible.{IsFeasible, counterexample}
-use Rattle.slot_core.specs.Ranges.{is_between, graph_in_range, sporadic_in_range, is_in_range, is_sound}
+use Rattle.slot_core.specs.Ranges.{sporadic_in_range, is_in_range, is_sound}
 use Rattle.slot_core.specs.Service.{IsServed, IsOrdered}
 use Rattle.slot_core.specs.Traces.{trace, history_of}
 use Rattle.slot_io.specs.Files.{Held}
@@ -23,7 +21,6 @@ use Rattle.task_toml.specs.Reading.{reading_of_tasks}
 use Rattle.task_toml.specs.TomlFields.{Read}
 use Rattle.task_toml.proofs.SoundReadings.{is_sound-reading}
 use Rattle.slot_cli.specs.declared.outcome.File.TheVariants.{Tasks}
-use Rattle.slot_cli.specs.declared.outcome.Outcome.{Outcome}
 use Rattle.slot_cli.specs.declared.outcome.Outcome.TheVariants.{BadTasks, Infeasible}
 use Rattle.slot_cli.specs.Runs.{Stage, ◌>>=◌, bytes_of, set_of, feasible_set, planned_set}
 

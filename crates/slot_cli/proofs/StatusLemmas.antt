@@ -12,7 +12,7 @@ use Rattle.slot_cli.specs.declared.outcome.Outcome.{Outcome}
 use Rattle.slot_cli.specs.declared.outcome.Outcome.TheVariants.{Done, Usage, Unreadable, TooLarge, BadTasks, Infeasible, BadArrivals, WriteFault, Memory}
 use Rattle.slot_cli.specs.Commands.{command_of}
 use Rattle.slot_cli.specs.Outcomes.{status_of, has_fixed_line}
-use Rattle.slot_cli.specs.Runs.{Stage, expected, outcome_of, place_of, IsHostFault}
+use Rattle.slot_cli.specs.Runs.{Stage, expected, outcome_of, IsHostFault}
 use Rattle.slot_cli.specs.Works.{Ends}
 use Rattle.slot_cli.proofs.PlaceLemmas.{expected-done}
 

@@ -1,5 +1,5 @@
 -- How a run ends: its status, and the line that tells why.
-use Rattle.std.specs.Prelude.{ℕ, Bool, true, false, List, [], ◌∷◌, ◌++◌, codes, decimal}
+use Rattle.std.specs.Prelude.{ℕ, Bool, true, false, List, [], ◌∷◌, ◌++◌, codes}
 use Rattle.slot_core.specs.FaultTexts.{task_fault_text, infeasible_text}
 use Rattle.slot_core.specs.Texts.{worded}
 use Rattle.slot_cli.specs.declared.status.Status.{Status}

@@ -1,5 +1,5 @@
 -- What a run has to answer, where the files tell what they hold.
-use Rattle.std.specs.Prelude.{◌≡◌, ℕ, ◌≤◌, ◌⊎◌, ⊤, Bool, List, [], ◌∷◌, ◌++◌, length, nat_lt, if◌then◌else◌, Option, Some, None, Result, Ok, Err, MatchResult}
+use Rattle.std.specs.Prelude.{◌≡◌, ℕ, ◌≤◌, ◌⊎◌, ⊤, List, [], ◌∷◌, length, nat_lt, if◌then◌else◌, Option, Some, Result, Ok, Err}
 use Rattle.std.specs.Option.{option_map_or}
 use Rattle.std.specs.Result.{result_map_both}
 use Rattle.slot_core.specs.declared.tasks.TaskSet.{TaskSet}
@@ -19,7 +19,7 @@ use Rattle.slot_cli.specs.declared.outcome.File.{File}
 use Rattle.slot_cli.specs.declared.outcome.File.TheVariants.{Tasks, Arrivals}
 use Rattle.slot_cli.specs.declared.outcome.Outcome.{Outcome}
 use Rattle.slot_cli.specs.declared.outcome.Outcome.TheVariants.{Done, Usage, Unreadable, TooLarge, BadTasks, Infeasible, BadArrivals, WriteFault, Memory}
-use Rattle.slot_cli.specs.Commands.{command_of, word_at}
+use Rattle.slot_cli.specs.Commands.{command_of}
 use Rattle.slot_cli.specs.Outcomes.{name_of, limit_of, fault_line}
 
 -- a step of the work gives a value, or the outcome that ends the run

@@ -9,7 +9,7 @@ use itoa::Buffer;
 use slot_core::{Field, Memory, Part, Place, Window};
 
 /// Appends the bytes.
-pub(crate) fn push(line: &mut Vec<u8>, bytes: &[u8]) -> Result<(), Memory>
+pub fn push(line: &mut Vec<u8>, bytes: &[u8]) -> Result<(), Memory>
     ensures { OnOk result (line.new.items ≡ line.old.items ++ bytes.now) }
 {
     match line.extend_from_slice(bytes) {
@@ -19,7 +19,7 @@ pub(crate) fn push(line: &mut Vec<u8>, bytes: &[u8]) -> Result<(), Memory>
 }
 
 /// Appends a space and the number.
-pub(crate) fn push_number(line: &mut Vec<u8>, number: u64) -> Result<(), Memory>
+pub fn push_number(line: &mut Vec<u8>, number: u64) -> Result<(), Memory>
     ensures { OnOk result (line.new.items ≡ line.old.items ++ 32 ∷ decimal number) }
 {
     let mut buffer = Buffer::new();
@@ -28,7 +28,7 @@ pub(crate) fn push_number(line: &mut Vec<u8>, number: u64) -> Result<(), Memory>
 }
 
 /// Appends a space and the number, which may be below 0.
-pub(crate) fn push_signed(line: &mut Vec<u8>, number: i64) -> Result<(), Memory>
+pub fn push_signed(line: &mut Vec<u8>, number: i64) -> Result<(), Memory>
     ensures { OnOk result (line.new.items ≡ line.old.items ++ 32 ∷ signed_decimal number) }
 {
     let mut buffer = Buffer::new();
@@ -37,7 +37,7 @@ pub(crate) fn push_signed(line: &mut Vec<u8>, number: i64) -> Result<(), Memory>
 }
 
 /// Appends the word, a space and the number.
-pub(crate) fn push_worded(line: &mut Vec<u8>, word: &[u8], number: u64) -> Result<(), Memory>
+pub fn push_worded(line: &mut Vec<u8>, word: &[u8], number: u64) -> Result<(), Memory>
     ensures { OnOk result (line.new.items ≡ line.old.items ++ worded word.now number) }
 {
     push(line, word)?;
@@ -45,7 +45,7 @@ pub(crate) fn push_worded(line: &mut Vec<u8>, word: &[u8], number: u64) -> Resul
 }
 
 /// Appends the place of a table in the task file.
-pub(crate) fn push_part(line: &mut Vec<u8>, part: Part) -> Result<(), Memory>
+pub fn push_part(line: &mut Vec<u8>, part: Part) -> Result<(), Memory>
     ensures { OnOk result (line.new.items ≡ line.old.items ++ part_text part) }
 {
     match part {
@@ -57,7 +57,7 @@ pub(crate) fn push_part(line: &mut Vec<u8>, part: Part) -> Result<(), Memory>
 }
 
 /// Appends the place of a task.
-pub(crate) fn push_task(line: &mut Vec<u8>, graph: u16, task: u16) -> Result<(), Memory>
+pub fn push_task(line: &mut Vec<u8>, graph: u16, task: u16) -> Result<(), Memory>
     ensures { OnOk result (line.new.items ≡ line.old.items ++ part_text (Part.Task graph task)) }
 {
     push_worded(line, b"graph", u64::from(graph))?;
@@ -66,7 +66,7 @@ pub(crate) fn push_task(line: &mut Vec<u8>, graph: u16, task: u16) -> Result<(),
 }
 
 /// Appends a table and a key of it.
-pub(crate) fn push_place(line: &mut Vec<u8>, place: Place) -> Result<(), Memory>
+pub fn push_place(line: &mut Vec<u8>, place: Place) -> Result<(), Memory>
     ensures { OnOk result (line.new.items ≡ line.old.items ++ place_text place) }
 {
     push_part(line, place.part)?;
@@ -94,7 +94,7 @@ fn field_word(field: Field) -> &'static [u8]
 }
 
 /// Appends the window that fails.
-pub(crate) fn push_window(line: &mut Vec<u8>, window: Window) -> Result<(), Memory>
+pub fn push_window(line: &mut Vec<u8>, window: Window) -> Result<(), Memory>
     ensures { OnOk result (line.new.items ≡ line.old.items ++ infeasible_text window) }
 {
     push_worded(line, b"infeasible", window.from)?;

@@ -19,11 +19,14 @@ ghost use Rattle.slot_cli.specs.Runs.{expected, planned_set, IsAnswer, IsReporte
 
 mod append;
 pub mod command;
+mod faults;
 pub mod outcome;
-pub mod report;
-pub mod stages;
+mod report;
+mod stages;
 pub mod status;
-pub mod work;
+#[cfg(test)]
+mod tests;
+mod work;
 
 use report::report;
 use slot_core::Words;

@@ -1,7 +1,5 @@
 use Rattle.slot_cli.proofs.NumberLemmas.{parse_number}
 use Rattle.slot_cli.proofs.command.value_of.Goals as goal
-use Rattle.std.proofs.Common.{◌≡◌, Ok}
-use Rattle.std.specs.Str.Parse.{digits_value}
 
 pub unreachable-requires : goal.unreachable-requires
 unreachable-requires c =

@@ -1,7 +1,7 @@
 use Rattle.std.proofs.Common.{w64}
 use Rattle.std.proofs.lemmas.Int.{to_z-of_z}
 use Rattle.slot_cli.proofs.Appended.{append_apart}
-use Rattle.slot_cli.proofs.report.push_out_of_range.Goals as goal
+use Rattle.slot_cli.proofs.faults.push_out_of_range.Goals as goal
 
 pub returns : goal.returns
 returns c =
