@@ -1,17 +1,17 @@
 //! The line that tells why a run ended.
 
-ghost use Rattle.std.specs.Prelude.{◌≡◌, ◌⊎◌, ◌∷◌, ◌++◌, ℕ, List, [], false, IfOk, IfSome, OnOk, codes, is_some};
+ghost use Rattle.std.specs.Prelude.{◌≡◌, ◌⊎◌, ◌++◌, ℕ, List, [], false, IfOk, IfSome, OnOk, codes, is_some};
 ghost use Rattle.std.specs.Io.KnownBytes.{Appends};
 ghost use Rattle.slot_core.specs.FaultTexts.{task_fault_text};
 ghost use Rattle.slot_core.specs.Texts.{worded};
 ghost use Rattle.slot_io.specs.Faults.{Rose};
 ghost use Rattle.slot_io.specs.Sinks.{AppendsPart};
-ghost use Rattle.slot_cli.specs.Outcomes.{name_of, limit_of, reason_of, fault_line, has_fixed_line};
+ghost use Rattle.slot_cli.specs.Outcomes.{reason_of, fault_line, has_fixed_line};
 ghost use Rattle.slot_cli.specs.Runs.{IsReported};
 
 use crate::append::{push, push_window, push_worded};
 use crate::faults::push_task_fault;
-use crate::outcome::{File, Outcome};
+use crate::outcome::Outcome;
 use slot_core::{Memory, TaskFault, Words};
 use slot_io::Sink;
 use std::alloc::Global;
