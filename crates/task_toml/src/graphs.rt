@@ -182,7 +182,7 @@ pub fn read_graphs(alloc: Global, tables: &[&Table]) -> Result<Graphs, TaskFault
 
 /// The sporadic task of a table.
 fn read_sporadic(sporadic: u8, table: &Table) -> Result<Sporadic, TaskFault>
-    ensures { Answers result (sporadic_of sporadic (table_view table.now)) }
+    ensures { result ≡ sporadic_of sporadic (table_view table.now) }
 {
     let part = Part::Sporadic(sporadic);
     check_keys(table, part)?;
