@@ -14,6 +14,7 @@ pub mod Faults
 pub mod Feasible
 pub mod Histories
 pub mod Keys
+pub mod Matches
 pub mod Names
 pub mod OfflineJobs
 pub mod Plans

@@ -42,6 +42,10 @@ guaranteed set cycle h = guaranteed_in set cycle (time_of h / cycle + 3) h
 abbrev pub has_ended : History → Job → Bool
 has_ended h job = nat_le job.declared (executed job.key h) || is_freed job.key h
 
+-- the job has run a slot
+abbrev pub has_started : History → Job → Bool
+has_started h job = nat_lt 0 (executed job.key h)
+
 -- the job with the slots that it has still to run
 abbrev pub with_left : History → Job → Job
 with_left h job = record job { left = job.declared - executed job.key h }

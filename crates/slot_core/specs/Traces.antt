@@ -1,5 +1,5 @@
 -- The trace of a task set and its arrivals.
-use Rattle.std.specs.Prelude.{◌≡◌, ℕ, ◌==◌, List, [], ◌∷◌, ◌++◌, map, filter, flat_map, reverse, ⊤}
+use Rattle.std.specs.Prelude.{◌≡◌, ◌<◌, true, ℕ, ◌==◌, List, [], ◌∷◌, ◌++◌, map, filter, flat_map, reverse, ⊤}
 use Rattle.std.specs.List.{range_with_len}
 use Rattle.slot_core.specs.declared.tasks.TaskSet.{TaskSet}
 use Rattle.slot_core.specs.declared.events.Event.{Event}
@@ -10,7 +10,8 @@ use Rattle.slot_core.specs.declared.events.Ran.TheVariants.{Idle as RanIdle, Key
 use Rattle.slot_core.specs.declared.events.What.{What}
 use Rattle.slot_core.specs.declared.events.What.TheVariants.{Start, Run, Idle, End}
 use Rattle.slot_core.specs.Cycles.{cycle_of}
-use Rattle.slot_core.specs.Histories.{History, time_of}
+use Rattle.slot_core.specs.Histories.{History, time_of, last_row}
+use Rattle.slot_core.specs.Arrivals.{event_fits}
 use Rattle.slot_core.specs.Scenes.{scene_of}
 use Rattle.slot_core.specs.Choice.{choice}
 use Rattle.slot_core.specs.Answers.{answer}
@@ -72,7 +73,13 @@ trace set arrivals n = trace_in set (cycle_of set) arrivals n
 abbrev pub history_of : List Entry → History
 history_of trace = reverse (map (λ (e : Entry). e.what) trace)
 
--- each arrival, run and idle entry of the history is the one that the definitions give at those before it
+-- an arrival has a row above those before it, and its event fits the set
+abbrev pub StepFits : TaskSet → History → Step → Type 0
+StepFits set h (arrive row event) = (last_row h < row) × (event_fits set event ≡ true)
+StepFits set h slot = ⊤
+
+-- each entry of the history is the one that the definitions give, for a step that fits, at those before it
 abbrev pub IsLegal : TaskSet → ℕ → History → Type 0
 IsLegal set cycle [] = ⊤
-IsLegal set cycle (what ∷ h) = (step : Step) × (what ≡ entry_of set cycle h step) × IsLegal set cycle h
+IsLegal set cycle (what ∷ h) =
+    (step : Step) × StepFits set h step × (what ≡ entry_of set cycle h step) × IsLegal set cycle h
