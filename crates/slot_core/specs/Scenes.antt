@@ -1,5 +1,5 @@
 -- A scene: all that the choices, answers and spans at a history depend on.
-use Rattle.std.specs.Prelude.{ℕ, ◌+◌, ◌-◌, ◌*◌, ◌/◌, Bool, ◌||◌, not, List, ◌++◌, map, filter, nat_le}
+use Rattle.std.specs.Prelude.{ℕ, ◌+◌, ◌-◌, ◌*◌, ◌/◌, Bool, ◌||◌, not, List, ◌++◌, map, filter, nat_le, nat_lt}
 use Rattle.std.specs.List.{enumerate_from, range_with_len}
 use Rattle.slot_core.specs.declared.jobs.Key.TheVariants.{Soft}
 use Rattle.slot_core.specs.declared.jobs.Job.{Job}
