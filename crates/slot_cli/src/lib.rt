@@ -19,6 +19,8 @@ ghost use Rattle.slot_cli.specs.Runs.{expected, planned_set, IsAnswer, IsReporte
 
 mod append;
 pub mod command;
+#[cfg(test)]
+mod fault_lines;
 mod faults;
 pub mod outcome;
 mod report;

@@ -1,5 +1,6 @@
 //! Runs over files and sinks in memory.
 
+use crate::fault_lines::FAULT_LINES;
 use crate::{ARRIVALS_FILE_LIMIT, Status, TASK_FILE_LIMIT, run};
 use slot_core::{AFTER_LIMIT, TASK_LIMIT, Words};
 use slot_io::{MemoryFiles, MemorySink};
@@ -487,6 +488,23 @@ fn refuses_a_large_arrivals_file(rt: HostRuntime) -> Result<(), Fail> {
         let status = run(alloc, &words, &mut files, &mut out, &mut err);
         assert_eq!(rt; status, want);
         assert_eq!(rt; err.bytes(), line.as_bytes());
+    }
+    Ok(())
+}
+
+#[test]
+fn tells_the_first_fault(rt: HostRuntime) -> Result<(), Fail> {
+    let alloc = rt.alloc();
+    let words = words_of(alloc, "check a.toml")?;
+    for case in FAULT_LINES.lines() {
+        let (tasks, line) = case.split_once(" => ").ok_or("no arrow")?;
+        let mut files = files_of(alloc, tasks.as_bytes(), b"")?;
+        let mut out = MemorySink::with_room(alloc, 0)?;
+        let mut err = MemorySink::with_room(alloc, 256)?;
+        let status = run(alloc, &words, &mut files, &mut out, &mut err);
+        let told = std::str::from_utf8(err.bytes())?;
+        assert_eq!(rt; told.trim_end(), line, "at {tasks}");
+        assert_eq!(rt; status, Status::BadTasks, "at {tasks}");
     }
     Ok(())
 }
