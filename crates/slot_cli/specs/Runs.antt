@@ -97,10 +97,15 @@ abbrev pub outcome_of : Stage (List ℕ) → Outcome
 outcome_of (Ok text) = Done
 outcome_of (Err outcome) = outcome
 
+-- the command reads this file
+abbrev pub Reads : Option Command → File → Type 0
+Reads (Some command) Tasks = ⊤
+Reads (Some (Replay slots)) Arrivals = ⊤
+Reads command file = ⊥
+
 -- a fault of a file that the command reads, or of the output
 abbrev pub IsHostFault : Option Command → Outcome → Type 0
-IsHostFault (Some command) (Unreadable Tasks) = ⊤
-IsHostFault (Some (Replay slots)) (Unreadable Arrivals) = ⊤
+IsHostFault command (Unreadable file) = Reads command file
 IsHostFault (Some command) WriteFault = ⊤
 IsHostFault command _ = ⊥
 

@@ -19,6 +19,10 @@ IsRefusal IsFault due outcome = (outcome ≡ Memory) ⊎ (IsFault outcome ⊎ (d
 abbrev pub IsReadable : Outcome → Type 0
 IsReadable outcome = (file : File) → outcome ≢ Unreadable file
 
+-- where the outcome is a file that cannot be read, it is this file
+abbrev pub IsUnreadableOnly : File → Outcome → Type 0
+IsUnreadableOnly file outcome = (other : File) → outcome ≡ Unreadable other → other ≡ file
+
 -- where the outcome is a file that cannot be read, the faults rose and its name is blamed
 abbrev pub IsBlamed : List (List ℕ) → Outcome → ℕ → ℕ → Option (List ℕ) → Type 0
 IsBlamed words outcome before after blamed =

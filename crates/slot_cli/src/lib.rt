@@ -15,7 +15,7 @@ ghost use Rattle.slot_cli.specs.declared.outcome.File.{File};
 ghost use Rattle.slot_cli.specs.declared.outcome.Outcome.{Outcome};
 ghost use Rattle.slot_cli.specs.Commands.{command_of};
 ghost use Rattle.slot_cli.specs.Outcomes.{status_of, name_of};
-ghost use Rattle.slot_cli.specs.Runs.{expected, planned_set, IsAnswer, IsReported, IsWritten};
+ghost use Rattle.slot_cli.specs.Runs.{expected, planned_set, IsAnswer, IsReported, IsWritten, Reads};
 
 mod append;
 pub mod command;
@@ -61,7 +61,7 @@ pub fn run<F: Files, K: Sink, E: Sink>(
     ensures whole { (outcome : Outcome) × (result ≡ status_of outcome)
         × IfSome (F.held files.old) (λ held. IsAnswer held words.now outcome)
         × IfSome (F.held files.old) (λ held. (text : List ℕ) → expected held words.now ≡ Ok text → IsWritten outcome text (K.written out.old) (K.written out.new))
-        × ((file : File) → outcome ≡ Outcome.Unreadable file → F.blamed files.new ≡ Some (name_of words.now file))
+        × ((file : File) → outcome ≡ Outcome.Unreadable file → Reads (command_of words.now) file × (F.blamed files.new ≡ Some (name_of words.now file)))
         × IsReported words.now outcome (E.written err.old) (E.written err.new) (E.faults err.old) (E.faults err.new) }
 
     // One status each.

@@ -6,7 +6,7 @@ ghost use Rattle.slot_core.specs.Ranges.{is_sound};
 ghost use Rattle.slot_io.specs.Files.{Held};
 ghost use Rattle.slot_cli.specs.Outcomes.{is_early};
 ghost use Rattle.slot_cli.specs.Runs.{bytes_of, set_of, feasible_set, planned_set, no_arrivals, arrivals_of};
-ghost use Rattle.slot_cli.specs.Works.{IsRefusal, IsReadable, IsBlamed};
+ghost use Rattle.slot_cli.specs.Works.{IsRefusal, IsReadable, IsUnreadableOnly, IsBlamed};
 
 use crate::outcome::{File, Outcome};
 use cycle_plan::{Plan, PlanFault, make_plan};
@@ -25,6 +25,7 @@ pub fn read_file<F: Files>(
         → MatchResult result (λ bytes. bytes_of held words.now file ≡ Ok bytes.items)
         (IsRefusal (λ e. e ≡ Outcome.Unreadable file) (bytes_of held words.now file)) }
     ensures early { IfErr result (λ e. is_early e ≡ true) }
+    ensures own { IfErr result (IsUnreadableOnly file) }
     ensures keeps { F.held files.new ≡ F.held files.old }
     ensures blamed { MatchResult result (λ _. F.faults files.new ≡ F.faults files.old)
         (λ e. IsBlamed words.now e (F.faults files.old) (F.faults files.new) (F.blamed files.new)) }
@@ -78,6 +79,7 @@ pub fn planned<F: Files>(alloc: Global, words: &Words, files: &mut F) -> Result<
         (IsRefusal (λ e. e ≡ Outcome.Unreadable File.Tasks) (planned_set held words.now)) }
     ensures plan { IfOk result IsPlan }
     ensures early { IfErr result (λ e. is_early e ≡ true) }
+    ensures own { IfErr result (IsUnreadableOnly File.Tasks) }
     ensures keeps { F.held files.new ≡ F.held files.old }
     ensures blamed { MatchResult result (λ _. F.faults files.new ≡ F.faults files.old)
         (λ e. IsBlamed words.now e (F.faults files.old) (F.faults files.new) (F.blamed files.new)) }

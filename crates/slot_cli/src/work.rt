@@ -8,10 +8,11 @@ ghost use Rattle.slot_core.specs.Traces.{trace};
 ghost use Rattle.slot_io.specs.Faults.{Rose};
 ghost use Rattle.slot_io.specs.Files.{Held};
 ghost use Rattle.slot_cli.specs.declared.command.Command.{Command};
+ghost use Rattle.slot_cli.specs.declared.outcome.File.{File};
 ghost use Rattle.slot_cli.specs.Commands.{command_of};
 ghost use Rattle.slot_cli.specs.Outcomes.{is_refusal};
-ghost use Rattle.slot_cli.specs.Runs.{text_of, expected};
-ghost use Rattle.slot_cli.specs.Works.{IsBlamed, IsWriting, Ends, counts_line};
+ghost use Rattle.slot_cli.specs.Runs.{text_of, expected, Reads};
+ghost use Rattle.slot_cli.specs.Works.{IsBlamed, IsUnreadableOnly, IsWriting, Ends, counts_line};
 
 use crate::REPLAY_LIMIT;
 use crate::append::{push, push_worded};
@@ -30,6 +31,7 @@ pub fn work<F: Files, K: Sink>(alloc: Global, words: &Words, files: &mut F, out:
         → Ends (command_of words.now) (expected held words.now) result (K.written out.old) (K.written out.new) }
     ensures usage { (result ≡ Outcome.Usage) ↔ (command_of words.now ≡ None) }
     ensures blamed { IsBlamed words.now result (F.faults files.old) (F.faults files.new) (F.blamed files.new) }
+    ensures read { (file : File) → result ≡ Outcome.Unreadable file → Reads (command_of words.now) file }
     ensures write_fault { result ≡ Outcome.WriteFault → Rose (K.faults out.old) (K.faults out.new) }
     ensures refusal { is_refusal result ≡ true → out.new ≡ out.old }
 {
@@ -46,6 +48,7 @@ fn check<F: Files, K: Sink>(alloc: Global, words: &Words, files: &mut F, out: &m
         → Ends (Some Command.Check) (text_of held words.now Command.Check) result (K.written out.old) (K.written out.new) }
     ensures usage { result ≢ Outcome.Usage }
     ensures blamed { IsBlamed words.now result (F.faults files.old) (F.faults files.new) (F.blamed files.new) }
+    ensures own { IsUnreadableOnly File.Tasks result }
     ensures write_fault { result ≡ Outcome.WriteFault → Rose (K.faults out.old) (K.faults out.new) }
     ensures refusal { is_refusal result ≡ true → out.new ≡ out.old }
 {
