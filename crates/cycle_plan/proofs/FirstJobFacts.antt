@@ -17,7 +17,8 @@ use Rattle.slot_core.specs.Plans.{AreInDeadlineOrder}
 use Rattle.slot_core.specs.Points.{plan_points}
 use Rattle.slot_core.specs.Feasible.{IsFeasible}
 use Rattle.slot_core.proofs.ListMembers.{Has, Contains-from_Has, Has-append_left, Has-append_right, Has-filter, Has-filter_passes, Has-map, Has-map_cases, Has-range_with_len, Has-range_with_len_bounds, AllByRecursion-from_Has}
-use Rattle.slot_core.proofs.MovedCycles.{GraphFits, GraphFits-from_sound, cycle_jobs-moved}
+use Rattle.slot_core.proofs.RangeFacts.{GraphFits}
+use Rattle.slot_core.proofs.MovedCycles.{GraphFits-from_sound, cycle_jobs-moved}
 use Rattle.slot_core.proofs.OfflineJobLemmas.{offline_from_cycle, cycle-multiple, cycle-positive, cycle-at_most}
 use Rattle.interval_build.specs.Ends.{AreRising, last_end}
 use Rattle.cycle_plan.specs.FirstJobs.{AreFirstJobs}

@@ -6,14 +6,9 @@ use Rattle.std.proofs.Math.Nat.{add-mul-mod_self_right, mod-eq_of_lt}
 use Rattle.std.proofs.lemmas.Bool.{cases_lt, ne_eqb, le-leb, lt-leb, leb-true}
 use Rattle.slot_core.specs.Points.{is_point}
 use Rattle.slot_core.proofs.ListMembers.{Has}
+use Rattle.slot_core.proofs.ListTests.{list_any-same}
 use Rattle.cycle_plan.specs.InCycles.{ends_in_cycles}
 use Rattle.cycle_plan.proofs.RangeFilters.{filter-parts, filter-moved}
-
--- tests that agree at each member agree on the list
-list_any-same : (p q : ℕ → Bool) (xs : List ℕ) → ((x : ℕ) → Has xs x → p x ≡ q x) → list_any p xs ≡ list_any q xs
-list_any-same p q [] same = refl
-list_any-same p q (x ∷ xs) same =
-    ap₂ (λ b c. b || c) (same x (inl refl)) (list_any-same p q xs (λ y at. same y (inr at)))
 
 -- a number at or after q is as far past a multiple of the cycle as one that is whole cycles later
 at_cycle : (cycle n p q : ℕ) → q ≤ p → (p + n * cycle - q) % cycle ≡ (p - q) % cycle

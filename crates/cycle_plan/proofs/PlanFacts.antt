@@ -19,9 +19,9 @@ use Rattle.slot_core.proofs.ListMembers.{Has, Contains-from_Has, AllByRecursion-
 use Rattle.demand_test.specs.declared.Verdict.{Verdict}
 use Rattle.demand_test.specs.declared.Verdict.TheVariants.{Fits}
 use Rattle.demand_test.specs.Verdicts.{verdict_of}
-use Rattle.demand_test.proofs.FeasibleLemmas.{IsFeasible-from_none}
+use Rattle.slot_core.proofs.FeasibleLemmas.{IsFeasible-from_none}
 use Rattle.cycle_plan.specs.FirstJobs.{AreFirstJobs}
-use Rattle.cycle_plan.proofs.SpanSums.{HasSameSums}
+use Rattle.slot_core.specs.Matches.{HaveSameItems}
 
 -- the jobs of a plan are those of the first cycle of its set
 pub AreFirstJobs-from_plan : (plan : PlanParts) → IsPlan plan → AreFirstJobs plan.tasks plan.jobs
@@ -45,7 +45,7 @@ all_due_by set jobs cycle sound whole listed =
     All-permutation due first jobs listed (All-from_recursion due first (AllByRecursion-from_Has due first each))
 
 -- the demand of a window does not depend on the order of the jobs
-pub window_demand-same : (jobs others : List Job) (sporadics : List Sporadic) (cycle a b : ℕ) → HasSameSums jobs others → window_demand jobs sporadics cycle a b ≡ window_demand others sporadics cycle a b
+pub window_demand-same : (jobs others : List Job) (sporadics : List Sporadic) (cycle a b : ℕ) → HaveSameItems jobs others → window_demand jobs sporadics cycle a b ≡ window_demand others sporadics cycle a b
 window_demand-same jobs others sporadics cycle a b same =
     let within = λ (moved : ℕ). same (λ (j : Job). if nat_le a (j.est + moved) && nat_le (j.dl + moved) b then j.declared else 0) in
     λ i. within 0 i + (if nat_lt cycle b then within cycle i else 0) + sporadic_demand sporadics [] a b

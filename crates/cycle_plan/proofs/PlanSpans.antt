@@ -18,7 +18,7 @@ use Rattle.slot_core.specs.Scenes.{horizon, points_of, remaining, unended}
 use Rattle.slot_core.specs.Spans.{spare_capacity, spans_between}
 use Rattle.slot_core.specs.Plans.{plan_spans}
 use Rattle.slot_core.proofs.ListMembers.{Has, Has-from_Contains, Contains-from_Has, Has-filter_passes, Has-range_with_len_bounds}
-use Rattle.slot_core.proofs.HistoryLemmas.{IsAmong, Contains-from_among, unended-start}
+use Rattle.slot_core.proofs.HistoryLemmas.{unended-start}
 use Rattle.slot_core.proofs.OfflineJobLemmas.{cycle-positive}
 use Rattle.slot_core.proofs.OfflineWindows.{IsOfCycle-from_offline}
 use Rattle.cycle_plan.specs.FirstJobs.{AreFirstJobs}
@@ -51,8 +51,8 @@ pub remaining-start : (set : TaskSet) → is_sound set ≡ true → remaining se
 remaining-start set sound =
     let jobs = offline_jobs set (cycle_of set) 3 in
     let three : 0 / cycle_of set + 3 ≡ 3 = ap (λ n. n + 3) (zero-div (cycle_of set)) in
-    let own = λ (job : Job) (at : IsAmong job jobs).
-    (IsOfCycle-from_offline set 3 job sound (Contains-from_among jobs job at)).2 in
+    let own = λ (job : Job) (at : Has jobs job).
+    (IsOfCycle-from_offline set 3 job sound (Contains-from_Has jobs job at)).2 in
     ap (λ n. unended [] (offline_jobs set (cycle_of set) n ++ [] ++ [])) three ∙ (ap (unended []) (append-nil (jobs ++ []) ∙ append-nil jobs) ∙ unended-start jobs (λ job at. ((own job at).some, (own job at).whole)))
 
 -- and the points are those of three cycles

@@ -6,6 +6,7 @@ use Rattle.std.proofs.lemmas.Bool.{false_from_ne_true, both_ways}
 use Rattle.slot_core.specs.declared.jobs.Job.{Job}
 use Rattle.slot_core.specs.Points.{end_before, least_start, interval_start, plan_points, is_point}
 use Rattle.slot_core.proofs.ListMembers.{Has, list_any-from_Has, Has-from_list_any}
+use Rattle.slot_core.proofs.ListTests.{same_tests}
 use Rattle.cycle_plan.proofs.PlanPoints.{IsPlannedPoint-from_points, Has-deadline, Has-interval_start, Has-cycle, end_before-at, end_before-le, least_start-at, least_start-most, least_start-le}
 
 -- each job of the first list is one of the second
@@ -37,11 +38,6 @@ planned-among cycle jobs others q to from h =
         | inr e ↦ subst (Has (plan_points cycle others)) e (Has-cycle cycle others)
       ]
     ]
-
--- tests that imply each other are the same
-same_tests : (b c : Bool) → (b ≡ true → c ≡ true) → (c ≡ true → b ≡ true) → b ≡ c
-same_tests true c there back = sym (there refl)
-same_tests false c there back = sym (false_from_ne_true c (λ t. both_ways false refl (back t)))
 
 -- so the points are the same
 pub is_point-among : (cycle : ℕ) (jobs others : List Job) → AreAmong jobs others → AreAmong others jobs → (p : ℕ) → is_point cycle (plan_points cycle jobs) [] p ≡ is_point cycle (plan_points cycle others) [] p

@@ -2,31 +2,24 @@
 use Rattle.std.proofs.Common.{◌≡◌, ℕ, ◌-◌, ◌&&◌, List, [], ◌∷◌, refl, sym}
 use Rattle.std.specs.Prelude.{pos, ◌-ℤ◌, nat_lt, nat_le, sum_by, if◌then◌else◌}
 use Rattle.std.specs.List.Sorted.{IsPermutation}
-use Rattle.std.proofs.lemmas.List.Sorted.{sum_by-IsPermutation}
 use Rattle.slot_core.specs.declared.jobs.Job.{Job}
 use Rattle.slot_core.specs.Demand.{work_between}
+use Rattle.slot_core.specs.Matches.{HaveSameItems}
+use Rattle.slot_core.proofs.SameItems.{same-from_permutation}
 use Rattle.slot_core.specs.Spans.{least, spare_capacity, spans_between}
 
--- sums over the two lists are the same
-abbrev pub HasSameSums : List Job → List Job → Type 0
-HasSameSums jobs others = (f : Job → ℕ) → sum_by f jobs ≡ sum_by f others
-
--- the order of jobs does not change their sums
-pub HasSameSums-from_permutation : (jobs others : List Job) → IsPermutation jobs others → HasSameSums jobs others
-HasSameSums-from_permutation jobs others h f = sym (sum_by-IsPermutation f jobs others h)
-
--- nor the work that is due
-pub work_between-same : (jobs others : List Job) → HasSameSums jobs others → (s e : ℕ) → work_between jobs s e ≡ work_between others s e
+-- lists of the same jobs have the same work that is due
+pub work_between-same : (jobs others : List Job) → HaveSameItems jobs others → (s e : ℕ) → work_between jobs s e ≡ work_between others s e
 work_between-same jobs others same s e =
     same (λ (j : Job). if nat_lt s j.dl && nat_le j.dl e then j.left else 0)
 
--- nor capacities
-pub spare_capacity-same : (jobs others : List Job) → HasSameSums jobs others → (end s e : ℕ) → spare_capacity jobs end s e ≡ spare_capacity others end s e
+-- the same capacities
+pub spare_capacity-same : (jobs others : List Job) → HaveSameItems jobs others → (end s e : ℕ) → spare_capacity jobs end s e ≡ spare_capacity others end s e
 spare_capacity-same jobs others same end s e =
     λ i. least (λ x. pos (x - s) -ℤ pos (work_between-same jobs others same s x i)) e end
 
--- nor spans
-pub spans_between-same : (jobs others : List Job) → HasSameSums jobs others → (end s : ℕ) (points : List ℕ) → spans_between jobs end s points ≡ spans_between others end s points
+-- and the same spans
+pub spans_between-same : (jobs others : List Job) → HaveSameItems jobs others → (end s : ℕ) (points : List ℕ) → spans_between jobs end s points ≡ spans_between others end s points
 spans_between-same jobs others same end s [] = refl
 spans_between-same jobs others same end s (e ∷ points) =
     λ i.
@@ -35,4 +28,4 @@ spans_between-same jobs others same end s (e ∷ points) =
 -- a permuted list of jobs has the same spans
 pub spans_between-permutation : (jobs others : List Job) → IsPermutation jobs others → (end s : ℕ) (points : List ℕ) → spans_between jobs end s points ≡ spans_between others end s points
 spans_between-permutation jobs others h =
-    spans_between-same jobs others (HasSameSums-from_permutation jobs others h)
+    spans_between-same jobs others (same-from_permutation jobs others h)

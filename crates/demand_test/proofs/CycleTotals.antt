@@ -6,25 +6,20 @@ use Rattle.std.proofs.Math.Nat.{mul-le-mul_right, div-mul-le_self}
 use Rattle.std.proofs.lemmas.Bool.{le-leb, le-ltb, and_from}
 use Rattle.std.proofs.lemmas.List.Elements.{All-nil, All-head, All-tail, All-append, All-map}
 use Rattle.std.proofs.lemmas.List.FromFn.{length-range_with_len, get_or-range_with_len, length-enumerate_from, get_or-enumerate_from}
-use Rattle.slot_core.specs.declared.jobs.Key.TheVariants.{Offline}
 use Rattle.slot_core.specs.declared.jobs.RawJob.{RawJob}
 use Rattle.slot_core.specs.declared.jobs.Job.{Job}
 use Rattle.slot_core.specs.declared.tasks.Sporadic.{Sporadic}
 use Rattle.slot_core.specs.declared.tasks.Task.{Task}
 use Rattle.slot_core.specs.declared.tasks.Graph.{Graph}
 use Rattle.slot_core.specs.declared.tasks.TaskSet.{TaskSet}
-use Rattle.slot_core.specs.OfflineJobs.{release_of, deadline_of, instance_jobs, graph_jobs, raw_jobs, derived_job, cycle_jobs}
+use Rattle.slot_core.specs.OfflineJobs.{raw_job, deadline_of, instance_jobs, graph_jobs, raw_jobs, derived_job, cycle_jobs}
 use Rattle.slot_core.specs.Sporadics.{sporadic_demand}
 use Rattle.slot_core.specs.Feasible.{declared_within, window_demand, demand}
 use Rattle.slot_core.specs.Ranges.{graph_in_range, is_sound}
 use Rattle.demand_test.specs.Totals.{graph_work}
-use Rattle.demand_test.proofs.SoundSets.{IsGraphInRange-from_test, IsSoundSet-from_test}
-use Rattle.demand_test.proofs.SumLemmas.{sum_by-map, sum_by-flat_map, sum_by-enumerate_from, sum_by-constant, sum_by-agree}
-
--- the raw job of a task of an instance
-abbrev raw_of : ℕ → ℕ → Graph → ℕ × Task → RawJob
-raw_of g k graph t =
-    record { key = Offline g t.0 k; release = release_of graph k; deadline = deadline_of graph k; wcet = t.1.wcet }
+use Rattle.slot_core.proofs.RangeFacts.{GraphFits-from_test}
+use Rattle.demand_test.proofs.SoundSets.{graphs-from_sound}
+use Rattle.slot_core.proofs.SumLemmas.{sum_by-map, sum_by-flat_map, sum_by-enumerate_from, sum_by-constant, sum_by-agree}
 
 -- the slots of the jobs that a graph releases in a cycle
 graph_jobs-slots : (cycle n : ℕ) (i : ℕ × Graph) → sum_by (λ (raw : RawJob). raw.wcet) (graph_jobs cycle n i) ≡ graph_work cycle i.1
@@ -32,7 +27,7 @@ graph_jobs-slots cycle n (g, graph) =
     let count = cycle / graph.period in
     let slots = sum_by (λ (t : Task). t.wcet) graph.tasks in
     let range = range_with_len (n * count) count in
-    let instance = λ (k : ℕ). sum_by-map (λ (raw : RawJob). raw.wcet) (raw_of g k graph) (enumerate_from 0 graph.tasks) ∙ sum_by-enumerate_from (λ (t : Task). t.wcet) 0 graph.tasks in
+    let instance = λ (k : ℕ). sum_by-map (λ (raw : RawJob). raw.wcet) (raw_job g graph k) (enumerate_from 0 graph.tasks) ∙ sum_by-enumerate_from (λ (t : Task). t.wcet) 0 graph.tasks in
     sum_by-flat_map (λ (raw : RawJob). raw.wcet) (instance_jobs g graph) range
     ∙ sum_by-agree (λ k. sum_by (λ (raw : RawJob). raw.wcet) (instance_jobs g graph k)) (λ _. slots) range (λ i d _. instance (get_or range i d))
     ∙ sum_by-constant slots range
@@ -60,19 +55,19 @@ All-flat_map P f (x ∷ xs) each =
 graph_jobs-within : (cycle : ℕ) (i : ℕ × Graph) → graph_in_range i.1 ≡ true → All (λ (raw : RawJob). raw.deadline ≤ cycle) (graph_jobs cycle 0 i)
 graph_jobs-within cycle (g, graph) h =
     let count = cycle / graph.period in
-    let within = (IsGraphInRange-from_test graph h).within in
+    let within = (GraphFits-from_test graph h).within in
     All-flat_map (λ (raw : RawJob). raw.deadline ≤ cycle) (instance_jobs g graph) (range_with_len (0 * count) count) (λ i d low.
     let short : i < count = omega (arith, length-range_with_len (0 * count) count) in
     let place = get_or-range_with_len (0 * count) count i d short in
     let k = get_or (range_with_len (0 * count) count) i d in
     let due : deadline_of graph k ≤ cycle = due_in_cycle cycle k graph within (omega arith) in
-    All-map (λ (raw : RawJob). raw.deadline ≤ cycle) (raw_of g k graph) (enumerate_from 0 graph.tasks) (λ _ _ _. due))
+    All-map (λ (raw : RawJob). raw.deadline ≤ cycle) (raw_job g graph k) (enumerate_from 0 graph.tasks) (λ _ _ _. due))
 
 -- the jobs of the first cycle are due in it
 pub cycle_jobs-within : (set : TaskSet) (cycle : ℕ) → is_sound set ≡ true → All (λ (j : Job). j.dl ≤ cycle) (cycle_jobs set cycle 0)
 cycle_jobs-within set cycle sound =
     let graphs = enumerate_from 0 set.graphs in
-    let each = (IsSoundSet-from_test set sound).graphs in
+    let each = graphs-from_sound set sound in
     let raw = All-flat_map (λ (raw : RawJob). raw.deadline ≤ cycle) (graph_jobs cycle 0) graphs (λ i d low.
     let short : i < length set.graphs = omega (arith, length-enumerate_from 0 set.graphs) in
     let place = get_or-enumerate_from 0 set.graphs i d short in

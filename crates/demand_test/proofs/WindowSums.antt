@@ -14,9 +14,9 @@ use Rattle.slot_core.specs.Sporadics.{sporadic_demand}
 use Rattle.slot_core.specs.Feasible.{declared_within, window_demand, failing_window, first_some, first_failing_from}
 use Rattle.demand_test.specs.Ends.{ending_at, first_end, next_end, IsDue, IsStart, failing_in}
 use Rattle.demand_test.proofs.ArrivalCounts.{sporadic_demand-moved}
-use Rattle.demand_test.proofs.FeasibleLemmas.{fits-from_first_failing}
-use Rattle.demand_test.proofs.FirstSome.{first_some-agree}
-use Rattle.demand_test.proofs.SumLemmas.{sum_by-agree, sum_by-none, sum_by-plus}
+use Rattle.slot_core.proofs.FeasibleLemmas.{fits-from_first_failing}
+use Rattle.slot_core.proofs.FirstSome.{first_some-agree}
+use Rattle.slot_core.proofs.SumLemmas.{sum_by-agree, sum_by-none, sum_by-plus}
 
 -- the declared slots of the jobs whose end is at most b
 ending_by : (Job → ℕ) → List Job → ℕ → ℕ

@@ -11,6 +11,7 @@ use Rattle.std.proofs.Math.Nat.{le-mul_of_pos_right}
 use Rattle.slot_core.specs.declared.TheConstants.{SLOT_LIMIT}
 use Rattle.slot_core.specs.Cycles.{least_common_multiple, first_multiple_above}
 use Rattle.slot_core.specs.Ranges.{is_between}
+use Rattle.slot_core.proofs.RangeFacts.{bounds}
 use Rattle.graph_unroll.proofs.RangeLemmas.{list_all_get_or}
 use Rattle.graph_unroll.specs.Multiples.{multiple_along, times_to_common, is_common, within_limit}
 
@@ -100,11 +101,6 @@ pub length_in_range : {X : Type 0} (f : X → ℕ) (xs : List X) (i : ℕ) (x : 
 length_in_range f xs i x h is all =
     ap (λ y. is_between 1 SLOT_LIMIT (f y)) is ∙ list_all_get_or (λ y. is_between 1 SLOT_LIMIT (f y)) xs i x h (sym (list_all-map (is_between 1 SLOT_LIMIT) f xs) ∙ all)
 
-between : (low high n : ℕ) → is_between low high n ≡ true → (low ≤ n) × (n ≤ high)
-between low high n h =
-    let parts = and_parts (leb low n) (leb n high) h in
-    (leb-true low n parts.0, leb-true n high parts.1)
-
 is_between-from_le : (low high n : ℕ) → low ≤ n → n ≤ high → is_between low high n ≡ true
 is_between-from_le low high n h k = and_from (leb low n) (leb n high) (le-leb low n h) (le-leb n high k)
 
@@ -113,8 +109,8 @@ pub within : (m n next : ℕ) → is_between 1 SLOT_LIMIT m ≡ true → is_betw
 within m n next h k e ns =
     let on = goes_on SLOT_LIMIT (least_common_multiple m n) next (Ok (least_common_multiple m n)) e in
     let same : least_common_multiple m n ≡ next = cc in
-    let low = le-least_common_multiple m n (between 1 SLOT_LIMIT n k).0 in
-    let positive = (between 1 SLOT_LIMIT m h).0 in
+    let low = le-least_common_multiple m n (bounds 1 SLOT_LIMIT n k).0 in
+    let positive = (bounds 1 SLOT_LIMIT m h).0 in
     (is_between-from_le 1 SLOT_LIMIT next (omega arith) (omega arith), rw on.0 (ap (λ a. multiple_along a ns) same))
 
 pub all-append : {X : Type 0} (p : X → Bool) (xs ys : List X) → list_all p (xs ++ ys) ≡ true → (list_all p xs ≡ true) × (list_all p ys ≡ true)
@@ -123,6 +119,6 @@ all-append p xs ys h = and_parts (list_all p xs) (list_all p ys) (sym (list_all-
 -- a multiple within the limit is no less than 1
 pub along-positive : (a : ℕ) (xs : List ℕ) (m : ℕ) → is_between 1 SLOT_LIMIT a ≡ true → list_all (is_between 1 SLOT_LIMIT) xs ≡ true → multiple_along a xs ≡ Ok m → is_between 1 SLOT_LIMIT m ≡ true
 along-positive a xs m h all e =
-    let first = between 1 SLOT_LIMIT a h in
+    let first = bounds 1 SLOT_LIMIT a h in
     let last = along-ok a xs m first.1 e in
     is_between-from_le 1 SLOT_LIMIT m (omega (arith, le-fold a xs all)) last.1

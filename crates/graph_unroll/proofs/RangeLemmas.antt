@@ -12,6 +12,7 @@ use Rattle.slot_core.specs.declared.tasks.Sporadic.{Sporadic}
 use Rattle.slot_core.specs.declared.tasks.TaskSet.{TaskSet}
 use Rattle.slot_core.specs.Cycles.{cycle_lengths}
 use Rattle.slot_core.specs.Ranges.{is_between, is_in_range, graph_in_range, sporadic_in_range}
+use Rattle.slot_core.proofs.RangeFacts.{GraphRanges-from_test, SporadicRanges-from_test, SetRanges-from_test}
 use Rattle.graph_unroll.specs.Multiples.{periods_of, separations_of}
 
 -- a test that holds along a list holds at each item
@@ -25,34 +26,16 @@ list_all-weaker p q weaker (x ∷ xs) h =
     let parts = and_parts (p x) (list_all p xs) h in
     and_from (q x) (list_all q xs) (weaker x parts.0) (list_all-weaker p q weaker xs parts.1)
 
--- the graphs and the sporadic tasks of a set in range are in range
-pub record SetInRange (set : TaskSet) : Type 0 where
-  pub graphs : list_all graph_in_range set.graphs ≡ true
-  pub sporadics : list_all sporadic_in_range set.sporadics ≡ true
-
-pub SetInRange-from_test : (set : TaskSet) → is_in_range set ≡ true → SetInRange set
-SetInRange-from_test set h =
-    let all = and_parts (is_between 1 SOFT_LIMIT set.soft_limit && is_between 1 GRAPH_LIMIT (length set.graphs) && list_all graph_in_range set.graphs && nat_le (length set.sporadics) SPORADIC_LIMIT) (list_all sporadic_in_range set.sporadics) h in
-    let most = and_parts (is_between 1 SOFT_LIMIT set.soft_limit && is_between 1 GRAPH_LIMIT (length set.graphs) && list_all graph_in_range set.graphs) (nat_le (length set.sporadics) SPORADIC_LIMIT) all.0 in
-    let some = and_parts (is_between 1 SOFT_LIMIT set.soft_limit && is_between 1 GRAPH_LIMIT (length set.graphs)) (list_all graph_in_range set.graphs) most.0 in
-    record { graphs = some.1; sporadics = all.1 }
-
-pub period_in_range : (graph : Graph) → graph_in_range graph ≡ true → is_between 1 SLOT_LIMIT graph.period ≡ true
-period_in_range graph h = grind (arith, nat_tests)
-
-pub separation_in_range : (s : Sporadic) → sporadic_in_range s ≡ true → is_between 1 SLOT_LIMIT s.separation ≡ true
-separation_in_range s h = grind (arith, nat_tests)
-
 -- every period and separation of a set in range is
 pub lengths_in_range : (set : TaskSet) → is_in_range set ≡ true → list_all (is_between 1 SLOT_LIMIT) (cycle_lengths set) ≡ true
 lengths_in_range set h =
-    let in_range = SetInRange-from_test set h in
+    let ranges = SetRanges-from_test set h in
     let period = λ (g : Graph). g.period in
     let separation = λ (s : Sporadic). s.separation in
     let test = is_between 1 SLOT_LIMIT in
     list_all-append test (periods_of set.graphs) (separations_of set.sporadics) ∙ and_from _ _
-    (list_all-map test period set.graphs ∙ list_all-weaker graph_in_range (λ g. test (period g)) period_in_range set.graphs in_range.graphs)
-    (list_all-map test separation set.sporadics ∙ list_all-weaker sporadic_in_range (λ s. test (separation s)) separation_in_range set.sporadics in_range.sporadics)
+    (list_all-map test period set.graphs ∙ list_all-weaker graph_in_range (λ g. test (period g)) (λ g in_range. (GraphRanges-from_test g in_range).period) set.graphs ranges.graphs)
+    (list_all-map test separation set.sporadics ∙ list_all-weaker sporadic_in_range (λ s. test (separation s)) (λ s in_range. (SporadicRanges-from_test s in_range).separation) set.sporadics ranges.sporadics)
 
 -- one more number at the end of a range
 pub range_with_len-push : (a n : ℕ) → range_with_len a (suc n) ≡ range_with_len a n ++ (a + n) ∷ []

@@ -8,38 +8,29 @@ use Rattle.slot_core.specs.declared.jobs.Job.{Job}
 use Rattle.slot_core.specs.declared.jobs.Span.{Span}
 use Rattle.slot_core.specs.Demand.{work_between}
 use Rattle.slot_core.specs.Spans.{slack, spans_between}
+use Rattle.slot_core.proofs.ListMembers.{Has, Has-from_Contains}
 use Rattle.spare_capacity.specs.Recurrence.{filled, first_spare, FollowOn, AreConsecutive}
 use Rattle.interval_build.specs.Ends.{AreRising, last_end}
 use Rattle.interval_build.specs.Rows.{rows_between}
 use Rattle.interval_build.proofs.Due.{left_of, work_between-le}
 use Rattle.interval_build.proofs.Capacities.{NoneBetween, capacity_before, capacity_of_last}
 
--- x is one of the ends
-abbrev pub IsAmong : List ℕ → ℕ → Type 0
-IsAmong [] x = ⊥
-IsAmong (e ∷ ends) x = (x ≡ e) ⊎ IsAmong ends x
-
-IsAmong-from_place : (ends : List ℕ) (k x : ℕ) → k < length ends → get_or ends k x ≡ x → IsAmong ends x
-IsAmong-from_place [] k x l e = elim l [ ]
-IsAmong-from_place (y ∷ ends) zero x l e = inl (sym e)
-IsAmong-from_place (y ∷ ends) (suc k) x l e = inr (IsAmong-from_place ends k x (omega arith) e)
-
 -- each job is due by s or at one of the ends
 abbrev pub AreDueAt : List Job → ℕ → List ℕ → Type 0
-AreDueAt jobs s ends = AllByRecursion (λ (j : Job). (j.dl ≤ s) ⊎ IsAmong ends j.dl) jobs
+AreDueAt jobs s ends = AllByRecursion (λ (j : Job). (j.dl ≤ s) ⊎ Has ends j.dl) jobs
 
 pub AreDueAt-from_All : (jobs : List Job) (s : ℕ) (ends : List ℕ) → All (λ (j : Job). Contains ends j.dl) jobs → AreDueAt jobs s ends
 AreDueAt-from_All jobs s ends h =
-    recursion_from_All (λ (j : Job). (j.dl ≤ s) ⊎ IsAmong ends j.dl) jobs
-    (λ k d l. let c = h k d l in inr (IsAmong-from_place ends c.0 (get_or jobs k d).dl c.1 c.2))
+    recursion_from_All (λ (j : Job). (j.dl ≤ s) ⊎ Has ends j.dl) jobs
+    (λ k d l. inr (Has-from_Contains ends (get_or jobs k d).dl (h k d l)))
 
 -- ends that rise from s are above it, and the last is not below it
-IsAmong-above : (s : ℕ) (ends : List ℕ) (x : ℕ) → AreRising s ends → IsAmong ends x → s < x
-IsAmong-above s [] x rising h = elim h [ ]
-IsAmong-above s (e ∷ ends) x rising h =
+Has-above : (s : ℕ) (ends : List ℕ) (x : ℕ) → AreRising s ends → Has ends x → s < x
+Has-above s [] x rising h = elim h [ ]
+Has-above s (e ∷ ends) x rising h =
     ⊎_elim
     (λ same. omega (arith, rising.0))
-    (λ among. let above : e < x = IsAmong-above e ends x rising.1 among in omega (arith, rising.0))
+    (λ among. let above : e < x = Has-above e ends x rising.1 among in omega (arith, rising.0))
     h
 
 pub last_end-above : (s : ℕ) (ends : List ℕ) → AreRising s ends → s ≤ last_end s ends
@@ -51,8 +42,7 @@ last_end-above s (e ∷ ends) rising =
 -- the jobs of the ends are due after the start
 pub AreDueAfter-start : (jobs : List Job) (s : ℕ) (ends : List ℕ) → AreRising s ends → All (λ (j : Job). Contains ends j.dl) jobs → All (λ (j : Job). s < j.dl) jobs
 AreDueAfter-start jobs s ends rising h k d l =
-    let c = h k d l in
-    IsAmong-above s ends (get_or jobs k d).dl rising (IsAmong-from_place ends c.0 (get_or jobs k d).dl c.1 c.2)
+    Has-above s ends (get_or jobs k d).dl rising (Has-from_Contains ends (get_or jobs k d).dl (h k d l))
 
 -- one span on, the jobs due at its end are due by it
 AreDueAt-next : (jobs : List Job) (s e : ℕ) (ends : List ℕ) → s < e → AreDueAt jobs s (e ∷ ends) → AreDueAt jobs e ends
@@ -64,7 +54,7 @@ AreDueAt-next (j ∷ jobs) s e ends l h =
 NoneBetween-ends : (jobs : List Job) (e next : ℕ) (ends : List ℕ) → AreRising next ends → AreDueAt jobs e (next ∷ ends) → NoneBetween jobs e next
 NoneBetween-ends [] e next ends rising h = tt
 NoneBetween-ends (j ∷ jobs) e next ends rising h =
-    (⊎_elim inl (λ among. inr (⊎_elim (λ same. omega arith) (λ later. let above : next < j.dl = IsAmong-above next ends j.dl rising later in omega arith) among)) h.0, NoneBetween-ends jobs e next ends rising h.1)
+    (⊎_elim inl (λ among. inr (⊎_elim (λ same. omega arith) (λ later. let above : next < j.dl = Has-above next ends j.dl rising later in omega arith) among)) h.0, NoneBetween-ends jobs e next ends rising h.1)
 
 add_zero : (z : ℤ) → z +ℤ int_min (pos 0) (pos 0) ≡ z
 add_zero z = omega (arith, ints)

@@ -11,7 +11,7 @@ use Rattle.slot_core.specs.Demand.{work_by}
 use Rattle.slot_core.specs.OfflineJobs.{offline_jobs}
 use Rattle.slot_core.specs.Scenes.{unended, remaining, horizon, points_of, scene_of}
 use Rattle.slot_core.specs.Spans.{spans_between, shown_of}
-use Rattle.slot_core.proofs.ListMembers.{Contains-from_Has, Has-filter, Has-range_with_len}
+use Rattle.slot_core.proofs.ListMembers.{Contains-from_Has, Has-filter, Has-range_with_len, AllByRecursion-from_Has}
 use Rattle.slot_core.proofs.OfflineJobLemmas.{cycle-positive, cycle-at_most}
 use Rattle.interval_build.specs.Ends.{AreRising, last_end}
 use Rattle.cycle_plan.proofs.RisingEnds.{AreRising-filter, length-filter_range}
@@ -23,8 +23,7 @@ use Rattle.plain_replay.specs.Told.{history_at}
 use Rattle.plain_replay.proofs.CurrentStates.{waiting-current}
 use Rattle.plain_replay.proofs.NextStates.{points-history_at, past_now}
 use Rattle.plain_replay.proofs.PointSteps.{points_from}
-use Rattle.plain_replay.proofs.RunSteps.{all-from_among}
-use Rattle.plain_replay.proofs.SameSums.{same-sym}
+use Rattle.slot_core.proofs.SameItems.{same-sym}
 use Rattle.plain_replay.proofs.SetPoints.{is_plan_point, end_of_cycle}
 use Rattle.plain_replay.proofs.SlotHistories.{IsOffline, time_of-history_at, cycles_at, reaches-history_at, kept-history_at, remaining-history_at}
 
@@ -70,7 +69,7 @@ due-current set state offline current =
     All-from_recursion
     (λ (j : Job). Contains state.ends j.dl)
     state.jobs
-    (all-from_among (λ (j : Job). Contains state.ends j.dl) state.jobs λ job at.
+    (AllByRecursion-from_Has (λ (j : Job). Contains state.ends j.dl) state.jobs λ job at.
     let w = waiting-current set state job offline current at in
     let inside = Has-range_with_len (t + 1) (end - t) job.dl (omega (arith, w.later)) (omega (arith, w.later, w.near)) in
     let listed = Has-filter (is_plan_point set) (range_with_len (t + 1) (end - t)) job.dl inside w.point in
@@ -95,7 +94,7 @@ left-current set state offline current =
     let at = time_of-history_at set t in
     let past = past_now t (cycle_of set) (cycle-positive set offline.sound) in
     let room = kept.safe.due end (omega arith) (omega arith) in
-    let near = all-from_among (λ (j : Job). j.dl ≤ end) state.jobs (λ job h. (waiting-current set state job offline current h).near) in
+    let near = AllByRecursion-from_Has (λ (j : Job). j.dl ≤ end) state.jobs (λ job h. (waiting-current set state job offline current h).near) in
     let same : work_by (remaining set (cycle_of set) (history_at set state.time)) end ≡ work_by state.jobs end = current.jobs (λ (j : Job). cond (nat_le j.dl end) j.left 0) in
     let model : work_by (remaining set (cycle_of set) (history_at set state.time)) end ≡ work_by (unended (history_at set state.time) (offline_jobs set (cycle_of set) (cycles_at set state.time))) end = ap (λ js. work_by js end) (remaining-history_at set t offline) in
     omega (arith, all_due state.jobs end near)

@@ -15,15 +15,15 @@ use Rattle.slot_core.specs.Histories.{time_of}
 use Rattle.slot_core.specs.Plans.{PlanParts, IsPlan}
 use Rattle.slot_core.specs.Scenes.{remaining, horizon}
 use Rattle.slot_core.specs.Traces.{ran_entry}
+use Rattle.slot_core.proofs.ListMembers.{Has, AllByRecursion-from_Has}
 use Rattle.slot_core.proofs.ChoiceLemmas.{same_from_order, job_cmp, job_cmp_total}
-use Rattle.slot_core.proofs.HistoryLemmas.{IsAmong}
 use Rattle.slot_core.proofs.KeptHistories.{ran_of, entry-quiet}
 use Rattle.plain_replay.specs.Current.{IsCurrent}
 use Rattle.plain_replay.specs.States.{ReplayState, first_ready}
 use Rattle.plain_replay.specs.Told.{history_at, entry_at}
 use Rattle.plain_replay.proofs.FirstReady.{first-chosen}
-use Rattle.plain_replay.proofs.RunSteps.{AreApart, AreApart-from_order, all-from_among}
-use Rattle.plain_replay.proofs.SameSums.{passes-same, all-same, same-sym}
+use Rattle.plain_replay.proofs.RunSteps.{AreApart, AreApart-from_order}
+use Rattle.slot_core.proofs.SameItems.{passes-same, all-same, same-sym}
 use Rattle.plain_replay.proofs.SetPoints.{feasible-from_plan, is_plan_point}
 use Rattle.plain_replay.proofs.SlotHistories.{IsOffline, time_of-history_at, quiet-history_at, IsWaiting, waiting-remaining, one_due-remaining}
 
@@ -36,11 +36,11 @@ waiting_test : (some later near point : Bool) → some ≡ true → later ≡ tr
 waiting_test some later near point a b c d =
     and_from (some && later && near) point (and_from (some && later) near (and_from some later a b) c) d
 
-pub waiting-current : (set : TaskSet) (state : ReplayState) (job : Job) → IsOffline set → IsCurrent set state → IsAmong job state.jobs → IsWaiting set state.time job
+pub waiting-current : (set : TaskSet) (state : ReplayState) (job : Job) → IsOffline set → IsCurrent set state → Has state.jobs job → IsWaiting set state.time job
 waiting-current set state job offline current at =
     let t = state.time in
     let end = horizon (cycle_of set) t in
-    let each = λ (j : Job) (h : IsAmong j (remaining set (cycle_of set) (history_at set state.time))).
+    let each = λ (j : Job) (h : Has (remaining set (cycle_of set) (history_at set state.time)) j).
     let w = waiting-remaining set t j offline h in
     waiting_test (nat_le 1 j.left) (nat_lt t j.dl) (nat_le j.dl end) (is_plan_point set j.dl) (le-leb 1 j.left w.some) (lt-ltb t j.dl w.later) (le-leb j.dl end w.near) w.point in
     let passes = all-same (λ j. nat_le 1 j.left && nat_lt t j.dl && nat_le j.dl end && is_plan_point set j.dl) (remaining set (cycle_of set) (history_at set state.time)) state.jobs current.jobs each job at in
@@ -50,7 +50,7 @@ waiting-current set state job offline current at =
     record { some = leb-true 1 job.left some; later = ltb-true t job.dl later; near = leb-true job.dl end near; point = point }
 
 -- and no two of them have one key
-own_place : (set : TaskSet) (state : ReplayState) (job : Job) → IsCurrent set state → IsAmong job state.jobs → (own : Job) × IsAmong own (remaining set (cycle_of set) (history_at set state.time)) × (own.dl ≡ job.dl) × (own.key ≡ job.key)
+own_place : (set : TaskSet) (state : ReplayState) (job : Job) → IsCurrent set state → Has state.jobs job → (own : Job) × Has (remaining set (cycle_of set) (history_at set state.time)) own × (own.dl ≡ job.dl) × (own.key ≡ job.key)
 own_place set state job current at =
     let jobs = remaining set (cycle_of set) (history_at set state.time) in
     let m = passes-same (λ j. is_eq (job_cmp j job)) state.jobs jobs job (same-sym jobs state.jobs current.jobs) at (ap is_eq (tied_itself job_cmp_total job)) in
@@ -68,7 +68,7 @@ apart-current set state offline current =
 
 pub some_left-current : (set : TaskSet) (state : ReplayState) → IsOffline set → IsCurrent set state → AllByRecursion (λ (j : Job). 1 ≤ j.left) state.jobs
 some_left-current set state offline current =
-    all-from_among (λ (j : Job). 1 ≤ j.left) state.jobs (λ job at. (waiting-current set state job offline current at).some)
+    AllByRecursion-from_Has (λ (j : Job). 1 ≤ j.left) state.jobs (λ job at. (waiting-current set state job offline current at).some)
 
 -- the first job of the list that may run is the one that runs
 pub entry-current : (set : TaskSet) (state : ReplayState) → IsOffline set → IsCurrent set state → entry_at set state.time ≡ ran_entry (first_ready state.time state.jobs)

@@ -8,8 +8,8 @@ use Rattle.slot_core.specs.Plans.{AreInDeadlineOrder, PlanParts, IsPlan}
 use Rattle.cycle_plan.proofs.DeadlineOrder.{AllByRecursion-append, AreInDeadlineOrder-append, AreInDeadlineOrder-moved}
 use Rattle.cycle_plan.proofs.MovedJobs.{all_fit, moved-permutation, moved-due_after, moved-due_by}
 use Rattle.cycle_plan.proofs.PlanFacts.{AreFirstJobs-from_plan}
-use Rattle.cycle_plan.proofs.SpanSums.{HasSameSums-from_permutation}
-use Rattle.plain_replay.specs.Current.{HaveSameSums}
+use Rattle.slot_core.proofs.SameItems.{same-from_permutation}
+use Rattle.slot_core.specs.Matches.{HaveSameItems}
 use Rattle.plain_replay.specs.States.{jobs_in_cycle}
 
 -- by the cycle of the set
@@ -17,15 +17,15 @@ jobs_in_cycle-is : (plan : PlanParts) (n : ℕ) → IsPlan plan → map (moved_j
 jobs_in_cycle-is plan n is_plan = ap (λ c. map (moved_job plan.tasks c n) plan.jobs) (sym is_plan.cycle)
 
 -- the plan's jobs in cycle n are the jobs of that cycle
-pub jobs_in_cycle-same : (plan : PlanParts) (n : ℕ) → IsPlan plan → HaveSameSums (cycle_jobs plan.tasks (cycle_of plan.tasks) n) (jobs_in_cycle plan n)
+pub jobs_in_cycle-same : (plan : PlanParts) (n : ℕ) → IsPlan plan → HaveSameItems (cycle_jobs plan.tasks (cycle_of plan.tasks) n) (jobs_in_cycle plan n)
 jobs_in_cycle-same plan n is_plan =
     let jobs = cycle_jobs plan.tasks (cycle_of plan.tasks) n in
     let these = AreFirstJobs-from_plan plan is_plan in
     let listed = moved-permutation plan.tasks plan.jobs n these.sound these.feasible these.listed in
     subst
-    (HaveSameSums jobs)
+    (HaveSameItems jobs)
     (jobs_in_cycle-is plan n is_plan)
-    (HasSameSums-from_permutation jobs (map (moved_job plan.tasks (cycle_of plan.tasks) n) plan.jobs) listed)
+    (same-from_permutation jobs (map (moved_job plan.tasks (cycle_of plan.tasks) n) plan.jobs) listed)
 
 -- jobs in deadline order that are due by m
 pub record IsUpTo (m : ℕ) (jobs : List Job) : Type 0 where

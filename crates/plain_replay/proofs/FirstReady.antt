@@ -16,24 +16,17 @@ use Rattle.slot_core.specs.Choice.{earlier_of, earliest, ready}
 use Rattle.slot_core.specs.Plans.{AreInDeadlineOrder}
 use Rattle.slot_core.proofs.ChoiceLemmas.{same_from_key, job_cmp, job_cmp_total, IsNotAfter, IsNotAfter-from_earlier, IsEarliest, IsEarliest-from_earliest}
 use Rattle.slot_core.proofs.FaultLemmas.{find-None}
-use Rattle.slot_core.proofs.HistoryLemmas.{IsAmong, Contains-from_among, filter-IsAmong, IsAmong-filter}
 use Rattle.slot_core.proofs.KeptHistories.{ran_of}
-use Rattle.slot_core.proofs.ListMembers.{Has-from_Contains}
-use Rattle.plain_replay.specs.Current.{HaveSameSums}
+use Rattle.slot_core.proofs.ListMembers.{Has, Has-filter, Has-filter_passes, AllByRecursion-at_Has}
+use Rattle.slot_core.specs.Matches.{HaveSameItems}
 use Rattle.plain_replay.specs.States.{first_ready}
-use Rattle.plain_replay.proofs.SameSums.{same-sym, passes-same}
-
--- a job of a list in which the first goes before all others
-pub all_among : (P : Job → Type 0) (jobs : List Job) (job : Job) → AllByRecursion P jobs → IsAmong job jobs → P job
-all_among P [] job all at = absurd at
-all_among P (j ∷ jobs) job all (inl e) = rw e all.0
-all_among P (j ∷ jobs) job all (inr at) = all_among P jobs job all.1 at
+use Rattle.slot_core.proofs.SameItems.{same-sym, passes-same}
 
 -- the first job of an ordered list that passes goes after none that pass
 record IsFirst (p : Job → Bool) (jobs : List Job) (job : Job) : Type 0 where
-  among : IsAmong job jobs
+  among : Has jobs job
   passes : p job ≡ true
-  first : (other : Job) → IsAmong other jobs → p other ≡ true → IsNotAfter job other
+  first : (other : Job) → Has jobs other → p other ≡ true → IsNotAfter job other
 
 first_found : (p : Job → Bool) (jobs : List Job) (job : Job) → AreInDeadlineOrder jobs → find p jobs ≡ Some job → IsFirst p jobs job
 first_found p [] job ordered e = cc
@@ -41,14 +34,14 @@ first_found p (j ∷ jobs) job ordered e = by_test (p j) refl e (first_found p j
   where
     by_test : (b : Bool) → p j ≡ b → cond b (Some j) (find p jobs) ≡ Some job → (find p jobs ≡ Some job → IsFirst p jobs job) → IsFirst p (j ∷ jobs) job
     by_test true here found later =
-        let same : job ≡ j = cc in
+        let same : j ≡ job = cc in
         record {
           among = inl same;
-          passes = ap p same ∙ here;
+          passes = ap p (sym same) ∙ here;
           first = λ other at other_passes.
               elim at [
-                | inl is ↦ rw (same, is) (ap is_gt (tied_itself job_cmp_total j))
-                | inr i ↦ rw same (IsNotAfter-from_earlier j other (all_among (λ o. is_earlier j o ≡ true) jobs other ordered.0 i))
+                | inl is ↦ rw (sym same, sym is) (ap is_gt (tied_itself job_cmp_total j))
+                | inr i ↦ rw (sym same) (IsNotAfter-from_earlier j other (AllByRecursion-at_Has (λ o. is_earlier j o ≡ true) jobs other ordered.0 i))
               ];
         }
     by_test false here found later =
@@ -58,7 +51,7 @@ first_found p (j ∷ jobs) job ordered e = by_test (p j) refl e (first_found p j
           passes = rest.passes;
           first = λ other at other_passes.
               elim at [
-                | inl is ↦ absurd (both_ways (p j) here (sym (ap p is) ∙ other_passes))
+                | inl is ↦ absurd (both_ways (p j) here (ap p is ∙ other_passes))
                 | inr i ↦ rest.first other i other_passes
               ];
         }
@@ -72,7 +65,7 @@ earliest_of_some a (j ∷ js) e = by_test (is_earlier j a) e (earliest_of_some j
     by_test true none taken passed = taken none
     by_test false none taken passed = passed none
 
-earliest_of : (jobs : List Job) (job : Job) → IsAmong job jobs → earliest jobs ≡ None → ⊥
+earliest_of : (jobs : List Job) (job : Job) → Has jobs job → earliest jobs ≡ None → ⊥
 earliest_of [] job at e = absurd at
 earliest_of (j ∷ js) job at e = earliest_of_some j js e
 
@@ -94,7 +87,7 @@ one_key a b after before =
     same_from_key a.key b.key (ap is_eq keys)
 
 -- the job of the other list that stands where this one stands, and may run too
-twin : (t : ℕ) (xs ys : List Job) (job : Job) → HaveSameSums xs ys → IsAmong job xs → nat_le job.est t ≡ true → (other : Job) × IsAmong other ys × (nat_le other.est t ≡ true) × (job_cmp other job ≡ Equal)
+twin : (t : ℕ) (xs ys : List Job) (job : Job) → HaveSameItems xs ys → Has xs job → nat_le job.est t ≡ true → (other : Job) × Has ys other × (nat_le other.est t ≡ true) × (job_cmp other job ≡ Equal)
 twin t xs ys job same at ready_now =
     let itself : is_eq (job_cmp job job) ≡ true = ap is_eq (tied_itself job_cmp_total job) in
     let m = passes-same (λ (j : Job). nat_le j.est t && is_eq (job_cmp j job)) xs ys job same at (and_from (nat_le job.est t) (is_eq (job_cmp job job)) ready_now itself) in
@@ -102,34 +95,34 @@ twin t xs ys job same at ready_now =
     (m.0, m.1, parts.0, (Equal-is (job_cmp m.0 job)).0 parts.1)
 
 -- so the two have one key
-same_choice : (t : ℕ) (xs ys : List Job) (best first : Job) → HaveSameSums xs ys → IsEarliest (ready t xs) best → IsFirst (λ (j : Job). nat_le j.est t) ys first → best.key ≡ first.key
+same_choice : (t : ℕ) (xs ys : List Job) (best first : Job) → HaveSameItems xs ys → IsEarliest (ready t xs) best → IsFirst (λ (j : Job). nat_le j.est t) ys first → best.key ≡ first.key
 same_choice t xs ys best first same earliest_one found =
     let may = λ (j : Job). nat_le j.est t in
-    let own = filter-IsAmong may xs best earliest_one.among in
+    let own = Has-filter_passes may xs best earliest_one.among in
     let m = twin t ys xs first (same-sym xs ys same) found.among found.passes in
-    let j = twin t xs ys best same own.1 own.0 in
+    let j = twin t xs ys best same own.0 own.1 in
     let after : IsNotAfter best first =
-    ap is_gt (sym (alike_right job_cmp_total m.0 first best m.3)) ∙ earliest_one.first m.0 (IsAmong-filter may xs m.0 m.2 m.1) in
+    ap is_gt (sym (alike_right job_cmp_total m.0 first best m.3)) ∙ earliest_one.first m.0 (Has-filter may xs m.0 m.1 m.2) in
     let before : IsNotAfter first best =
     ap is_gt (sym (alike_right job_cmp_total j.0 best first j.3)) ∙ found.first j.0 j.1 j.2 in
     one_key best first after before
 
 -- the first job of the ordered list that may run is the one that runs
-pub first-chosen : (t : ℕ) (xs ys : List Job) → HaveSameSums xs ys → AreInDeadlineOrder ys → ran_of (earliest (ready t xs)) ≡ first_ready t ys
+pub first-chosen : (t : ℕ) (xs ys : List Job) → HaveSameItems xs ys → AreInDeadlineOrder ys → ran_of (earliest (ready t xs)) ≡ first_ready t ys
 first-chosen t xs ys same ordered = go (earliest (ready t xs)) (find (λ (j : Job). nat_le j.est t) ys) refl refl
   where
     go : (chosen found : Option Job) → earliest (ready t xs) ≡ chosen → find (λ (j : Job). nat_le j.est t) ys ≡ found → ran_of chosen ≡ option_map_or (λ (j : Job). RanKey j.key) found RanIdle
     go None None e f = refl
     go (Some best) None e f =
         let most = IsEarliest-from_earliest (ready t xs) best e in
-        let own = filter-IsAmong (λ (j : Job). nat_le j.est t) xs best most.among in
-        let m = twin t xs ys best same own.1 own.0 in
-        let fails = find-None (λ (j : Job). nat_le j.est t) ys m.0 f (Has-from_Contains ys m.0 (Contains-from_among ys m.0 m.1)) in
+        let own = Has-filter_passes (λ (j : Job). nat_le j.est t) xs best most.among in
+        let m = twin t xs ys best same own.0 own.1 in
+        let fails = find-None (λ (j : Job). nat_le j.est t) ys m.0 f m.1 in
         absurd (both_ways (nat_le m.0.est t) fails m.2)
     go None (Some first) e f =
         let found = first_found (λ (j : Job). nat_le j.est t) ys first ordered f in
         let m = twin t ys xs first (same-sym xs ys same) found.among found.passes in
-        absurd (earliest_of (ready t xs) m.0 (IsAmong-filter (λ (j : Job). nat_le j.est t) xs m.0 m.2 m.1) e)
+        absurd (earliest_of (ready t xs) m.0 (Has-filter (λ (j : Job). nat_le j.est t) xs m.0 m.1 m.2) e)
     go (Some best) (Some first) e f =
         let most = IsEarliest-from_earliest (ready t xs) best e in
         let found = first_found (λ (j : Job). nat_le j.est t) ys first ordered f in

@@ -8,7 +8,6 @@ pub mod PlanItems
 pub mod PointSteps
 pub mod ReplayParts
 pub mod RunSteps
-pub mod SameSums
 pub mod SetPoints
 pub mod SlotHistories
 pub mod SlotSteps

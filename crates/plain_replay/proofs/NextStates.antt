@@ -12,17 +12,19 @@ use Rattle.slot_core.specs.OfflineJobs.{cycle_jobs, offline_jobs}
 use Rattle.slot_core.specs.Plans.{PlanParts, IsPlan}
 use Rattle.slot_core.specs.Scenes.{unended, remaining, horizon, points_of}
 use Rattle.slot_core.specs.Steps.{after_slot}
+use Rattle.slot_core.proofs.ListMembers.{AllByRecursion-from_Has}
 use Rattle.slot_core.proofs.OfflineJobLemmas.{cycle-positive}
 use Rattle.cycle_plan.proofs.PlanSpans.{remaining-start, points_of-start}
 use Rattle.cycle_plan.proofs.RangeFilters.{filter-parts}
-use Rattle.plain_replay.specs.Current.{HaveSameSums, IsCurrent}
+use Rattle.slot_core.specs.Matches.{HaveSameItems}
+use Rattle.plain_replay.specs.Current.{IsCurrent}
 use Rattle.plain_replay.specs.States.{ReplayState, first_ready, after_first, ends_after, jobs_in_cycle, ends_in_cycle, with_cycle, first_state, with_next_cycle, state_after, next_state}
 use Rattle.plain_replay.specs.Told.{history_at, entry_at}
 use Rattle.plain_replay.proofs.CurrentStates.{waiting-current, apart-current, some_left-current, entry-current, offline-from_plan}
 use Rattle.plain_replay.proofs.CycleOrder.{IsUpTo, with_cycle-ordered, jobs_in_cycle-same}
 use Rattle.plain_replay.proofs.PointSteps.{points_from, ends_after-points}
-use Rattle.plain_replay.proofs.RunSteps.{after_first-all, after_first-ordered, all-from_among, after_first-run}
-use Rattle.plain_replay.proofs.SameSums.{same-append, same-after_run}
+use Rattle.plain_replay.proofs.RunSteps.{after_first-all, after_first-ordered, after_first-run}
+use Rattle.slot_core.proofs.SameItems.{same-append, same-after_run}
 use Rattle.plain_replay.proofs.SetPoints.{is_plan_point, points_of-quiet, ends_in_cycle-points}
 use Rattle.plain_replay.proofs.SlotHistories.{IsOffline, time_of-history_at, quiet-history_at, remaining-history_at, cycles_at, unended-after_slot, unended-next_cycle, unended-append}
 
@@ -59,7 +61,7 @@ IsCurrent-first plan is_plan none =
     let up_to_2 = with_cycle-ordered plan 1 ([] ++ own 0) is_plan up_to_1 in
     let up_to_3 = with_cycle-ordered plan 2 ([] ++ own 0 ++ own 1) is_plan up_to_2 in
     record {
-      jobs = subst (λ js. HaveSameSums js (first_state plan).jobs) (sym (three_cycles plan.tasks (offline-from_plan plan is_plan none))) three;
+      jobs = subst (λ js. HaveSameItems js (first_state plan).jobs) (sym (three_cycles plan.tasks (offline-from_plan plan is_plan none))) three;
       ordered = up_to_3.ordered;
       ends = first_ends plan is_plan;
     }
@@ -88,12 +90,12 @@ next_slot t cycle some = by_order (cases_lt (suc (t % cycle)) cycle)
         whole
 
 -- what is the same up to order stays so in a slot
-same-after_slot : (ran : Ran) (xs ys : List Job) → HaveSameSums xs ys → HaveSameSums (after_slot ran xs) (after_slot ran ys)
+same-after_slot : (ran : Ran) (xs ys : List Job) → HaveSameItems xs ys → HaveSameItems (after_slot ran xs) (after_slot ran ys)
 same-after_slot RanIdle xs ys same = same
 same-after_slot (RanKey key) xs ys same = same-after_run key xs ys same
 
 -- the jobs after a slot, of the cycles that counted before it
-slot-jobs : (set : TaskSet) (state : ReplayState) → IsOffline set → IsCurrent set state → HaveSameSums (unended (history_at set (suc state.time)) (offline_jobs set (cycle_of set) (cycles_at set state.time))) (after_first state.time state.jobs)
+slot-jobs : (set : TaskSet) (state : ReplayState) → IsOffline set → IsCurrent set state → HaveSameItems (unended (history_at set (suc state.time)) (offline_jobs set (cycle_of set) (cycles_at set state.time))) (after_first state.time state.jobs)
 unfolding history_at entry_at
 slot-jobs set state offline current =
     let t = state.time in
@@ -102,18 +104,18 @@ slot-jobs set state offline current =
     let jobs = offline_jobs set (cycle_of set) (cycles_at set state.time) in
     let code = after_first-run t state.jobs (apart-current set state offline current) (some_left-current set state offline current) in
     let model : unended (history_at set (suc state.time)) jobs ≡ after_slot ran (unended h jobs) = ap (λ what. unended (what ∷ h) jobs) (entry-current set state offline current) ∙ unended-after_slot ran h jobs in
-    let before : HaveSameSums (unended h jobs) state.jobs = subst (λ js. HaveSameSums js state.jobs) (remaining-history_at set t offline) current.jobs in
+    let before : HaveSameItems (unended h jobs) state.jobs = subst (λ js. HaveSameItems js state.jobs) (remaining-history_at set t offline) current.jobs in
     subst
-    (λ js. HaveSameSums js (after_first state.time state.jobs))
+    (λ js. HaveSameItems js (after_first state.time state.jobs))
     (sym model)
-    (subst (HaveSameSums (after_slot ran (unended h jobs))) (sym code) (same-after_slot ran (unended h jobs) state.jobs before))
+    (subst (HaveSameItems (after_slot ran (unended h jobs))) (sym code) (same-after_slot ran (unended h jobs) state.jobs before))
 
 slot-ordered : (set : TaskSet) (state : ReplayState) → IsOffline set → IsCurrent set state → IsUpTo (cycles_at set state.time * cycle_of set) (after_first state.time state.jobs)
 slot-ordered set state offline current =
     let end = cycles_at set state.time * cycle_of set in
     record {
       ordered = after_first-ordered state.time state.jobs current.ordered;
-      due = after_first-all (λ (j : Job). j.dl ≤ end) state.time state.jobs (λ j n low. low) (all-from_among (λ (j : Job). j.dl ≤ end) state.jobs (λ job at. (waiting-current set state job offline current at).near));
+      due = after_first-all (λ (j : Job). j.dl ≤ end) state.time state.jobs (λ j n low. low) (AllByRecursion-from_Has (λ (j : Job). j.dl ≤ end) state.jobs (λ job at. (waiting-current set state job offline current at).near));
     }
 
 -- the points after a time, by the test for one
@@ -143,7 +145,7 @@ IsCurrent-inside plan state offline current same_cycle =
     let jobs : remaining set cycle h ≡ unended h (offline_jobs set cycle (cycles_at set t)) = remaining-history_at set (suc t) offline ∙ ap (λ d. unended h (offline_jobs set cycle (d + 3))) same_cycle in
     let ends : points_of set cycle h ≡ points_from (is_plan_point set) (suc t + 1) (horizon cycle t - suc t) = points-history_at set (suc t) offline ∙ ap (λ d. points_from (is_plan_point set) (suc t + 1) ((d + 3) * cycle - suc t)) same_cycle in
     record {
-      jobs = subst (λ js. HaveSameSums js (after_first state.time state.jobs)) (sym jobs) (slot-jobs set state offline current);
+      jobs = subst (λ js. HaveSameItems js (after_first state.time state.jobs)) (sym jobs) (slot-jobs set state offline current);
       ordered = (slot-ordered set state offline current).ordered;
       ends = slot-ends set state offline current ∙ sym ends;
     }
@@ -172,7 +174,7 @@ IsCurrent-turn plan state is_plan offline current next_cycle start =
     let further : horizon cycle (suc t) ≡ horizon cycle t + cycle = further_now t cycle next_cycle in
     let reach : horizon cycle t - suc t + cycle ≡ horizon cycle (suc t) - suc t = omega arith in
     record {
-      jobs = subst (λ js. HaveSameSums js (old ++ jobs_in_cycle plan n)) (sym jobs) same;
+      jobs = subst (λ js. HaveSameItems js (old ++ jobs_in_cycle plan n)) (sym jobs) same;
       ordered = (with_cycle-ordered plan n old is_plan (slot-ordered set state offline current)).ordered;
       ends = ends ∙ (ap (points_from (is_plan_point set) (suc t + 1)) reach ∙ sym (points-history_at set (suc t) offline));
     }

@@ -15,10 +15,9 @@ use Rattle.slot_core.specs.Plans.{AreInDeadlineOrder}
 use Rattle.slot_core.specs.Steps.{after_run, after_slot}
 use Rattle.slot_core.proofs.ChoiceLemmas.{same_from_key, job_cmp_total}
 use Rattle.slot_core.proofs.DistinctKeys.{IsApart}
-use Rattle.slot_core.proofs.HistoryLemmas.{IsAmong, IsAmong-from_contains, Contains-from_among}
-use Rattle.slot_core.proofs.ListMembers.{Has, Has-from_Contains, Contains-from_Has, AllByRecursion-from_Has}
+use Rattle.slot_core.proofs.ListMembers.{Has, AllByRecursion-at_Has}
+use Rattle.slot_core.proofs.ListTests.{find-Some}
 use Rattle.plain_replay.specs.States.{first_ready, after_first}
-use Rattle.plain_replay.proofs.FirstReady.{all_among}
 
 -- what holds of each job, and not of its slots left, holds of each after the slot
 pub after_first-all : (P : Job → Type 0) (t : ℕ) (jobs : List Job) → ((j : Job) (n : ℕ) → P j → P (record j { left = n })) → AllByRecursion P jobs → AllByRecursion P (after_first t jobs)
@@ -42,11 +41,6 @@ after_first-ordered t (j ∷ jobs) ordered =
     by_tests true false rest first = ordered.1
     by_tests false more rest first = (first, rest)
 
--- what holds of each job holds of all
-pub all-from_among : (P : Job → Type 0) (jobs : List Job) → ((job : Job) → IsAmong job jobs → P job) → AllByRecursion P jobs
-all-from_among P jobs each =
-    AllByRecursion-from_Has P jobs (λ job at. each job (IsAmong-from_contains jobs job (Contains-from_Has jobs job at)))
-
 -- no two jobs have one key
 abbrev pub AreApart : List Job → Type 0
 AreApart = IsApart (λ (j : Job). j.key)
@@ -58,12 +52,11 @@ not_earlier_itself a b key due e =
     let level : is_earlier a b ≡ false = ap (λ o. is_lt (slice_cmp nat_cmp (deadline_order a) o)) (sym same) ∙ ap is_lt (tied_itself job_cmp_total a) in
     both_ways (is_earlier a b) level e
 
-pub AreApart-from_order : (jobs : List Job) → AreInDeadlineOrder jobs → ((a b : Job) → IsAmong a jobs → IsAmong b jobs → a.key ≡ b.key → a.dl ≡ b.dl) → AreApart jobs
+pub AreApart-from_order : (jobs : List Job) → AreInDeadlineOrder jobs → ((a b : Job) → Has jobs a → Has jobs b → a.key ≡ b.key → a.dl ≡ b.dl) → AreApart jobs
 AreApart-from_order [] ordered due = tt
 AreApart-from_order (j ∷ jobs) ordered due = (
   λ o at key.
-      let later = IsAmong-from_contains jobs o (Contains-from_Has jobs o at) in
-      not_earlier_itself j o key (due j o (inl refl) (inr later) key) (all_among (λ x. is_earlier j x ≡ true) jobs o ordered.0 later),
+      not_earlier_itself j o key (due j o (inl refl) (inr at) key) (AllByRecursion-at_Has (λ x. is_earlier j x ≡ true) jobs o ordered.0 at),
   AreApart-from_order jobs ordered.1 (λ a b at_a at_b. due a b (inr at_a) (inr at_b)),
 )
 
@@ -86,15 +79,6 @@ run_of_first j jobs rest =
 run_of_later : (key : Key) (j : Job) (jobs : List Job) → same_key j.key key ≡ false → 1 ≤ j.left → after_run key (j ∷ jobs) ≡ j ∷ after_run key jobs
 run_of_later key j jobs differs some = grind (arith, nat_tests)
 
--- what is found is one of the list
-pub found-among : (p : Job → Bool) (jobs : List Job) (job : Job) → find p jobs ≡ Some job → IsAmong job jobs
-found-among p [] job e = cc
-found-among p (j ∷ jobs) job e = by_test (p j) e (found-among p jobs job)
-  where
-    by_test : (b : Bool) → cond b (Some j) (find p jobs) ≡ Some job → (find p jobs ≡ Some job → IsAmong job jobs) → IsAmong job (j ∷ jobs)
-    by_test true e later = inl cc
-    by_test false e later = inr (later e)
-
 -- the code's slot of a list is the model's
 pub after_first-run : (t : ℕ) (jobs : List Job) → AreApart jobs → AllByRecursion (λ (j : Job). 1 ≤ j.left) jobs → after_first t jobs ≡ after_slot (first_ready t jobs) jobs
 after_first-run t [] apart some = refl
@@ -105,7 +89,7 @@ after_first-run t (j ∷ jobs) apart some =
     by_test true found e rest = sym (run_of_first j jobs (run_of_another j.key jobs apart.0 some.1))
     by_test false None e rest = ap (λ js. j ∷ js) rest
     by_test false (Some o) e rest =
-        let found = Contains-from_among jobs o (found-among (λ (o : Job). nat_le o.est t) jobs o e) in
-        let other = apart.0 o (Has-from_Contains jobs o found) in
+        let found = find-Some (λ (o : Job). nat_le o.est t) jobs o e in
+        let other = apart.0 o found.0 in
         let differs = false_from_ne_true (same_key j.key o.key) λ same. other (same_from_key j.key o.key same) in
         ap (λ js. j ∷ js) rest ∙ sym (run_of_later o.key j jobs differs some.0)

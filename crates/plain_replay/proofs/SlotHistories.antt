@@ -17,13 +17,12 @@ use Rattle.slot_core.specs.Scenes.{unended, remaining, horizon, scene_of}
 use Rattle.slot_core.specs.Steps.{after_slot}
 use Rattle.slot_core.specs.Traces.{ran_entry}
 use Rattle.slot_core.proofs.CycleWindows.{IsOfCycle-from_cycle}
-use Rattle.slot_core.proofs.HistoryLemmas.{IsAmong, Contains-from_among, unended_own, unended_have_left, unended-fresh, after_run-unended}
+use Rattle.slot_core.proofs.HistoryLemmas.{unended_own, unended_have_left, unended-fresh, after_run-unended}
 use Rattle.slot_core.proofs.KeptHistories.{Reaches, IsAlwaysKept, remaining-quiet, due_now, time_of-ran, kept-after_entry, kept-at_start}
-use Rattle.slot_core.proofs.ListMembers.{Has-from_Contains}
+use Rattle.slot_core.proofs.ListMembers.{Has-from_Contains, Has, Contains-from_Has, AllByRecursion-at_Has}
 use Rattle.slot_core.proofs.OfflineWindows.{IsOfCycle-from_offline, same_offline-from_key}
 use Rattle.slot_core.proofs.ServingHistories.{IsQuiet, IsQuiet-from_serving, not_run-early}
 use Rattle.plain_replay.specs.Told.{history_at}
-use Rattle.plain_replay.proofs.FirstReady.{all_among}
 use Rattle.plain_replay.proofs.SetPoints.{is_plan_point, deadline-point}
 
 -- a set that is replayed: sound and feasible, without sporadic tasks
@@ -78,40 +77,40 @@ pub record IsWaiting (set : TaskSet) (t : ℕ) (job : Job) : Type 0 where
   pub near : job.dl ≤ horizon (cycle_of set) t
   pub point : is_plan_point set job.dl ≡ true
 
-pub waiting-remaining : (set : TaskSet) (n : ℕ) (job : Job) → IsOffline set → IsAmong job (remaining set (cycle_of set) (history_at set n)) → IsWaiting set n job
+pub waiting-remaining : (set : TaskSet) (n : ℕ) (job : Job) → IsOffline set → Has (remaining set (cycle_of set) (history_at set n)) job → IsWaiting set n job
 waiting-remaining set n job offline at =
     let h = history_at set n in
     let cycles = cycles_at set n in
     let jobs = offline_jobs set (cycle_of set) (cycles_at set n) in
-    let listed : IsAmong job (unended h jobs) = subst (IsAmong job) (remaining-history_at set n offline) at in
+    let listed : Has (unended h jobs) job = subst (λ js. Has js job) (remaining-history_at set n offline) at in
     let own = unended_own h jobs job listed in
-    let planned = Contains-from_among jobs own.0 own.1.listed in
+    let planned = Contains-from_Has jobs own.0 own.1.listed in
     let reaches = reaches-history_at set n cycles (omega arith) in
     let early = due_now set h cycles offline.sound reaches (kept-history_at set n offline cycles reaches) own.0 planned own.1.runs in
     let of_cycle = IsOfCycle-from_offline set cycles own.0 offline.sound planned in
     let due : job.dl ≡ own.0.dl = ap (λ (j : Job). j.dl) own.1.same in
     let end : (of_cycle.0 + 1) * cycle_of set ≤ cycles_at set n * cycle_of set = mul-le-mul_right (cycle_of set) (omega (arith, of_cycle.1)) in
     record {
-      some = all_among (λ (j : Job). 1 ≤ j.left) (unended h jobs) job (recursion_from_All (λ (j : Job). 1 ≤ j.left) (unended h jobs) (unended_have_left h jobs)) listed;
+      some = AllByRecursion-at_Has (λ (j : Job). 1 ≤ j.left) (unended h jobs) job (recursion_from_All (λ (j : Job). 1 ≤ j.left) (unended h jobs) (unended_have_left h jobs)) listed;
       later = omega (arith, time_of-history_at set n);
       near = omega (arith, of_cycle.2.ends);
       point = rw due (offline-point set cycles own.0 offline planned);
     }
 
 -- those of one key have one deadline
-pub one_due-remaining : (set : TaskSet) (n : ℕ) (a b : Job) → IsOffline set → IsAmong a (remaining set (cycle_of set) (history_at set n)) → IsAmong b (remaining set (cycle_of set) (history_at set n)) → a.key ≡ b.key → a.dl ≡ b.dl
+pub one_due-remaining : (set : TaskSet) (n : ℕ) (a b : Job) → IsOffline set → Has (remaining set (cycle_of set) (history_at set n)) a → Has (remaining set (cycle_of set) (history_at set n)) b → a.key ≡ b.key → a.dl ≡ b.dl
 one_due-remaining set n a b offline at_a at_b key =
     let h = history_at set n in
     let cycles = cycles_at set n in
     let jobs = offline_jobs set (cycle_of set) (cycles_at set n) in
     let same = remaining-history_at set n offline in
-    let x = unended_own h jobs a (subst (IsAmong a) same at_a) in
-    let y = unended_own h jobs b (subst (IsAmong b) same at_b) in
+    let x = unended_own h jobs a (subst (λ js. Has js a) same at_a) in
+    let y = unended_own h jobs b (subst (λ js. Has js b) same at_b) in
     let key_x = ap (λ (j : Job). j.key) x.1.same in
     let key_y = ap (λ (j : Job). j.key) y.1.same in
     let due_x = ap (λ (j : Job). j.dl) x.1.same in
     let due_y = ap (λ (j : Job). j.dl) y.1.same in
-    let one = same_offline-from_key set cycles x.0 y.0 (Contains-from_among jobs x.0 x.1.listed) (Contains-from_among jobs y.0 y.1.listed) (sym key_x ∙ (key ∙ key_y)) in
+    let one = same_offline-from_key set cycles x.0 y.0 (Contains-from_Has jobs x.0 x.1.listed) (Contains-from_Has jobs y.0 y.1.listed) (sym key_x ∙ (key ∙ key_y)) in
     due_x ∙ (ap (λ (j : Job). j.dl) one ∙ sym due_y)
 
 -- a slot changes the unended jobs as it changes a list of jobs
@@ -127,7 +126,7 @@ unended-next_cycle set n cycles offline le early =
     let kept = kept-history_at set n offline (suc cycles) (reaches-history_at set n (suc cycles) le) in
     let quiet = IsQuiet-from_serving kept.serving in
     unended-fresh h jobs λ job at.
-    let listed = Contains-from_among jobs job at in
+    let listed = Contains-from_Has jobs job at in
     let of_cycle = IsOfCycle-from_cycle set cycles job offline.sound listed in
     record {
       none = not_run-early kept.serving job (Contains-append_right (offline_jobs set (cycle_of set) cycles) jobs job listed) (omega (arith, of_cycle.starts, time_of-history_at set n));

@@ -18,7 +18,8 @@ use Rattle.slot_core.specs.OfflineJobs.{tasks_of, offline_jobs}
 use Rattle.slot_core.specs.Scenes.{remaining}
 use Rattle.slot_core.specs.Texts.{entry_line}
 use Rattle.slot_core.specs.Traces.{ran_entry, shown_entry}
-use Rattle.slot_core.proofs.HistoryLemmas.{IsAmong, Contains-from_among, unended_own}
+use Rattle.slot_core.proofs.ListMembers.{Has, Contains-from_Has}
+use Rattle.slot_core.proofs.HistoryLemmas.{unended_own}
 use Rattle.slot_core.proofs.OfflineJobLemmas.{IsOfflineJob, offline_from_cycles}
 use Rattle.plain_replay.specs.Current.{IsCurrent}
 use Rattle.plain_replay.specs.Shown.{told_line}
@@ -26,8 +27,8 @@ use Rattle.plain_replay.specs.States.{ReplayState, first_ready}
 use Rattle.plain_replay.specs.Told.{history_at, entry_at, slot_line, told}
 use Rattle.plain_replay.proofs.CurrentSpans.{shown-current}
 use Rattle.plain_replay.proofs.CurrentStates.{some_left-current, entry-current}
-use Rattle.plain_replay.proofs.RunSteps.{found-among}
-use Rattle.plain_replay.proofs.SameSums.{all-same}
+use Rattle.slot_core.proofs.ListTests.{find-Some}
+use Rattle.slot_core.proofs.SameItems.{all-same}
 use Rattle.plain_replay.proofs.SlotHistories.{IsOffline, cycles_at, remaining-history_at}
 
 -- each job has a slot left
@@ -45,22 +46,22 @@ offline-named set cycles job offline =
     let both : key_in_set set (Offline offline.g offline.t offline.k) ≡ true = and_from (nat_lt offline.g (length set.graphs)) (nat_lt offline.t (length (tasks_of set offline.g))) graph (rw tasks task) in
     ap (key_in_set set) key ∙ both
 
-remaining-named : (set : TaskSet) (n : ℕ) (job : Job) → IsOffline set → IsAmong job (remaining set (cycle_of set) (history_at set n)) → key_in_set set job.key ≡ true
+remaining-named : (set : TaskSet) (n : ℕ) (job : Job) → IsOffline set → Has (remaining set (cycle_of set) (history_at set n)) job → key_in_set set job.key ≡ true
 remaining-named set n job offline at =
     let h = history_at set n in
     let cycles = cycles_at set n in
     let jobs = offline_jobs set (cycle_of set) (cycles_at set n) in
-    let own = unended_own h jobs job (subst (IsAmong job) (remaining-history_at set n offline) at) in
-    let planned = offline_from_cycles set (cycle_of set) cycles own.0 (Contains-from_among jobs own.0 own.1.listed) in
+    let own = unended_own h jobs job (subst (λ js. Has js job) (remaining-history_at set n offline) at) in
+    let planned = offline_from_cycles set (cycle_of set) cycles own.0 (Contains-from_Has jobs own.0 own.1.listed) in
     ap (λ (j : Job). key_in_set set j.key) own.1.same ∙ offline-named set cycles own.0 planned
 
 -- so what happens in a slot names what the set has
-ready-named : (set : TaskSet) (t : ℕ) (jobs : List Job) → ((job : Job) → IsAmong job jobs → key_in_set set job.key ≡ true) → what_in_set set (ran_entry (first_ready t jobs)) ≡ true
+ready-named : (set : TaskSet) (t : ℕ) (jobs : List Job) → ((job : Job) → Has jobs job → key_in_set set job.key ≡ true) → what_in_set set (ran_entry (first_ready t jobs)) ≡ true
 ready-named set t jobs named = go (find (λ (j : Job). nat_le j.est t) jobs) refl
   where
     go : (found : Option Job) → find (λ (j : Job). nat_le j.est t) jobs ≡ found → what_in_set set (ran_entry (option_map_or (λ (j : Job). RanKey j.key) found RanIdle)) ≡ true
     go None e = refl
-    go (Some job) e = named job (found-among (λ (j : Job). nat_le j.est t) jobs job e)
+    go (Some job) e = named job (find-Some (λ (j : Job). nat_le j.est t) jobs job e).0
 
 pub entry_at-named : (set : TaskSet) (state : ReplayState) → IsOffline set → IsCurrent set state → what_in_set set (entry_at set state.time) ≡ true
 entry_at-named set state offline current =

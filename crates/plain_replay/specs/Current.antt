@@ -1,19 +1,15 @@
 -- When a state is what the definitions give after the slots so far.
-use Rattle.std.specs.Prelude.{◌≡◌, ℕ, List, sum_by}
-use Rattle.slot_core.specs.declared.jobs.Job.{Job}
+use Rattle.std.specs.Prelude.{◌≡◌}
 use Rattle.slot_core.specs.declared.tasks.TaskSet.{TaskSet}
 use Rattle.slot_core.specs.Cycles.{cycle_of}
+use Rattle.slot_core.specs.Matches.{HaveSameItems}
 use Rattle.slot_core.specs.Plans.{AreInDeadlineOrder}
 use Rattle.slot_core.specs.Scenes.{remaining, points_of}
 use Rattle.plain_replay.specs.States.{ReplayState}
 use Rattle.plain_replay.specs.Told.{history_at}
 
--- the same jobs in any order: every function of a job has the same sum over both lists
-abbrev pub HaveSameSums : List Job → List Job → Type 0
-HaveSameSums xs ys = (f : Job → ℕ) → sum_by f xs ≡ sum_by f ys
-
 -- the jobs are the remaining ones, in deadline order, and the ends are the points after the time
 pub record IsCurrent (set : TaskSet) (state : ReplayState) : Type 0 where
-  pub jobs : HaveSameSums (remaining set (cycle_of set) (history_at set state.time)) state.jobs
+  pub jobs : HaveSameItems (remaining set (cycle_of set) (history_at set state.time)) state.jobs
   pub ordered : AreInDeadlineOrder state.jobs
   pub ends : state.ends ≡ points_of set (cycle_of set) (history_at set state.time)

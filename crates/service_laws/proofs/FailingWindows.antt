@@ -27,7 +27,9 @@ use Rattle.slot_core.specs.Feasible.{declared_within, window_demand}
 use Rattle.slot_core.proofs.ListMembers.{Contains-from_Has, Has-from_slice_get}
 use Rattle.slot_core.proofs.OfflineJobLemmas.{IsOfflineJob, offline_from_cycles, cycles_from_offline, graph_in_range-from_sound, task_in_range-from_sound, cycle-multiple}
 use Rattle.service_laws.specs.Verdicts.{FailsMeansNone}
-use Rattle.service_laws.proofs.CounterexampleLemmas.{counterexample_in-window}
+use Rattle.slot_core.proofs.FeasibleLemmas.{counterexample-fails}
+use Rattle.slot_core.proofs.OfflineJobLemmas.{cycle-positive}
+use Rattle.slot_core.proofs.SumLemmas.{cond-le}
 use Rattle.service_laws.proofs.LaterDemand.{declared_within-later}
 use Rattle.service_laws.proofs.PlaceCounts.{count_by-le_window, holds_one, holds_one-item, sum_by-le_places}
 use Rattle.service_laws.proofs.ScheduleWindows.{raw_deadline-offline, HasInstance, not_before_start, before_deadline}
@@ -138,11 +140,6 @@ module _ (set : TaskSet) (n a b : ℕ) (places : List (Option ℕ)) (sound : is_
       let jobs = offline_jobs set (cycle_of set) n in
       omega (arith, sum_by-le_places lies_within (λ (j : Job). j.declared) 0 jobs places (λ k m job e at. (placed k m job e at).whole), count_by-le_window (holds_one lies_within 0 jobs) places 0 a b held_within)
 
--- a number where a test holds is at most the number
-cond-le : (test : Bool) (n : ℕ) → cond test n 0 ≤ n
-cond-le true n = omega arith
-cond-le false n = omega arith
-
 -- the demand of a window is at most that of the jobs of three cycles in it
 window_demand-le : (set : TaskSet) (a b : ℕ) → is_sound set ≡ true → set.sporadics ≡ [] → window_demand (cycle_jobs set (cycle_of set) 0) set.sporadics (cycle_of set) a b ≤ declared_within (offline_jobs set (cycle_of set) 3) 0 a b
 window_demand-le set a b sound none =
@@ -157,5 +154,5 @@ window_demand-le set a b sound none =
 -- so where it is more than the window has slots, there is no schedule
 pub fails_means_none_lem : FailsMeansNone
 fails_means_none_lem set window sound none found (places, schedule) =
-    let (a, b, fails) = counterexample_in-window (cycle_jobs set (cycle_of set) 0) set.sporadics (cycle_of set) window found in
-    omega (arith, fails, window_demand-le set a b sound none, declared_within-le set 3 a b places sound schedule)
+    let (_, _, _, needs, short) = counterexample-fails (cycle_jobs set (cycle_of set) 0) set.sporadics (cycle_of set) window (cycle-positive set sound) found in
+    omega (arith, needs, short, window_demand-le set window.from window.until sound none, declared_within-le set 3 window.from window.until places sound schedule)

@@ -4,7 +4,6 @@ use Rattle.std.specs.Prelude.{flat_map, sum_by, nat_le}
 use Rattle.std.specs.List.{range_with_len, enumerate_from}
 use Rattle.std.proofs.lemmas.Bool.Decides.{nat_tests}
 use Rattle.std.proofs.lemmas.List.Sums.{sum_by-cons, sum_by-append, sum_by-le-sum_by}
-use Rattle.slot_core.specs.declared.jobs.Key.TheVariants.{Offline}
 use Rattle.slot_core.specs.declared.jobs.RawJob.{RawJob}
 use Rattle.slot_core.specs.declared.jobs.Job.{Job}
 use Rattle.slot_core.specs.declared.tasks.Task.{Task}
@@ -13,17 +12,13 @@ use Rattle.slot_core.specs.declared.tasks.TaskSet.{TaskSet}
 use Rattle.slot_core.specs.Cycles.{cycle_of}
 use Rattle.slot_core.specs.Ranges.{is_sound}
 use Rattle.slot_core.specs.Precedence.{longest_before, longest_after}
-use Rattle.slot_core.specs.OfflineJobs.{release_of, deadline_of, tasks_of, instance_jobs, graph_jobs, raw_jobs, derived_job, cycle_jobs}
+use Rattle.slot_core.specs.OfflineJobs.{release_of, deadline_of, tasks_of, raw_job, instance_jobs, graph_jobs, raw_jobs, derived_job, cycle_jobs}
 use Rattle.slot_core.specs.Feasible.{declared_within}
 use Rattle.slot_core.proofs.ListMembers.{Has, Has-enumerate_from_at}
+use Rattle.slot_core.proofs.SumLemmas.{sum_by-map}
 use Rattle.slot_core.proofs.OfflineJobLemmas.{cycle-multiple}
 
--- sums over lists of images, and over lists joined end to end
-sum_by-map : {X Y : Type 0} (f : Y → ℕ) (h : X → Y) (xs : List X) → sum_by f (map h xs) ≡ sum_by (λ x. f (h x)) xs
-sum_by-map f h [] = refl
-sum_by-map f h (x ∷ xs) =
-    omega (arith, sum_by-map f h xs, sum_by-cons f (h x) (map h xs), sum_by-cons (λ y. f (h y)) x xs)
-
+-- sums over lists joined end to end
 sum_by-flat_map-le : {X Y : Type 0} (f e : Y → ℕ) (h i : X → List Y) (xs : List X) → ((x : X) → Has xs x → sum_by f (h x) ≤ sum_by e (i x)) → sum_by f (flat_map h xs) ≤ sum_by e (flat_map i xs)
 sum_by-flat_map-le f e h i [] le = omega arith
 sum_by-flat_map-le f e h i (x ∷ xs) le =
@@ -59,11 +54,6 @@ release_of-later graph cycle count k m multiple later =
     let product : m * graph.period ≡ (k + count) * graph.period = ap (λ x. x * graph.period) (sym later) in
     omega (arith, product, multiple)
 
--- the raw job of a task of an instance
-abbrev raw_of : ℕ → Graph → ℕ → ℕ × Task → RawJob
-raw_of g graph k i =
-    record { key = Offline g i.0 k; release = release_of graph k; deadline = deadline_of graph k; wcet = i.1.wcet }
-
 instance_jobs-le : (set : TaskSet) (cycle a b g count k m : ℕ) (graph : Graph) → count * graph.period ≡ cycle → k + count ≡ m → sum_by (raw_within set cycle a b) (instance_jobs g graph k) ≤ sum_by (raw_within set 0 a b) (instance_jobs g graph m)
 instance_jobs-le set cycle a b g count k m graph multiple later =
     let tasks = enumerate_from 0 graph.tasks in
@@ -80,8 +70,8 @@ instance_jobs-le set cycle a b g count k m graph multiple later =
     i.1.wcet
     (omega (arith, starts))
     (omega (arith, starts)) in
-    let le = sum_by-le-sum_by (λ i. raw_within set cycle a b (raw_of g graph k i)) (λ i. raw_within set 0 a b (raw_of g graph m i)) tasks each in
-    omega (arith, le, sum_by-map (raw_within set cycle a b) (raw_of g graph k) tasks, sum_by-map (raw_within set 0 a b) (raw_of g graph m) tasks)
+    let le = sum_by-le-sum_by (λ i. raw_within set cycle a b (raw_job g graph k i)) (λ i. raw_within set 0 a b (raw_job g graph m i)) tasks each in
+    omega (arith, le, sum_by-map (raw_within set cycle a b) (raw_job g graph k) tasks, sum_by-map (raw_within set 0 a b) (raw_job g graph m) tasks)
 
 -- the jobs of the second cycle need no less than those of the first moved by a cycle
 pub declared_within-later : (set : TaskSet) (a b : ℕ) → is_sound set ≡ true → declared_within (cycle_jobs set (cycle_of set) 0) (cycle_of set) a b ≤ declared_within (cycle_jobs set (cycle_of set) 1) 0 a b

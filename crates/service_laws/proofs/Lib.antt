@@ -1,4 +1,3 @@
-pub mod CounterexampleLemmas
 pub mod FailingWindows
 pub mod LaterCycles
 pub mod LaterDemand

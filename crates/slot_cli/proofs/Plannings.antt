@@ -11,7 +11,7 @@ use Rattle.slot_core.specs.OfflineJobs.{cycle_jobs}
 use Rattle.slot_core.specs.Plans.{PlanParts, IsPlan, plan_spans}
 use Rattle.slot_core.specs.Reports.{check_line}
 use Rattle.slot_core.proofs.OfflineJobLemmas.{cycle-positive}
-use Rattle.demand_test.proofs.FeasibleLemmas.{counterexample-fails}
+use Rattle.slot_core.proofs.FeasibleLemmas.{counterexample-fails}
 use Rattle.slot_cli.specs.Works.{counts_line}
 use Rattle.slot_cli.specs.Runs.{feasible_set}
 

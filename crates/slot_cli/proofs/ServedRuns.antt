@@ -15,7 +15,7 @@ use Rattle.slot_core.specs.Ranges.{sporadic_in_range, is_in_range, is_sound}
 use Rattle.slot_core.specs.Service.{IsServed, IsOrdered}
 use Rattle.slot_core.specs.Traces.{trace, history_of}
 use Rattle.slot_io.specs.Files.{Held}
-use Rattle.demand_test.proofs.FeasibleLemmas.{IsFeasible-from_none}
+use Rattle.slot_core.proofs.FeasibleLemmas.{IsFeasible-from_none}
 use Rattle.service_laws.proofs.ServedTraces.{every_trace}
 use Rattle.task_toml.specs.Reading.{reading_of_tasks}
 use Rattle.task_toml.specs.TomlFields.{Read}

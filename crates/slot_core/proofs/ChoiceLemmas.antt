@@ -1,5 +1,5 @@
 -- What the earliest job of a list is, and when keys are the same.
-use Rattle.std.proofs.Common.{◌≡◌, ℕ, ◌≤◌, true, false, cond, List, [], ◌∷◌, fold, Some, Ordering, Less, Equal, Greater, nat_cmp, is_lt, is_gt, refl, ap, ◌∙◌, inl, inr, arith}
+use Rattle.std.proofs.Common.{◌≡◌, ℕ, ◌≤◌, true, false, cond, List, [], ◌∷◌, fold, Some, Ordering, Less, Equal, Greater, nat_cmp, is_lt, is_gt, refl, sym, ap, ◌∙◌, inl, inr, arith}
 use Rattle.std.specs.Cmp.{Equal-is, IsTotalOrder}
 use Rattle.std.specs.Ordering.{ordering_reverse}
 use Rattle.std.specs.Cmp.Lexicographic.{slice_cmp}
@@ -11,7 +11,7 @@ use Rattle.slot_core.specs.declared.jobs.Key.TheVariants.{Offline, Sporadic, Fir
 use Rattle.slot_core.specs.declared.jobs.Job.{Job}
 use Rattle.slot_core.specs.Keys.{key_order, same_key, deadline_order, is_earlier}
 use Rattle.slot_core.specs.Choice.{earlier_of, earliest}
-use Rattle.slot_core.proofs.HistoryLemmas.{IsAmong}
+use Rattle.slot_core.proofs.ListMembers.{Has}
 
 -- keys of one kind and with the same numbers are one
 pub same_from_order : (a b : Key) → key_order a ≡ key_order b → a ≡ b
@@ -68,8 +68,8 @@ due-from_not_after a b e = due-from_order a.dl b.dl (key_order a.key) (key_order
 
 -- the earliest job is one of the list, and goes after none of them
 pub record IsEarliest (jobs : List Job) (best : Job) : Type 0 where
-  pub among : IsAmong best jobs
-  pub first : (job : Job) → IsAmong job jobs → IsNotAfter best job
+  pub among : Has jobs best
+  pub first : (job : Job) → Has jobs job → IsNotAfter best job
 
 -- where the second of two jobs does not go before the first, it changes nothing
 past_second : (a b best : Job) (js : List Job) → IsNotAfter a b → IsEarliest (a ∷ js) best → IsEarliest (a ∷ b ∷ js) best
@@ -80,7 +80,7 @@ past_second a b best js order more =
           elim at [
             | inl e ↦ more.first job (inl e)
             | inr i ↦ elim i [
-              | inl e ↦ rw e (upto job_cmp_total best a b (more.first a (inl refl)) order)
+              | inl e ↦ rw (sym e) (upto job_cmp_total best a b (more.first a (inl refl)) order)
               | inr k ↦ more.first job (inr k)
             ]
           ];
@@ -93,7 +93,7 @@ past_first a b best js order more =
       among = inr more.among;
       first = λ job at.
           elim at [
-            | inl e ↦ rw e (upto job_cmp_total best b a (more.first b (inl refl)) order)
+            | inl e ↦ rw (sym e) (upto job_cmp_total best b a (more.first b (inl refl)) order)
             | inr i ↦ more.first job i
           ];
     }
@@ -101,11 +101,11 @@ past_first a b best js order more =
 -- from a best job so far, the fold answers the earliest of it and the rest
 earliest_from : (a best : Job) (js : List Job) → fold earlier_of (Some a) js ≡ Some best → IsEarliest (a ∷ js) best
 earliest_from a best [] e =
-    let same : best ≡ a = cc in
+    let same : a ≡ best = cc in
     record {
       among = inl same;
       first = λ job at.
-          elim at [ inl s ↦ rw (same, s) (ap is_gt (tied_itself job_cmp_total a)) | inr i ↦ absurd i ];
+          elim at [ inl s ↦ rw (sym same, sym s) (ap is_gt (tied_itself job_cmp_total a)) | inr i ↦ absurd i ];
     }
 earliest_from a best (j ∷ js) e =
     elim (is_earlier j a) as (λ b. is_earlier j a ≡ b → fold earlier_of (cond b (Some j) (Some a)) js ≡ Some best → IsEarliest (a ∷ j ∷ js) best) [
@@ -119,5 +119,5 @@ IsEarliest-from_earliest [] best e = cc
 IsEarliest-from_earliest (j ∷ js) best e = earliest_from j best js e
 
 -- it is due no later than any other
-pub least_due : (jobs : List Job) (best job : Job) → IsEarliest jobs best → IsAmong job jobs → best.dl ≤ job.dl
+pub least_due : (jobs : List Job) (best job : Job) → IsEarliest jobs best → Has jobs job → best.dl ≤ job.dl
 least_due jobs best job most at = due-from_not_after best job (most.first job at)

@@ -7,6 +7,7 @@ use Rattle.std.proofs.lemmas.Bool.{eqb-true, ltb-false}
 use Rattle.std.proofs.lemmas.Nat.{div-add-mod'}
 use Rattle.slot_core.specs.Cycles.{least_common_multiple, first_multiple_above}
 use Rattle.slot_core.proofs.ListMembers.{Has, Has-range_with_len_bounds}
+use Rattle.slot_core.proofs.ListTests.{find-Some}
 use Rattle.slot_core.proofs.FaultLemmas.{cond-None}
 
 -- n is a multiple of d
@@ -26,17 +27,6 @@ pub div-mul-IsMultiple : (d n : ℕ) → 1 ≤ d → IsMultiple d n → (n / d) 
 div-mul-IsMultiple d n some m =
     let even : n % d ≡ 0 = ap (λ x. x % d) m.is ∙ mul-mod_left m.times d in
     omega (arith, div-add-mod' n d)
-
--- what is found is a member that passes
-find-Some : {X : Type 0} (p : X → Bool) (xs : List X) (x : X) → find p xs ≡ Some x → Has xs x × (p x ≡ true)
-find-Some p [] x h = absurd (cc h)
-find-Some p (z ∷ xs) x h = go (p z) refl h (find-Some p xs x)
-  where
-    go : (b : Bool) → p z ≡ b → cond b (Some z) (find p xs) ≡ Some x → (find p xs ≡ Some x → Has xs x × (p x ≡ true)) → Has (z ∷ xs) x × (p x ≡ true)
-    go true passes found later =
-        let same : z ≡ x = cc found in
-        (inl same, ap p (sym same) ∙ passes)
-    go false passes found later = (inr (later found).0, (later found).1)
 
 -- the least common multiple is a times a number from 1 on, and a multiple of b
 record IsCommon (a b m : ℕ) : Type 0 where

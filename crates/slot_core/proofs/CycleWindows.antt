@@ -18,8 +18,10 @@ use Rattle.slot_core.specs.Windows.{raw_release, raw_deadline}
 use Rattle.slot_core.specs.Demand.{work_from}
 use Rattle.slot_core.specs.Steps.{IsSafe}
 use Rattle.slot_core.specs.Feasible.{IsFeasible}
+use Rattle.slot_core.proofs.SumLemmas.{sum_by-none}
 use Rattle.slot_core.proofs.OfflineJobLemmas.{offline_from_cycle, cycle-multiple}
-use Rattle.slot_core.proofs.MovedCycles.{GraphFits, GraphFits-from_sound, wcet-from_sound, cycle_jobs-moved}
+use Rattle.slot_core.proofs.RangeFacts.{GraphFits}
+use Rattle.slot_core.proofs.MovedCycles.{GraphFits-from_sound, wcet-from_sound, cycle_jobs-moved}
 
 -- a job of cycle n lies in it, and its derived window in its raw one
 pub record IsOfCycle (set : TaskSet) (n : ℕ) (job : Job) : Type 0 where
@@ -73,10 +75,6 @@ counts_moved_back a x moved cycle est dl other_est other_dl left declared e f g 
 no_job_counts : (a x moved cycle est dl other_est other_dl left declared : ℕ) → other_est ≡ est + moved → other_dl ≡ dl + moved → est + declared ≤ dl → 1 ≤ declared → dl ≤ cycle → min (x - moved) cycle ≤ a - moved → cond (nat_le a other_est && nat_le other_dl x) left 0 ≤ 0
 no_job_counts a x moved cycle est dl other_est other_dl left declared e f g h k l = grind (arith, nat_tests)
 
-sum_by-none : {X : Type 0} (xs : List X) → sum_by (λ (x : X). 0) xs ≡ 0
-sum_by-none [] = refl
-sum_by-none {X} (x ∷ xs) = omega (arith, sum_by-cons (λ (y : X). 0) x xs, sum_by-none xs)
-
 -- the jobs of cycle n that count in a window have room in the part of it that lies in the cycle
 cycle_jobs-room : (set : TaskSet) (n a x : ℕ) → is_sound set ≡ true → IsFeasible set (cycle_of set) → work_from (cycle_jobs set (cycle_of set) n) a x ≤ min x (n * cycle_of set + cycle_of set) - max a (n * cycle_of set)
 cycle_jobs-room set n a x sound feasible = by_order (cases_lt from until)
@@ -94,7 +92,7 @@ cycle_jobs-room set n a x sound feasible = by_order (cases_lt from until)
     by_order (inl lt) =
         omega (arith, feasible from until (omega arith) lt (omega arith), cycle_jobs-moved set n (λ (j : Job). cond (nat_le a j.est && nat_le j.dl x) j.left 0) (λ (j : Job). cond (nat_le from (j.est + 0) && nat_le (j.dl + 0) until) j.declared 0) sound feasible (λ job other m. counts_moved_back a x moved (cycle_of set) job.est job.dl other.est other.dl other.left job.declared m.est m.dl m.left m.within))
     by_order (inr le) =
-        omega (arith, sum_by-none (cycle_jobs set (cycle_of set) 0), cycle_jobs-moved set n (λ (j : Job). cond (nat_le a j.est && nat_le j.dl x) j.left 0) (λ (j : Job). 0) sound feasible (λ job other m. no_job_counts a x moved (cycle_of set) job.est job.dl other.est other.dl other.left job.declared m.est m.dl m.room m.some m.within le))
+        omega (arith, sum_by-none (λ (j : Job). 0) (cycle_jobs set (cycle_of set) 0) (λ _ _ _. refl), cycle_jobs-moved set n (λ (j : Job). cond (nat_le a j.est && nat_le j.dl x) j.left 0) (λ (j : Job). 0) sound feasible (λ job other m. no_job_counts a x moved (cycle_of set) job.est job.dl other.est other.dl other.left job.declared m.est m.dl m.room m.some m.within le))
 
 -- the offline jobs that count in a window have room in it
 offline_jobs-room : (set : TaskSet) (cycles : ℕ) → is_sound set ≡ true → IsFeasible set (cycle_of set) → (a x : ℕ) → work_from (offline_jobs set (cycle_of set) cycles) a x ≤ min x (cycles * cycle_of set) - a

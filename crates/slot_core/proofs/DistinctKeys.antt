@@ -9,7 +9,7 @@ use Rattle.slot_core.specs.declared.jobs.Job.{Job}
 use Rattle.slot_core.specs.declared.tasks.Task.{Task}
 use Rattle.slot_core.specs.declared.tasks.Graph.{Graph}
 use Rattle.slot_core.specs.declared.tasks.TaskSet.{TaskSet}
-use Rattle.slot_core.specs.OfflineJobs.{release_of, deadline_of, instance_jobs, graph_jobs, raw_jobs, derived_job, cycle_jobs, offline_jobs}
+use Rattle.slot_core.specs.OfflineJobs.{raw_job, instance_jobs, graph_jobs, raw_jobs, derived_job, cycle_jobs, offline_jobs}
 use Rattle.slot_core.proofs.ListMembers.{Has, Contains-from_Has, Has-append_cases, Has-map_cases, Has-flat_map_cases, Has-range_with_len_bounds, Has-enumerate_from_at}
 use Rattle.slot_core.proofs.OfflineJobLemmas.{IsInstance, offline_from_cycle, offline_from_cycles}
 
@@ -71,15 +71,10 @@ IsApart-enumerate_from n (x ∷ xs) = (
   IsApart-enumerate_from (n + 1) xs,
 )
 
--- the raw job of a numbered task
-abbrev numbered_raw_job : ℕ → ℕ → Graph → ℕ × Task → RawJob
-numbered_raw_job g k graph t =
-    record { key = Offline g t.0 k; release = release_of graph k; deadline = deadline_of graph k; wcet = t.1.wcet }
-
 -- the key of a raw job of an instance, and of a graph
 instance_key : (g k : ℕ) (graph : Graph) (raw : RawJob) → Has (instance_jobs g graph k) raw → (t : ℕ) × (Offline g t k ≡ raw.key)
 instance_key g k graph raw at =
-    let m = Has-map_cases (numbered_raw_job g k graph) (enumerate_from 0 graph.tasks) raw at in
+    let m = Has-map_cases (raw_job g graph k) (enumerate_from 0 graph.tasks) raw at in
     (m.0.0, ap (λ (r : RawJob). r.key) m.2)
 
 graph_key : (cycle n g : ℕ) (graph : Graph) (raw : RawJob) → Has (graph_jobs cycle n (g, graph)) raw → (t k : ℕ) × (Offline g t k ≡ raw.key)
@@ -88,27 +83,22 @@ graph_key cycle n g graph raw at =
     let i = instance_key g m.0 graph raw m.2 in
     (i.0, m.0, i.1)
 
+-- keys of offline jobs that are one have the same numbers
+pub same_numbers : (g h t u k l : ℕ) → Offline g t k ≡ Offline h u l → (g ≡ h) × (t ≡ u) × (k ≡ l)
+same_numbers g h t u k l e = (cc, cc, cc)
+
 -- the tasks of an instance, the instances of a graph and the graphs keep the keys apart
-same_task : (g k t u : ℕ) → Offline g t k ≡ Offline g u k → t ≡ u
-same_task g k t u e = cc
-
-same_instance : (g k l t u : ℕ) (key : Key) → Offline g t k ≡ key → Offline g u l ≡ key → k ≡ l
-same_instance g k l t u key a b = cc
-
-same_graph : (g h t k u l : ℕ) (key : Key) → Offline g t k ≡ key → Offline h u l ≡ key → g ≡ h
-same_graph g h t k u l key a b = cc
-
 instance_jobs-apart : (g k : ℕ) (graph : Graph) → IsApart (λ (r : RawJob). r.key) (instance_jobs g graph k)
 instance_jobs-apart g k graph =
     IsApart-map
-    (numbered_raw_job g k graph)
+    (raw_job g graph k)
     (λ (r : RawJob). r.key)
     (enumerate_from 0 graph.tasks)
     (IsApart-weaker
     (λ (t : ℕ × Task). Offline g t.0 k)
     (λ (t : ℕ × Task). t.0)
     (enumerate_from 0 graph.tasks)
-    (λ t u e. same_task g k t.0 u.0 e)
+    (λ t u e. (same_numbers g g t.0 u.0 k k e).1)
     (IsApart-enumerate_from 0 graph.tasks))
 
 graph_jobs-apart : (cycle n g : ℕ) (graph : Graph) → IsApart (λ (r : RawJob). r.key) (graph_jobs cycle n (g, graph))
@@ -124,7 +114,7 @@ graph_jobs-apart cycle n g graph =
     (λ k l a b at_a at_b e.
     let x = instance_key g k graph a at_a in
     let y = instance_key g l graph b at_b in
-    same_instance g k l x.0 y.0 b.key (x.1 ∙ e) y.1)
+    (same_numbers g g x.0 y.0 k l (x.1 ∙ e ∙ sym y.1)).2)
 
 raw_jobs-apart : (set : TaskSet) (cycle n : ℕ) → IsApart (λ (r : RawJob). r.key) (raw_jobs set cycle n)
 raw_jobs-apart set cycle n =
@@ -138,7 +128,7 @@ raw_jobs-apart set cycle n =
     (λ i j a b at_a at_b e.
     let x = graph_key cycle n i.0 i.1 a at_a in
     let y = graph_key cycle n j.0 j.1 b at_b in
-    same_graph i.0 j.0 x.0 x.1 y.0 y.1 b.key (x.2 ∙ e) y.2)
+    (same_numbers i.0 j.0 x.0 y.0 x.1 y.1 (x.2 ∙ e ∙ sym y.2)).0)
 
 -- so do the offline jobs of one cycle
 cycle_jobs-apart : (set : TaskSet) (cycle n : ℕ) → IsApart (λ (j : Job). j.key) (cycle_jobs set cycle n)

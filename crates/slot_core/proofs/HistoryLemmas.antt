@@ -12,75 +12,25 @@ use Rattle.slot_core.specs.Histories.{History, executed, is_freed}
 use Rattle.slot_core.specs.Scenes.{has_ended, with_left, unended}
 use Rattle.slot_core.specs.Demand.{work_by}
 use Rattle.slot_core.specs.Steps.{after_run}
-
--- the job is one of the list, by recursion
-abbrev pub IsAmong : Job → List Job → Type 0
-IsAmong job [] = ⊥
-IsAmong job (j ∷ js) = (job ≡ j) ⊎ IsAmong job js
-
--- the two ways to say that a job is in a list
-pub IsAmong-from_contains : (jobs : List Job) (job : Job) → Contains jobs job → IsAmong job jobs
-IsAmong-from_contains [] job (k, below, at) = absurd (omega arith)
-IsAmong-from_contains (j ∷ js) job (zero, below, at) = inl (sym at)
-IsAmong-from_contains (j ∷ js) job (suc k, below, at) = inr (IsAmong-from_contains js job (k, omega arith, at))
-
-pub Contains-from_among : (jobs : List Job) (job : Job) → IsAmong job jobs → Contains jobs job
-Contains-from_among [] job h = absurd h
-Contains-from_among (j ∷ js) job (inl e) = (zero, omega arith, sym e)
-Contains-from_among (j ∷ js) job (inr h) =
-    let c = Contains-from_among js job h in
-    (suc c.0, omega (arith, c.1), c.2)
-
--- a filter keeps the jobs that pass
-pub IsAmong-filter : (test : Job → Bool) (jobs : List Job) (job : Job) → test job ≡ true → IsAmong job jobs → IsAmong job (filter test jobs)
-IsAmong-filter test [] job passes h = h
-IsAmong-filter test (j ∷ js) job passes (inl e) = rw (ap test (sym e) ∙ passes) (inl e)
-IsAmong-filter test (j ∷ js) job passes (inr h) =
-    let more : IsAmong job (filter test js) = IsAmong-filter test js job passes h in
-    elim (test j) as (λ b. IsAmong job (cond b (j ∷ filter test js) (filter test js))) [ true ↦ inr more | false ↦ more ]
-
--- what a filter keeps passes, and is of the list
-pub filter-IsAmong : (test : Job → Bool) (jobs : List Job) (job : Job) → IsAmong job (filter test jobs) → (test job ≡ true) × IsAmong job jobs
-filter-IsAmong test [] job h = absurd h
-filter-IsAmong test (j ∷ js) job h =
-    elim (test j) as (λ b. test j ≡ b → IsAmong job (cond b (j ∷ filter test js) (filter test js)) → (test job ≡ true) × ((job ≡ j) ⊎ IsAmong job js)) [
-      | true ↦ λ t r.
-          elim r [
-            | inl e ↦ (ap test e ∙ t, inl e)
-            | inr i ↦ let m = filter-IsAmong test js job i in (m.0, inr m.1)
-          ]
-      | false ↦ λ t r. let m = filter-IsAmong test js job r in (m.0, inr m.1)
-    ] refl h
-
--- the mapped list has what each job becomes
-pub IsAmong-map : (f : Job → Job) (jobs : List Job) (job : Job) → IsAmong job jobs → IsAmong (f job) (map f jobs)
-IsAmong-map f [] job h = h
-IsAmong-map f (j ∷ js) job (inl e) = inl (ap f e)
-IsAmong-map f (j ∷ js) job (inr h) = inr (IsAmong-map f js job h)
-
--- a job of the mapped list comes from one of the list
-pub map-IsAmong : (f : Job → Job) (jobs : List Job) (job : Job) → IsAmong job (map f jobs) → (own : Job) × (job ≡ f own) × IsAmong own jobs
-map-IsAmong f [] job h = absurd h
-map-IsAmong f (j ∷ js) job (inl e) = (j, e, inl refl)
-map-IsAmong f (j ∷ js) job (inr h) = let m = map-IsAmong f js job h in (m.0, m.1, inr m.2)
+use Rattle.slot_core.proofs.ListMembers.{Has, Has-map, Has-map_cases, Has-filter, Has-filter_passes}
 
 -- a job that has not ended is among the unended ones, with its slots left
-pub IsAmong-unended : (h : History) (jobs : List Job) (job : Job) → has_ended h job ≡ false → IsAmong job jobs → IsAmong (with_left h job) (unended h jobs)
-IsAmong-unended h jobs job runs at =
-    IsAmong-map (with_left h) _ job (IsAmong-filter (λ j. not (has_ended h j)) jobs job (ap not runs) at)
+pub Has-unended : (h : History) (jobs : List Job) (job : Job) → has_ended h job ≡ false → Has jobs job → Has (unended h jobs) (with_left h job)
+Has-unended h jobs job runs at =
+    Has-map (with_left h) _ job (Has-filter (λ j. not (has_ended h j)) jobs job at (ap not runs))
 
 -- the job is one of the list that has not ended, with its slots left
 pub record IsUnended (h : History) (jobs : List Job) (job own : Job) : Type 0 where
-  pub listed : IsAmong own jobs
+  pub listed : Has jobs own
   pub runs : has_ended h own ≡ false
   pub same : job ≡ with_left h own
 
 -- each unended job is one of the list
-pub unended_own : (h : History) (jobs : List Job) (job : Job) → IsAmong job (unended h jobs) → (own : Job) × IsUnended h jobs job own
+pub unended_own : (h : History) (jobs : List Job) (job : Job) → Has (unended h jobs) job → (own : Job) × IsUnended h jobs job own
 unended_own h jobs job at =
-    let m = map-IsAmong (with_left h) (filter (λ j. not (has_ended h j)) jobs) job at in
-    let f = filter-IsAmong (λ j. not (has_ended h j)) jobs m.0 m.2 in
-    (m.0, record { listed = f.1; runs = not-true (has_ended h m.0) f.0; same = m.1 })
+    let m = Has-map_cases (with_left h) (filter (λ j. not (has_ended h j)) jobs) job at in
+    let f = Has-filter_passes (λ j. not (has_ended h j)) jobs m.0 m.1 in
+    (m.0, record { listed = f.0; runs = not-true (has_ended h m.0) f.1; same = sym m.2 })
 
 -- a job that has not ended has a slot left
 some_left : (h : History) (job : Job) → has_ended h job ≡ false → 1 ≤ job.declared - executed job.key h
@@ -109,19 +59,19 @@ work_by-cons j js x = sum_by-cons (λ (j : Job). cond (nat_le j.dl x) j.left 0) 
 due_later : (dl left x rest : ℕ) → cond (nat_le dl x) left 0 + rest ≤ 0 → 1 ≤ left → x < dl
 due_later dl left x rest none some = grind (arith, nat_tests)
 
-later-from_no_work : (jobs : List Job) (job : Job) (x : ℕ) → work_by jobs x ≤ 0 → IsAmong job jobs → 1 ≤ job.left → x < job.dl
+later-from_no_work : (jobs : List Job) (job : Job) (x : ℕ) → work_by jobs x ≤ 0 → Has jobs job → 1 ≤ job.left → x < job.dl
 later-from_no_work [] job x none at some = absurd at
 later-from_no_work (j ∷ js) job x none (inl e) some =
     let split = work_by-cons j js x in
-    due_later job.dl job.left x (work_by js x) (rw e (rw split at none)) some
+    due_later job.dl job.left x (work_by js x) (rw (sym e) (rw split at none)) some
 later-from_no_work (j ∷ js) job x none (inr at) some =
     let split = work_by-cons j js x in
     later-from_no_work js job x (omega (arith, split)) at some
 
 -- where no work that is left is due by x, a job that has not ended is due later
-pub unended_due : (h : History) (jobs : List Job) (job : Job) (x : ℕ) → work_by (unended h jobs) x ≤ 0 → IsAmong job jobs → has_ended h job ≡ false → x < job.dl
+pub unended_due : (h : History) (jobs : List Job) (job : Job) (x : ℕ) → work_by (unended h jobs) x ≤ 0 → Has jobs job → has_ended h job ≡ false → x < job.dl
 unended_due h jobs job x none at runs =
-    later-from_no_work (unended h jobs) (with_left h job) x none (IsAmong-unended h jobs job runs at) (some_left h job runs)
+    later-from_no_work (unended h jobs) (with_left h job) x none (Has-unended h jobs job runs at) (some_left h job runs)
 
 -- no slot of the job has run and it has not ended early, and its slots left are those that it declares
 pub record IsFresh (h : History) (job : Job) : Type 0 where
@@ -140,14 +90,14 @@ with_left-fresh h job fresh =
 unended_fresh-cons : (h : History) (j : Job) (js : List Job) → executed j.key h ≡ 0 → is_freed j.key h ≡ false → 1 ≤ j.declared → with_left h j ≡ j → unended h js ≡ js → unended h (j ∷ js) ≡ j ∷ js
 unended_fresh-cons h j js none kept some same rest = grind (arith, nat_tests)
 
-pub unended-fresh : (h : History) (jobs : List Job) → ((job : Job) → IsAmong job jobs → IsFresh h job) → unended h jobs ≡ jobs
+pub unended-fresh : (h : History) (jobs : List Job) → ((job : Job) → Has jobs job → IsFresh h job) → unended h jobs ≡ jobs
 unended-fresh h [] fresh = refl
 unended-fresh h (j ∷ js) fresh =
     let own = fresh j (inl refl) in
     unended_fresh-cons h j js own.none own.kept own.some (with_left-fresh h j own) (unended-fresh h js (λ job at. fresh job (inr at)))
 
 -- so it is before the first entry
-pub unended-start : (jobs : List Job) → ((job : Job) → IsAmong job jobs → (1 ≤ job.declared) × (job.left ≡ job.declared)) → unended [] jobs ≡ jobs
+pub unended-start : (jobs : List Job) → ((job : Job) → Has jobs job → (1 ≤ job.declared) × (job.left ≡ job.declared)) → unended [] jobs ≡ jobs
 unended-start jobs fresh =
     unended-fresh [] jobs (λ job at. let own = fresh job at in record { none = refl; kept = refl; some = own.0; whole = own.1 })
 

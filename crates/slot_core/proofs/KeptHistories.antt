@@ -21,7 +21,8 @@ use Rattle.slot_core.specs.Feasible.{IsFeasible}
 use Rattle.slot_core.specs.Traces.{slot, ran_entry, entry_of, history_after, slot_steps}
 use Rattle.slot_core.proofs.ChoiceLemmas.{IsEarliest-from_earliest, least_due}
 use Rattle.slot_core.proofs.CycleWindows.{offline_jobs_are_safe}
-use Rattle.slot_core.proofs.HistoryLemmas.{IsAmong, IsAmong-from_contains, Contains-from_among, filter-IsAmong, IsAmong-filter, IsAmong-unended, unended_own, unended_have_left, unended_due, unended-start, after_run-unended}
+use Rattle.slot_core.proofs.HistoryLemmas.{Has-unended, unended_own, unended_have_left, unended_due, unended-start, after_run-unended}
+use Rattle.slot_core.proofs.ListMembers.{Has, Has-from_Contains, Contains-from_Has, Has-filter, Has-filter_passes}
 use Rattle.slot_core.proofs.OfflineJobLemmas.{cycle-positive}
 use Rattle.slot_core.proofs.OfflineWindows.{IsOfCycle-from_offline, same_offline-from_key, IsBefore-from_precedes}
 use Rattle.slot_core.proofs.OneSlot.{one_slot}
@@ -77,7 +78,7 @@ due_now set h cycles sound reaches kept job at runs =
     let jobs = offline_jobs set (cycle_of set) cycles in
     let early = below_end (time_of h) (cycle_of set) cycles (cycle-positive set sound) reaches in
     let none = kept.safe.due (time_of h) (omega arith) (omega arith) in
-    unended_due h jobs job (time_of h) (omega arith) (IsAmong-from_contains jobs job at) runs
+    unended_due h jobs job (time_of h) (omega arith) (Has-from_Contains jobs job at) runs
 
 -- the job as it was planned, of which the chosen one has the slots left
 record IsChosen (set : TaskSet) (h : History) (cycles : ℕ) (best own : Job) : Type 0 where
@@ -86,21 +87,21 @@ record IsChosen (set : TaskSet) (h : History) (cycles : ℕ) (best own : Job) : 
   runs : has_ended h own ≡ false
   keyed : own.key ≡ best.key
   due : own.dl ≡ best.dl
-  least : (job : Job) → IsAmong job (ready_in (time_of h) h (offline_jobs set (cycle_of set) cycles)) → best.dl ≤ job.dl
+  least : (job : Job) → Has (ready_in (time_of h) h (offline_jobs set (cycle_of set) cycles)) job → best.dl ≤ job.dl
 
 -- the earliest ready job was planned
 chosen_own : (set : TaskSet) (h : History) (cycles : ℕ) (best : Job) → earliest (ready_in (time_of h) h (offline_jobs set (cycle_of set) cycles)) ≡ Some best → (own : Job) × IsChosen set h cycles best own
 chosen_own set h cycles best e =
     let jobs = offline_jobs set (cycle_of set) cycles in
     let first = IsEarliest-from_earliest (ready_in (time_of h) h jobs) best e in
-    let in_time = filter-IsAmong (λ j. nat_le j.est (time_of h)) (unended h jobs) best first.among in
-    let own = unended_own h jobs best in_time.1 in
+    let in_time = Has-filter_passes (λ j. nat_le j.est (time_of h)) (unended h jobs) best first.among in
+    let own = unended_own h jobs best in_time.0 in
     let same = own.1.same in
     let start : best.est ≡ own.0.est = ap (λ (j : Job). j.est) same in (
       own.0,
       record {
-        started = omega (arith, leb-true best.est (time_of h) in_time.0);
-        planned = Contains-from_among jobs own.0 own.1.listed;
+        started = omega (arith, leb-true best.est (time_of h) in_time.1);
+        planned = Contains-from_Has jobs own.0 own.1.listed;
         runs = own.1.runs;
         keyed = sym (ap (λ (j : Job). j.key) same);
         due = sym (ap (λ (j : Job). j.dl) same);
@@ -114,9 +115,9 @@ predecessors_ended set h cycles best own before sound chosen early at listed =
     let jobs = offline_jobs set (cycle_of set) cycles in
     let windows = IsBefore-from_precedes set cycles before own sound at chosen.planned listed in
     true_from_ne_false (has_ended h before) (λ runs.
-    let waits = IsAmong-unended h jobs before runs (IsAmong-from_contains jobs before at) in
+    let waits = Has-unended h jobs before runs (Has-from_Contains jobs before at) in
     let in_time = le-leb before.est (time_of h) (omega (arith, windows.starts, chosen.started)) in
-    let ready_too = IsAmong-filter (λ j. nat_le j.est (time_of h)) (unended h jobs) (with_left h before) in_time waits in
+    let ready_too = Has-filter (λ j. nat_le j.est (time_of h)) (unended h jobs) (with_left h before) waits in_time in
     let sooner : before.dl < own.dl = windows.due (omega arith) in
     let later : best.dl ≤ before.dl = chosen.least (with_left h before) ready_too in
     absurd (omega (arith, chosen.due)))
@@ -191,6 +192,6 @@ pub kept-at_start : (set : TaskSet) → is_sound set ≡ true → set.sporadics 
 kept-at_start set sound none feasible cycles reaches =
     let jobs = offline_jobs set (cycle_of set) cycles in
     let fresh = unended-start jobs (λ job at.
-    let of_cycle = IsOfCycle-from_offline set cycles job sound (Contains-from_among jobs job at) in
+    let of_cycle = IsOfCycle-from_offline set cycles job sound (Contains-from_Has jobs job at) in
     (of_cycle.2.some, of_cycle.2.whole)) in
     record { serving = empty; safe = rw fresh (offline_jobs_are_safe set cycles sound none feasible) }

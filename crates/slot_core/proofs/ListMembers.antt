@@ -156,6 +156,11 @@ AllByRecursion-from_Has P [] each = tt
 AllByRecursion-from_Has P (z ∷ xs) each =
     (each z (inl refl), AllByRecursion-from_Has P xs (λ x h. each x (inr h)))
 
+pub AllByRecursion-at_Has : {X : Type 0} (P : X → Type 0) (xs : List X) (x : X) → AllByRecursion P xs → Has xs x → P x
+AllByRecursion-at_Has P [] x all at = absurd at
+AllByRecursion-at_Has P (z ∷ xs) x all (inl e) = subst P e all.0
+AllByRecursion-at_Has P (z ∷ xs) x all (inr at) = AllByRecursion-at_Has P xs x all.1 at
+
 -- what stands at a place is a member
 pub Has-from_slice_get : {X : Type 0} (xs : List X) (k : ℕ) (x : X) → slice_get xs k ≡ Some x → Has xs x
 Has-from_slice_get [] k x at = absurd (cc at)

@@ -7,6 +7,7 @@ use Rattle.std.proofs.lemmas.Bool.Decides.{nat_tests}
 use Rattle.std.proofs.lemmas.List.Sums.{sum_by-cons, sum_by-append}
 use Rattle.std.proofs.lemmas.Option.{slice_get_within}
 use Rattle.std.proofs.Math.Nat.{mul-le-mul_right}
+use Rattle.slot_core.specs.declared.TheConstants.{SLOT_LIMIT}
 use Rattle.slot_core.specs.declared.jobs.Key.TheVariants.{Offline}
 use Rattle.slot_core.specs.declared.jobs.Job.{Job}
 use Rattle.slot_core.specs.declared.tasks.Task.{Task}
@@ -15,49 +16,27 @@ use Rattle.slot_core.specs.declared.tasks.TaskSet.{TaskSet}
 use Rattle.slot_core.specs.Cycles.{cycle_of}
 use Rattle.slot_core.specs.Precedence.{wcet_of, longest_before, longest_after}
 use Rattle.slot_core.specs.Ranges.{is_sound, is_between}
-use Rattle.slot_core.specs.OfflineJobs.{tasks_of, release_of, deadline_of, instance_jobs, graph_jobs, raw_jobs, chain_before, chain_after, derived_job, cycle_jobs}
+use Rattle.slot_core.specs.OfflineJobs.{tasks_of, release_of, deadline_of, raw_job, instance_jobs, graph_jobs, raw_jobs, chain_before, chain_after, derived_job, cycle_jobs}
 use Rattle.slot_core.specs.Feasible.{declared_within, IsFeasible}
 use Rattle.slot_core.proofs.ChainLemmas.{HasNoLoop}
 use Rattle.slot_core.proofs.ChainRoom.{sum_below, chain_room}
+use Rattle.slot_core.proofs.RangeFacts.{bounds, TaskRanges-from_test, GraphFits, GraphFits-from_test}
+use Rattle.slot_core.proofs.SumLemmas.{sum_by-map, sum_by-flat_map}
 use Rattle.slot_core.proofs.OfflineJobLemmas.{graph_in_range-from_sound, task_in_range-from_sound, HasNoLoop-from_sound, cycle-multiple}
-
--- the window of a graph lies in its period
-pub record GraphFits (graph : Graph) : Type 0 where
-  pub some_period : 1 ≤ graph.period
-  pub some_deadline : 1 ≤ graph.deadline
-  pub within : graph.offset + graph.deadline ≤ graph.period
-
-graph_fits : (name tasks all : Bool) (limit period offset deadline : ℕ) → (name && is_between 1 limit period && is_between 0 (period - 1) offset && is_between 1 (period - offset) deadline && tasks && all) ≡ true → (1 ≤ period) × (1 ≤ deadline) × (offset + deadline ≤ period)
-graph_fits name tasks all limit period offset deadline h = grind (arith, nat_tests)
 
 pub GraphFits-from_sound : (set : TaskSet) (g : ℕ) (graph : Graph) → is_sound set ≡ true → slice_get set.graphs g ≡ Some graph → GraphFits graph
 GraphFits-from_sound set g graph sound at =
-    let parts = graph_fits _ _ _ _ graph.period graph.offset graph.deadline (graph_in_range-from_sound set g graph sound at) in
-    record { some_period = parts.0; some_deadline = parts.1; within = parts.2 }
+    GraphFits-from_test graph (graph_in_range-from_sound set g graph sound at)
 
 -- a task takes at least one slot
-task_fits : (name after : Bool) (limit wcet : ℕ) → (name && is_between 1 limit wcet && after) ≡ true → 1 ≤ wcet
-task_fits name after limit wcet h = grind (arith, nat_tests)
-
 pub wcet-from_sound : (set : TaskSet) (g t : ℕ) (graph : Graph) (task : Task) → is_sound set ≡ true → slice_get set.graphs g ≡ Some graph → slice_get graph.tasks t ≡ Some task → 1 ≤ task.wcet
 wcet-from_sound set g t graph task sound graph_at task_at =
-    task_fits _ _ _ task.wcet (task_in_range-from_sound set g t graph task sound graph_at task_at)
-
--- sums over what is made of each item of a list
-pub sum_by-map : {X Y : Type 0} (f : Y → ℕ) (h : X → Y) (xs : List X) → sum_by f (map h xs) ≡ sum_by (λ x. f (h x)) xs
-sum_by-map f h [] = refl
-sum_by-map f h (x ∷ xs) =
-    omega (arith, sum_by-cons f (h x) (map h xs), sum_by-cons (λ y. f (h y)) x xs, sum_by-map f h xs)
-
-sum_by-flat_map : {X Y : Type 0} (f : Y → ℕ) (h : X → List Y) (xs : List X) → sum_by f (flat_map h xs) ≡ sum_by (λ x. sum_by f (h x)) xs
-sum_by-flat_map f h [] = refl
-sum_by-flat_map f h (x ∷ xs) =
-    omega (arith, sum_by-append f (h x) (flat_map h xs), sum_by-cons (λ y. sum_by f (h y)) x xs, sum_by-flat_map f h xs)
+    (bounds 1 SLOT_LIMIT task.wcet (TaskRanges-from_test task (task_in_range-from_sound set g t graph task sound graph_at task_at)).wcet).0
 
 -- the job of an instance
 abbrev pub job_of : TaskSet → ℕ → Graph → ℕ → ℕ → Task → Job
 job_of set g graph k t task =
-    derived_job set (record { key = Offline g t k; release = release_of graph k; deadline = deadline_of graph k; wcet = task.wcet })
+    derived_job set (raw_job g graph k (t, task))
 
 -- the sum of f over the jobs of one instance, and over those of q instances from the one of number first on
 abbrev instance_sum : TaskSet → (Job → ℕ) → ℕ × Graph → ℕ → ℕ

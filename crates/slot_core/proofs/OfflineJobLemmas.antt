@@ -4,10 +4,10 @@ use Rattle.std.specs.Prelude.{Contains, slice_get, find, nat_le, is_none, option
 use Rattle.std.specs.Option.{option_or, option_map_or}
 use Rattle.std.specs.List.{list_any, list_all, range_with_len, enumerate_from}
 use Rattle.std.proofs.Math.Nat.{zero-add, mul-le-mul_right}
-use Rattle.std.proofs.lemmas.Bool.{cases_lt, and_parts, false≢true, eqb-true, leb-true}
+use Rattle.std.proofs.lemmas.Bool.{cases_lt, and_parts, false≢true, eqb-true}
 use Rattle.std.proofs.lemmas.Option.{slice_get_within}
 use Rattle.std.proofs.lemmas.List.Elements.{Contains-append_left, Contains-append_right, Contains-append_cases}
-use Rattle.slot_core.specs.declared.TheConstants.{TASK_LIMIT, SLOT_LIMIT, SPORADIC_LIMIT}
+use Rattle.slot_core.specs.declared.TheConstants.{SLOT_LIMIT}
 use Rattle.slot_core.specs.declared.jobs.Key.TheVariants.{Offline}
 use Rattle.slot_core.specs.declared.jobs.RawJob.{RawJob}
 use Rattle.slot_core.specs.declared.jobs.Job.{Job}
@@ -21,11 +21,12 @@ use Rattle.slot_core.specs.declared.faults.Place.{Place}
 use Rattle.slot_core.specs.declared.faults.TaskFault.TheVariants.{Loop, CycleTooLong}
 use Rattle.slot_core.specs.Cycles.{cycle_lengths, cycle_of, first_multiple_above}
 use Rattle.slot_core.specs.Faults.{first_fault, entries_fault, graph_names_fault, names_fault, after_fault, loop_fault, set_fault}
-use Rattle.slot_core.specs.Ranges.{is_between, is_in_range, is_sound, graph_in_range, task_in_range, sporadic_in_range}
-use Rattle.slot_core.specs.OfflineJobs.{release_of, deadline_of, instance_jobs, graph_jobs, raw_jobs, derived_job, tasks_of, cycle_jobs, offline_jobs}
-use Rattle.slot_core.specs.Precedence.{is_on_loop}
+use Rattle.slot_core.specs.Ranges.{is_in_range, is_sound, graph_in_range, task_in_range, sporadic_in_range}
+use Rattle.slot_core.specs.OfflineJobs.{raw_job, instance_jobs, graph_jobs, raw_jobs, derived_job, tasks_of, cycle_jobs, offline_jobs}
+use Rattle.slot_core.specs.Precedence.{comes_after, is_on_loop}
 use Rattle.slot_core.proofs.ListMembers.{Has, Has-from_Contains, Contains-from_Has, Has-append_left, Has-append_cases, Has-map, Has-map_cases, Has-flat_map, Has-flat_map_cases, Has-range_with_len, Has-range_with_len_bounds, Has-enumerate_from, Has-enumerate_from_at, Has-from_list_any, Has-from_slice_get, passes_from_list_all}
 use Rattle.slot_core.proofs.ChainLemmas.{HasNoLoop}
+use Rattle.slot_core.proofs.RangeFacts.{bounds, GraphRanges-from_test, SporadicRanges-from_test, SetRanges, SetRanges-from_sound}
 use Rattle.slot_core.proofs.FaultLemmas.{None-from_is_none, option_or-None, option_map-None, find-None, first_fault-None, below-from_entries}
 use Rattle.slot_core.proofs.CycleMultiples.{div-mul-IsMultiple, IsMultiple-fold, fold_least_common_multiple-positive, fold_least_common_multiple-le}
 
@@ -33,7 +34,7 @@ use Rattle.slot_core.proofs.CycleMultiples.{div-mul-IsMultiple, IsMultiple-fold,
 pub record IsInstance (set : TaskSet) (job : Job) (g t k : ℕ) (graph : Graph) (task : Task) : Type 0 where
   pub graph_at : slice_get set.graphs g ≡ Some graph
   pub task_at : slice_get graph.tasks t ≡ Some task
-  pub derived : job ≡ derived_job set (record { key = Offline g t k; release = release_of graph k; deadline = deadline_of graph k; wcet = task.wcet })
+  pub derived : job ≡ derived_job set (raw_job g graph k (t, task))
 
 -- the job is the derived job of such an instance, of one of the first n instances of its graph
 pub record IsOfflineJob (set : TaskSet) (cycle from cycles : ℕ) (job : Job) : Type 0 where
@@ -46,41 +47,36 @@ pub record IsOfflineJob (set : TaskSet) (cycle from cycles : ℕ) (job : Job) : 
   pub at_least : from * (cycle / graph.period) ≤ k
   pub below : k < (from + cycles) * (cycle / graph.period)
 
--- the raw job of instance k of task t of graph g
-abbrev raw_instance : ℕ → ℕ → ℕ → Graph → Task → RawJob
-raw_instance g t k graph task =
-    record { key = Offline g t k; release = release_of graph k; deadline = deadline_of graph k; wcet = task.wcet }
-
 -- the raw jobs of an instance are those of the tasks of its graph
-instance_job-listed : (g t k : ℕ) (graph : Graph) (task : Task) → slice_get graph.tasks t ≡ Some task → Has (instance_jobs g graph k) (raw_instance g t k graph task)
+instance_job-listed : (g t k : ℕ) (graph : Graph) (task : Task) → slice_get graph.tasks t ≡ Some task → Has (instance_jobs g graph k) (raw_job g graph k (t, task))
 instance_job-listed g t k graph task at =
     Has-map
-    (λ (i : ℕ × Task). raw_instance g i.0 k graph i.1)
+    (raw_job g graph k)
     (enumerate_from 0 graph.tasks)
     (t, task)
     (Has-enumerate_from 0 graph.tasks t t task (omega arith) at)
 
-instance_job-task : (g k : ℕ) (graph : Graph) (raw : RawJob) → Has (instance_jobs g graph k) raw → (t : ℕ) × (task : Task) × (slice_get graph.tasks t ≡ Some task) × (raw_instance g t k graph task ≡ raw)
+instance_job-task : (g k : ℕ) (graph : Graph) (raw : RawJob) → Has (instance_jobs g graph k) raw → (t : ℕ) × (task : Task) × (slice_get graph.tasks t ≡ Some task) × (raw_job g graph k (t, task) ≡ raw)
 instance_job-task g k graph raw h =
-    let (i, listed, is) = Has-map_cases (λ (i : ℕ × Task). raw_instance g i.0 k graph i.1) (enumerate_from 0 graph.tasks) raw h in
+    let (i, listed, is) = Has-map_cases (raw_job g graph k) (enumerate_from 0 graph.tasks) raw h in
     let (t, place, at) = Has-enumerate_from_at 0 graph.tasks i.0 i.1 listed in
     (i.0, i.1, rw (← place, zero-add) at, is)
 
 -- the raw jobs of a cycle are those of the instances that it releases
-raw_job-listed : (set : TaskSet) (cycle n g t k : ℕ) (graph : Graph) (task : Task) → slice_get set.graphs g ≡ Some graph → slice_get graph.tasks t ≡ Some task → n * (cycle / graph.period) ≤ k → k < (n + 1) * (cycle / graph.period) → Has (raw_jobs set cycle n) (raw_instance g t k graph task)
+raw_job-listed : (set : TaskSet) (cycle n g t k : ℕ) (graph : Graph) (task : Task) → slice_get set.graphs g ≡ Some graph → slice_get graph.tasks t ≡ Some task → n * (cycle / graph.period) ≤ k → k < (n + 1) * (cycle / graph.period) → Has (raw_jobs set cycle n) (raw_job g graph k (t, task))
 raw_job-listed set cycle n g t k graph task graph_at task_at low high =
     let count = cycle / graph.period in
     Has-flat_map
     (graph_jobs cycle n)
     (enumerate_from 0 set.graphs)
     (g, graph)
-    (raw_instance g t k graph task)
+    (raw_job g graph k (t, task))
     (Has-enumerate_from 0 set.graphs g g graph (omega arith) graph_at)
     (Has-flat_map
     (instance_jobs g graph)
     (range_with_len (n * count) count)
     k
-    (raw_instance g t k graph task)
+    (raw_job g graph k (t, task))
     (Has-range_with_len (n * count) count k low (omega arith))
     (instance_job-listed g t k graph task task_at))
 
@@ -117,7 +113,7 @@ offline_from_cycle set cycle n job h =
 
 pub cycle_from_offline : (set : TaskSet) (cycle n : ℕ) (job : Job) → IsOfflineJob set cycle n 1 job → Contains (cycle_jobs set cycle n) job
 cycle_from_offline set cycle n job h =
-    let raw = raw_instance h.g h.t h.k h.graph h.task in
+    let raw = raw_job h.g h.graph h.k (h.t, h.task) in
     let listed = raw_job-listed set cycle n h.g h.t h.k h.graph h.task h.instance_of.graph_at h.instance_of.task_at h.at_least h.below in
     Contains-from_Has
     (cycle_jobs set cycle n)
@@ -163,10 +159,8 @@ cycles_from_offline set cycle (suc n) job h =
       | inr high ↦ Contains-append_right (offline_jobs set cycle n) (cycle_jobs set cycle n) job (cycle_from_offline set cycle n job (IsOfflineJob-moved set cycle 0 (suc n) n 1 job h high (omega (arith, h.below))))
     ]
 
--- a sound set is in range, and has no fault of any kind
+-- a sound set has no fault of any kind
 record IsFaultless (set : TaskSet) : Type 0 where
-  graphs : list_all graph_in_range set.graphs ≡ true
-  sporadics : list_all sporadic_in_range set.sporadics ≡ true
   named : first_fault after_fault 0 set.graphs ≡ None
   loopless : first_fault loop_fault 0 set.graphs ≡ None
   short : first_multiple_above SLOT_LIMIT 1 (cycle_lengths set) ≡ None
@@ -178,17 +172,12 @@ IsFaultless-from_sound set sound =
     let entries = first_fault after_fault 0 set.graphs in
     let loops = first_fault loop_fault 0 set.graphs in
     let above = option_map CycleTooLong (first_multiple_above SLOT_LIMIT 1 (cycle_lengths set)) in
-    let (in_range, faultless) = and_parts (is_in_range set) (is_none (set_fault set)) sound in
-    let (front, sporadics) = and_parts _ (list_all sporadic_in_range set.sporadics) in_range in
-    let (counted, _) = and_parts _ (nat_le (length set.sporadics) SPORADIC_LIMIT) front in
-    let (_, graphs) = and_parts _ (list_all graph_in_range set.graphs) counted in
+    let (_, faultless) = and_parts (is_in_range set) (is_none (set_fault set)) sound in
     let (_, after_names) = option_or-None names (option_or sporadic_names (option_or entries (option_or loops above))) (None-from_is_none (set_fault set) faultless) in
     let (_, after_sporadics) = option_or-None sporadic_names (option_or entries (option_or loops above)) after_names in
     let (named, after_entries) = option_or-None entries (option_or loops above) after_sporadics in
     let (loopless, not_above) = option_or-None loops above after_entries in
     record {
-      graphs = graphs;
-      sporadics = sporadics;
       named = named;
       loopless = loopless;
       short = option_map-None CycleTooLong (first_multiple_above SLOT_LIMIT 1 (cycle_lengths set)) not_above;
@@ -197,26 +186,14 @@ IsFaultless-from_sound set sound =
 -- what soundness says of a graph and of a task of it
 pub graph_in_range-from_sound : (set : TaskSet) (g : ℕ) (graph : Graph) → is_sound set ≡ true → slice_get set.graphs g ≡ Some graph → graph_in_range graph ≡ true
 graph_in_range-from_sound set g graph sound at =
-    passes_from_list_all graph_in_range set.graphs graph (IsFaultless-from_sound set sound).graphs (Has-from_slice_get set.graphs g graph at)
+    passes_from_list_all graph_in_range set.graphs graph (SetRanges-from_sound set sound).graphs (Has-from_slice_get set.graphs g graph at)
 
--- the parts of a graph in range that are used below
+-- the parts of the ranges that are used below
 period-positive : (graph : Graph) → graph_in_range graph ≡ true → 1 ≤ graph.period
-period-positive graph h =
-    let (counted, _) = and_parts _ (list_all task_in_range graph.tasks) h in
-    let (due, _) = and_parts _ (is_between 1 TASK_LIMIT (length graph.tasks)) counted in
-    let (released, _) = and_parts _ (is_between 1 (graph.period - graph.offset) graph.deadline) due in
-    let (repeated, _) = and_parts _ (is_between 0 (graph.period - 1) graph.offset) released in
-    let (_, period) = and_parts _ (is_between 1 SLOT_LIMIT graph.period) repeated in
-    leb-true 1 graph.period (and_parts _ (nat_le graph.period SLOT_LIMIT) period).0
-
-tasks_in_range : (graph : Graph) → graph_in_range graph ≡ true → list_all task_in_range graph.tasks ≡ true
-tasks_in_range graph h = (and_parts _ (list_all task_in_range graph.tasks) h).1
+period-positive graph h = (bounds 1 SLOT_LIMIT graph.period (GraphRanges-from_test graph h).period).0
 
 separation-positive : (s : Sporadic) → sporadic_in_range s ≡ true → 1 ≤ s.separation
-separation-positive s h =
-    let (apart, _) = and_parts _ (is_between 1 s.separation s.deadline) h in
-    let (_, separation) = and_parts _ (is_between 1 SLOT_LIMIT s.separation) apart in
-    leb-true 1 s.separation (and_parts _ (nat_le s.separation SLOT_LIMIT) separation).0
+separation-positive s h = (bounds 1 SLOT_LIMIT s.separation (SporadicRanges-from_test s h).separation).0
 
 pub task_in_range-from_sound : (set : TaskSet) (g t : ℕ) (graph : Graph) (task : Task) → is_sound set ≡ true → slice_get set.graphs g ≡ Some graph → slice_get graph.tasks t ≡ Some task → task_in_range task ≡ true
 task_in_range-from_sound set g t graph task sound graph_at task_at =
@@ -224,7 +201,7 @@ task_in_range-from_sound set g t graph task sound graph_at task_at =
     task_in_range
     graph.tasks
     task
-    (tasks_in_range graph (graph_in_range-from_sound set g graph sound graph_at))
+    (GraphRanges-from_test graph (graph_in_range-from_sound set g graph sound graph_at)).tasks
     (Has-from_slice_get graph.tasks t task task_at)
 
 -- where there are no tasks, none is on a loop
@@ -240,10 +217,10 @@ entries_place : ℕ → ℕ → Place
 entries_place g t = record { part = TaskPart g t; field = After }
 
 -- where `after` lists have no fault, each entry names a task
-named-from_after_fault : (g : ℕ) (graph : Graph) (t p : ℕ) (o : Option Task) → slice_get graph.tasks t ≡ o → after_fault g graph ≡ None → list_any (λ a. a == p) (option_map_or (λ (task : Task). task.after) o []) ≡ true → (t < length graph.tasks) × (p < length graph.tasks)
+named_entry : (g : ℕ) (graph : Graph) (t p : ℕ) (o : Option Task) → slice_get graph.tasks t ≡ o → after_fault g graph ≡ None → list_any (λ a. a == p) (option_map_or (λ (task : Task). task.after) o []) ≡ true → (t < length graph.tasks) × (p < length graph.tasks)
 unfolding entries_place
-named-from_after_fault g graph t p None at none h = absurd (false≢true h)
-named-from_after_fault g graph t p (Some task) at none h =
+named_entry g graph t p None at none h = absurd (false≢true h)
+named_entry g graph t p (Some task) at none h =
     let (a, listed, same) = Has-from_list_any (λ a. a == p) task.after h in
     let clean = first_fault-None
     (λ t (task : Task). entries_fault (entries_place g t) (length graph.tasks) [] task.after)
@@ -258,13 +235,16 @@ named-from_after_fault g graph t p (Some task) at none h =
     let below = below-from_entries (entries_place g t) (length graph.tasks) [] task.after a clean listed in
     (slice_get_within graph.tasks t task at, omega (arith, below, eqb-true a p same))
 
+pub named-from_after_fault : (g : ℕ) (graph : Graph) → after_fault g graph ≡ None → (t p : ℕ) → comes_after graph.tasks t p ≡ true → (t < length graph.tasks) × (p < length graph.tasks)
+named-from_after_fault g graph none t p h = named_entry g graph t p (slice_get graph.tasks t) refl none h
+
 -- where `after` lists and loops have no fault, no task is on a loop
 HasNoLoop-from_faults : (g : ℕ) (graph : Graph) → after_fault g graph ≡ None → loop_fault g graph ≡ None → HasNoLoop graph.tasks
 HasNoLoop-from_faults g graph named loopless =
     let none = option_map-None (Loop g) (find (is_on_loop graph.tasks) (range_with_len 0 (length graph.tasks))) loopless in
     record {
       loopless = λ t low. find-None (is_on_loop graph.tasks) (range_with_len 0 (length graph.tasks)) t none (Has-range_with_len 0 (length graph.tasks) t (omega arith) (omega arith));
-      named = λ t p after. named-from_after_fault g graph t p (slice_get graph.tasks t) refl named after;
+      named = named-from_after_fault g graph named;
     }
 
 -- no task of a sound set is on a loop
@@ -284,14 +264,14 @@ HasNoLoop-from_sound set g sound = go (slice_get set.graphs g) refl
 -- each length of a cycle is at least 1
 cycle_lengths-positive : (set : TaskSet) → is_sound set ≡ true → (n : ℕ) → Has (cycle_lengths set) n → 1 ≤ n
 cycle_lengths-positive set sound n h =
-    let faultless = IsFaultless-from_sound set sound in
+    let ranges = SetRanges-from_sound set sound in
     let periods = map (λ (g : Graph). g.period) set.graphs in
     let separations = map (λ (s : Sporadic). s.separation) set.sporadics in
     elim (Has-append_cases periods separations n h) [
       | inl a ↦ let (graph, at, is) = Has-map_cases (λ (g : Graph). g.period) set.graphs n a in
-          omega (arith, is, period-positive graph (passes_from_list_all graph_in_range set.graphs graph faultless.graphs at))
+          omega (arith, is, period-positive graph (passes_from_list_all graph_in_range set.graphs graph ranges.graphs at))
       | inr b ↦ let (sporadic, at, is) = Has-map_cases (λ (s : Sporadic). s.separation) set.sporadics n b in
-          omega (arith, is, separation-positive sporadic (passes_from_list_all sporadic_in_range set.sporadics sporadic faultless.sporadics at))
+          omega (arith, is, separation-positive sporadic (passes_from_list_all sporadic_in_range set.sporadics sporadic ranges.sporadics at))
     ]
 
 -- the cycle is a multiple of each period, at least 1 and at most 4096

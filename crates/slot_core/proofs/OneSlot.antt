@@ -20,6 +20,8 @@ use Rattle.slot_core.specs.Demand.{work_by, work_from}
 use Rattle.slot_core.specs.Choice.{earlier_of, earliest, ready, earliest_ready}
 use Rattle.slot_core.specs.Steps.{after_run, after_slot, IsSafe}
 use Rattle.slot_core.specs.Scenes.{Scene}
+use Rattle.slot_core.proofs.ListMembers.{Has}
+use Rattle.slot_core.proofs.SumLemmas.{cond-le}
 
 -- the sum of the slots left of the jobs whose start and deadline pass the test
 abbrev work_where : (ℕ → ℕ → Bool) → List Job → ℕ
@@ -67,11 +69,7 @@ due_after_each t x best (j ∷ jobs) h =
         let r = passed d in
         (r.0, (λ le. absurd (omega (arith, leb-false j.est t e)), r.1))
 
--- the job is one of the list
-abbrev IsAmong : Job → List Job → Type 0
-IsAmong job [] = ⊥
-IsAmong job (j ∷ jobs) = (j ≡ job) ⊎ IsAmong job jobs
-
+-- the earlier of two is one of them
 chosen_of_two : (best : Option Job) (j job : Job) → earlier_of best j ≡ Some job → (best ≡ Some job) ⊎ (j ≡ job)
 chosen_of_two None j job h = inr (cc)
 chosen_of_two (Some best) j job h = by_test (is_earlier j best) h
@@ -81,24 +79,24 @@ chosen_of_two (Some best) j job h = by_test (is_earlier j best) h
     by_test false e = inl e
 
 -- the earliest ready job is one of the jobs
-chosen_is_among : (t : ℕ) (best : Option Job) (jobs : List Job) (job : Job) → fold earlier_of best (ready t jobs) ≡ Some job → (best ≡ Some job) ⊎ IsAmong job jobs
+chosen_is_among : (t : ℕ) (best : Option Job) (jobs : List Job) (job : Job) → fold earlier_of best (ready t jobs) ≡ Some job → (best ≡ Some job) ⊎ Has jobs job
 chosen_is_among t best [] job h = inl h
 chosen_is_among t best (j ∷ jobs) job h =
     by_test (nat_le j.est t) (chosen_is_among t (earlier_of best j) jobs job) (chosen_is_among t best jobs job) h
   where
-    among : (best ≡ Some job) ⊎ IsAmong job jobs → (best ≡ Some job) ⊎ ((j ≡ job) ⊎ IsAmong job jobs)
+    among : (best ≡ Some job) ⊎ Has jobs job → (best ≡ Some job) ⊎ ((j ≡ job) ⊎ Has jobs job)
     among (inl e) = inl e
     among (inr m) = inr (inr m)
 
-    of_two : (best ≡ Some job) ⊎ (j ≡ job) → (best ≡ Some job) ⊎ ((j ≡ job) ⊎ IsAmong job jobs)
+    of_two : (best ≡ Some job) ⊎ (j ≡ job) → (best ≡ Some job) ⊎ ((j ≡ job) ⊎ Has jobs job)
     of_two (inl e) = inl e
     of_two (inr e) = inr (inl e)
 
-    among_two : (earlier_of best j ≡ Some job) ⊎ IsAmong job jobs → (best ≡ Some job) ⊎ ((j ≡ job) ⊎ IsAmong job jobs)
+    among_two : (earlier_of best j ≡ Some job) ⊎ Has jobs job → (best ≡ Some job) ⊎ ((j ≡ job) ⊎ Has jobs job)
     among_two (inl e) = of_two (chosen_of_two best j job e)
     among_two (inr m) = inr (inr m)
 
-    by_test : (b : Bool) → (fold earlier_of (earlier_of best j) (ready t jobs) ≡ Some job → (earlier_of best j ≡ Some job) ⊎ IsAmong job jobs) → (fold earlier_of best (ready t jobs) ≡ Some job → (best ≡ Some job) ⊎ IsAmong job jobs) → fold earlier_of best (cond b (j ∷ ready t jobs) (ready t jobs)) ≡ Some job → (best ≡ Some job) ⊎ ((j ≡ job) ⊎ IsAmong job jobs)
+    by_test : (b : Bool) → (fold earlier_of (earlier_of best j) (ready t jobs) ≡ Some job → (earlier_of best j ≡ Some job) ⊎ Has jobs job) → (fold earlier_of best (ready t jobs) ≡ Some job → (best ≡ Some job) ⊎ Has jobs job) → fold earlier_of best (cond b (j ∷ ready t jobs) (ready t jobs)) ≡ Some job → (best ≡ Some job) ⊎ ((j ≡ job) ⊎ Has jobs job)
     by_test true taken passed e = among_two (taken e)
     by_test false taken passed e = among (passed e)
 
@@ -113,10 +111,6 @@ is_eq-slice_cmp_self (x ∷ xs) = is_eq-then x (slice_cmp nat_cmp xs xs) (is_eq-
 -- the slots left that pass, of one job
 abbrev left_where : (ℕ → ℕ → Bool) → Job → ℕ
 left_where test j = cond (test j.est j.dl) j.left 0
-
-cond-le : (b : Bool) (n : ℕ) → cond b n 0 ≤ n
-cond-le true n = omega arith
-cond-le false n = omega arith
 
 -- a job without a slot left counts for nothing
 work_where-kept : (test : ℕ → ℕ → Bool) (j : Job) (jobs : List Job) → work_where test (cond (nat_lt 0 j.left) (j ∷ jobs) jobs) ≡ left_where test j + work_where test jobs
@@ -152,7 +146,7 @@ left_where-ran : (test : ℕ → ℕ → Bool) (job : Job) → 1 ≤ job.left �
 left_where-ran test job some passes =
     rw (is_eq-slice_cmp_self _) (rw passes (omega arith))
 
-work_where-ran : (test : ℕ → ℕ → Bool) (job : Job) (jobs : List Job) → AllByRecursion (λ (j : Job). 1 ≤ j.left) jobs → test job.est job.dl ≡ true → IsAmong job jobs → work_where test (after_run job.key jobs) + 1 ≤ work_where test jobs
+work_where-ran : (test : ℕ → ℕ → Bool) (job : Job) (jobs : List Job) → AllByRecursion (λ (j : Job). 1 ≤ j.left) jobs → test job.est job.dl ≡ true → Has jobs job → work_where test (after_run job.key jobs) + 1 ≤ work_where test jobs
 work_where-ran test job [] some passes among = absurd among
 work_where-ran test job (j ∷ jobs) some passes (inl same) =
     omega (arith, work_where-kept test (job_after job.key j) (after_run job.key jobs), here, work_where-after test job.key jobs, sum_by-cons (left_where test) j jobs)
@@ -192,10 +186,10 @@ work_by-le-work_from t x (j ∷ jobs) h =
     let from_t = λ (j : Job). cond (nat_le (t + 1) j.est && nat_le j.dl x) j.left 0 in
     omega (arith, sum_by-cons by_x j jobs, sum_by-cons from_t j jobs, starts_later t x j.est j.dl j.left h.0, work_by-le-work_from t x jobs h.1)
 
-chosen_from_none : (t : ℕ) (jobs : List Job) (job : Job) → earliest (ready t jobs) ≡ Some job → IsAmong job jobs
+chosen_from_none : (t : ℕ) (jobs : List Job) (job : Job) → earliest (ready t jobs) ≡ Some job → Has jobs job
 chosen_from_none t jobs job e = among (chosen_is_among t None jobs job e)
   where
-    among : (None ≡ Some job) ⊎ IsAmong job jobs → IsAmong job jobs
+    among : (None ≡ Some job) ⊎ Has jobs job → Has jobs job
     among (inl differs) = cc
     among (inr m) = m
 

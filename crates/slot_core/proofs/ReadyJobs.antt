@@ -13,7 +13,7 @@ use Rattle.slot_core.specs.Histories.{History}
 use Rattle.slot_core.specs.Scenes.{unended}
 use Rattle.slot_core.specs.Choice.{ready}
 use Rattle.slot_core.proofs.CycleWindows.{IsOfCycle-from_cycle}
-use Rattle.slot_core.proofs.HistoryLemmas.{IsAmong, Contains-from_among}
+use Rattle.slot_core.proofs.ListMembers.{Has, Contains-from_Has}
 
 -- the jobs that have not ended and may run at time t
 abbrev pub ready_in : ℕ → History → List Job → List Job
@@ -27,7 +27,7 @@ ready_in-append t h xs ys = simp (filter-append, map-append)
 ready_in-cons : (t : ℕ) (h : History) (j : Job) (js : List Job) → t < j.est → ready_in t h js ≡ [] → ready_in t h (j ∷ js) ≡ []
 ready_in-cons t h j js late rest = grind (arith, nat_tests)
 
-ready_in-late : (t : ℕ) (h : History) (jobs : List Job) → ((job : Job) → IsAmong job jobs → t < job.est) → ready_in t h jobs ≡ []
+ready_in-late : (t : ℕ) (h : History) (jobs : List Job) → ((job : Job) → Has jobs job → t < job.est) → ready_in t h jobs ≡ []
 ready_in-late t h [] late = refl
 ready_in-late t h (j ∷ js) late =
     ready_in-cons t h j js (late j (inl refl)) (ready_in-late t h js (λ job at. late job (inr at)))
@@ -36,8 +36,8 @@ ready_in-late t h (j ∷ js) late =
 ready_in-next : (set : TaskSet) (t : ℕ) (h : History) (n : ℕ) → is_sound set ≡ true → t < n * cycle_of set → ready_in t h (offline_jobs set (cycle_of set) (suc n)) ≡ ready_in t h (offline_jobs set (cycle_of set) n)
 ready_in-next set t h n sound early =
     let fresh = cycle_jobs set (cycle_of set) n in
-    let starts = λ (job : Job) (at : IsAmong job fresh).
-    (IsOfCycle-from_cycle set n job sound (Contains-from_among fresh job at)).starts in
+    let starts = λ (job : Job) (at : Has fresh job).
+    (IsOfCycle-from_cycle set n job sound (Contains-from_Has fresh job at)).starts in
     let none = ready_in-late t h fresh (λ job at. omega (arith, starts job at)) in
     let split = ready_in-append t h (offline_jobs set (cycle_of set) n) fresh in
     rw (split, none, append-nil)

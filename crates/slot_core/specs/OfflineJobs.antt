@@ -23,13 +23,14 @@ release_of graph instance = instance * graph.period + graph.offset
 abbrev pub deadline_of : Graph → ℕ → ℕ
 deadline_of graph instance = release_of graph instance + graph.deadline
 
+-- the raw job of a task of graph g in one instance
+abbrev pub raw_job : ℕ → Graph → ℕ → ℕ × Task → RawJob
+raw_job g graph instance t =
+    record { key = Offline g t.0 instance; release = release_of graph instance; deadline = deadline_of graph instance; wcet = t.1.wcet }
+
 -- the raw jobs of one instance of graph g, one a task
 abbrev pub instance_jobs : ℕ → Graph → ℕ → List RawJob
-instance_jobs g graph instance =
-    map
-    (λ (t : ℕ × Task).
-    record { key = Offline g t.0 instance; release = release_of graph instance; deadline = deadline_of graph instance; wcet = t.1.wcet })
-    (enumerate_from 0 graph.tasks)
+instance_jobs g graph instance = map (raw_job g graph instance) (enumerate_from 0 graph.tasks)
 
 -- the raw jobs of graph g that are released in cycle n
 abbrev pub graph_jobs : ℕ → ℕ → ℕ × Graph → List RawJob

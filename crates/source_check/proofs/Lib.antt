@@ -1,4 +1,3 @@
 pub mod CycleLemmas
-pub mod EntryLemmas
 pub mod FaultSteps
 pub mod RangeLemmas

@@ -9,7 +9,7 @@ use Rattle.slot_core.specs.Precedence.{after_of, wcet_of, comes_after, longest_b
 use Rattle.slot_core.proofs.ListMembers.{Has, Has-append_cases, Has-from_Contains}
 use Rattle.window_derive.specs.Orders.{IsOrder}
 use Rattle.window_derive.specs.Chains.{AreOrderable, AreChainsBefore, AreChainsAfter}
-use Rattle.window_derive.proofs.BoolLists.{equal-from_Has}
+use Rattle.slot_core.proofs.ListTests.{equal-from_Has}
 use Rattle.window_derive.proofs.ChainSteps.{HasNoLoop-from_orderable, has_entries, longest_before-by_entries, longest_after-by_successors, longest_by, longest_by-cons, chain_bound, predecessors_before, successors_after}
 use Rattle.window_derive.proofs.OrderLemmas.{IsNext-from_next_task}
 

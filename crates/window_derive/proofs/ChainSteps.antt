@@ -15,7 +15,7 @@ use Rattle.slot_core.proofs.ChainRoom.{chain_room, sum_below}
 use Rattle.slot_core.proofs.FaultLemmas.{find-None}
 use Rattle.window_derive.specs.Orders.{IsOrder}
 use Rattle.window_derive.specs.Chains.{AreOrderable}
-use Rattle.window_derive.proofs.BoolLists.{equal-from_Has, Has-from_equal, place-from_Has, Has-from_place}
+use Rattle.slot_core.proofs.ListTests.{equal-from_Has, Has-from_equal, place-from_Has, Has-from_place}
 use Rattle.window_derive.proofs.LoopLemmas.{after_of-past}
 use Rattle.window_derive.proofs.OrderLemmas.{IsNext-from_next_task}
 
@@ -118,15 +118,15 @@ longest_after-by_successors tasks done t sound all =
     omega arith
 
 -- one task more before those that make chains
-fold_max-start : (a : ℕ) (xs : List ℕ) → fold max a xs ≡ max (fold max 0 xs) a
-fold_max-start a [] = omega arith
-fold_max-start a (x ∷ xs) = omega (arith, fold_max-start (max a x) xs, fold_max-start (max 0 x) xs)
+fold_max-from : (a : ℕ) (xs : List ℕ) → fold max a xs ≡ max (fold max 0 xs) a
+fold_max-from a [] = omega arith
+fold_max-from a (x ∷ xs) = omega (arith, fold_max-from (max a x) xs, fold_max-from (max 0 x) xs)
 
 pub longest_by-cons : (tasks : List Task) (s : ℕ) (done : List ℕ) (t : ℕ) → longest_by tasks (s ∷ done) t ≡ cond (comes_after tasks s t) (max (longest_by tasks done t) (longest_after tasks s + wcet_of tasks s)) (longest_by tasks done t)
 longest_by-cons tasks s done t =
     let f = λ (s : ℕ). longest_after tasks s + wcet_of tasks s in
     let rest = filter (λ s. comes_after tasks s t) done in
-    let raised : fold max 0 (f s ∷ map f rest) ≡ max (fold max 0 (map f rest)) (f s) = omega (arith, fold_max-start (max 0 (f s)) (map f rest)) in
+    let raised : fold max 0 (f s ∷ map f rest) ≡ max (fold max 0 (map f rest)) (f s) = omega (arith, fold_max-from (max 0 (f s)) (map f rest)) in
     elim (comes_after tasks s t) as (λ b. fold max 0 (map f (cond b (s ∷ rest) rest)) ≡ cond b (max (fold max 0 (map f rest)) (f s)) (fold max 0 (map f rest))) [
       | true ↦ raised
       | false ↦ refl

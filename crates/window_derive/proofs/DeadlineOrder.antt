@@ -17,19 +17,13 @@ use Rattle.std.proofs.lemmas.Map.Lookups.{exact_bytes}
 use Rattle.slot_core.specs.declared.jobs.Job.{Job}
 use Rattle.slot_core.specs.Keys.{key_order, deadline_order, is_earlier}
 use Rattle.slot_core.specs.Plans.{AreInDeadlineOrder}
-use Rattle.slot_core.proofs.ChoiceLemmas.{same_from_key}
+use Rattle.slot_core.proofs.ChoiceLemmas.{job_cmp, job_cmp_total, same_from_key}
 use Rattle.slot_core.proofs.DistinctKeys.{IsApart}
 use Rattle.slot_core.proofs.ListMembers.{AllByRecursion-from_Has}
 
--- the order of jobs
-abbrev pub job_cmp : Job → Job → Ordering
-job_cmp a b = slice_cmp nat_cmp (deadline_order a) (deadline_order b)
-
+-- the two jobs stand level
 abbrev same_job : Job → Job → Bool
 same_job a b = is_eq (job_cmp a b)
-
-job_cmp-total : IsTotalOrder job_cmp
-job_cmp-total = on_total deadline_order nat_list_cmp_total
 
 equal_itself : (xs : List ℕ) → is_eq (slice_cmp nat_cmp xs xs) ≡ true
 equal_itself xs = ap is_eq (tied_itself nat_list_cmp_total xs)
@@ -58,7 +52,7 @@ less_from_neither Greater there e up apart = ap is_lt e
 -- of two jobs that are not the same, the one that is not the later is the earlier
 earlier : (a b : Job) → is_lt (job_cmp b a) ≡ false → same_job a b ≡ false → is_earlier a b ≡ true
 earlier a b up apart =
-    let back : job_cmp a b ≡ ordering_reverse (job_cmp b a) = job_cmp-total.antisymm a b in
+    let back : job_cmp a b ≡ ordering_reverse (job_cmp b a) = job_cmp_total.antisymm a b in
     less_from_neither (job_cmp b a) (job_cmp a b) back up apart
 
 AreInDeadlineOrder-from_distinct : (jobs : List Job) → IsSortedBy (λ a b. is_lt (job_cmp a b)) jobs → IsDistinct same_job jobs → AreInDeadlineOrder jobs
@@ -76,4 +70,4 @@ AreInDeadlineOrder-from_distinct (job ∷ jobs) up distinct =
 -- sorted jobs are in deadline order, where their keys were distinct before the sort
 pub AreInDeadlineOrder-from_sorted : (before jobs : List Job) → IsApart (λ (j : Job). j.key) before → IsPermutation before jobs → IsSortedBy (λ a b. is_lt (job_cmp a b)) jobs → AreInDeadlineOrder jobs
 AreInDeadlineOrder-from_sorted before jobs apart moved up =
-    AreInDeadlineOrder-from_distinct jobs up (IsDistinct-IsPermutation same_job (eq_by_cmp_equiv job_cmp-total).symm before jobs moved (IsDistinct-from_apart before apart))
+    AreInDeadlineOrder-from_distinct jobs up (IsDistinct-IsPermutation same_job (eq_by_cmp_equiv job_cmp_total).symm before jobs moved (IsDistinct-from_apart before apart))

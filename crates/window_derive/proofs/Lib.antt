@@ -1,4 +1,3 @@
-pub mod BoolLists
 pub mod ChainArrays
 pub mod ChainSteps
 pub mod DeadlineOrder

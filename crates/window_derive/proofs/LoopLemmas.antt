@@ -10,6 +10,7 @@ use Rattle.std.proofs.lemmas.Option.{slice_get-get_or, slice_get_past}
 use Rattle.slot_core.specs.declared.tasks.Task.{Task}
 use Rattle.slot_core.specs.Precedence.{after_of, wcet_of, comes_after, leads_to}
 use Rattle.slot_core.proofs.ListMembers.{Has-from_Contains, list_any-from_Has}
+use Rattle.slot_core.proofs.ListTests.{list_any-same}
 use Rattle.window_derive.specs.Marks.{is_marked}
 
 -- where no element is true, no task is marked
@@ -52,11 +53,6 @@ entries_below tasks i n entries named count is =
     let below : p < length tasks = named i p (sym (ap (list_any (λ a. a == p)) is) ∙ listed) in
     omega arith
 
--- two tests that agree have one answer
-pub list_any-same : {X : Type 0} (p q : X → Bool) (xs : List X) → ((x : X) → p x ≡ q x) → list_any p xs ≡ list_any q xs
-list_any-same p q [] same = refl
-list_any-same p q (x ∷ xs) same = ap (λ b. b || list_any p xs) (same x) ∙ ap (λ b. q x || b) (list_any-same p q xs same)
-
 -- a test of the numbers of a range that the first one fails, and that it passes
 pub any_later : (p : ℕ → Bool) (at n m : ℕ) (r : Bool) → n ≡ suc m → p at ≡ false → list_any p (range_with_len at n) ≡ r → list_any p (range_with_len (at + 1) m) ≡ r
 any_later p at n m r e fails all =
@@ -78,7 +74,7 @@ find_here p at n m r e passes all =
 -- the same marks, at a path of one entry more
 pub leads_more : (tasks : List Task) (before marks : List Bool) (k task : ℕ) → ((t : ℕ) → is_marked marks t ≡ leads_to tasks k t task) → ((t : ℕ) → is_marked before t ≡ list_any (is_marked marks) (after_of tasks t)) → (t : ℕ) → is_marked before t ≡ leads_to tasks (k + 1) t task
 leads_more tasks before marks k task leads steps t =
-    steps t ∙ list_any-same (is_marked marks) (λ p. leads_to tasks k p task) (after_of tasks t) leads ∙ ap (λ n. leads_to tasks n t task) (sym (add-one k))
+    steps t ∙ list_any-same (is_marked marks) (λ p. leads_to tasks k p task) (after_of tasks t) (λ p _. leads p) ∙ ap (λ n. leads_to tasks n t task) (sym (add-one k))
 
 -- the task alone is marked
 pub leads_none : (tasks : List Task) (marks : List Bool) (task : ℕ) → list_all not marks ≡ true → task < length marks → (t : ℕ) → is_marked (set marks task true) t ≡ leads_to tasks 0 t task

@@ -8,7 +8,7 @@ use Rattle.std.proofs.lemmas.Bool.Decides.{nat_tests}
 use Rattle.std.proofs.lemmas.List.{take_more}
 use Rattle.std.proofs.lemmas.Option.{slice_get-get_or, slice_get_past, slice_get_within}
 use Rattle.std.proofs.Math.Nat.{mul-le-mul_right}
-use Rattle.slot_core.specs.declared.TheConstants.{TASK_LIMIT}
+use Rattle.slot_core.specs.declared.TheConstants.{SLOT_LIMIT}
 use Rattle.slot_core.specs.declared.jobs.Key.TheVariants.{Offline}
 use Rattle.slot_core.specs.declared.jobs.Job.{Job}
 use Rattle.slot_core.specs.declared.jobs.RawJob.{RawJob}
@@ -20,23 +20,15 @@ use Rattle.slot_core.specs.OfflineJobs.{raw_jobs, derived_job, tasks_of, release
 use Rattle.slot_core.specs.Precedence.{wcet_of, is_on_loop, longest_before, longest_after}
 use Rattle.slot_core.specs.Ranges.{is_sound, is_between, graph_in_range, task_in_range}
 use Rattle.slot_core.proofs.ListMembers.{Has, Has-map, Contains-from_Has, Has-range_with_len_bounds}
+use Rattle.slot_core.proofs.DistinctKeys.{same_numbers}
 use Rattle.slot_core.proofs.ChainLemmas.{HasNoLoop}
 use Rattle.slot_core.proofs.OfflineJobLemmas.{offline_from_cycle, graph_in_range-from_sound, task_in_range-from_sound, HasNoLoop-from_sound, cycle-multiple, cycle-at_most}
-use Rattle.slot_core.proofs.MovedCycles.{GraphFits, GraphFits-from_sound}
+use Rattle.slot_core.proofs.RangeFacts.{bounds, TaskRanges-from_test, GraphFits, few_tasks}
+use Rattle.slot_core.proofs.MovedCycles.{GraphFits-from_sound}
 use Rattle.window_derive.specs.declared.windows.Chains.{Chains}
 use Rattle.window_derive.specs.Chains.{AreOrderable}
 use Rattle.window_derive.specs.GraphChains.{AreChainsOf, AreChainsOfGraphs, HasChains, before_in, after_in, job_by}
-use Rattle.window_derive.proofs.BoolLists.{None-from_fails}
-
--- what the ranges say of the number of tasks and of the slots of a task. Here alone the value of TASK_LIMIT counts
-few_tasks : (graph : Graph) → graph_in_range graph ≡ true → length graph.tasks ≤ 32
-few_tasks graph h =
-    let (counted, _) = and_parts _ (list_all task_in_range graph.tasks) h in
-    let (_, count) = and_parts _ (is_between 1 TASK_LIMIT (length graph.tasks)) counted in
-    omega (arith, leb-true (length graph.tasks) TASK_LIMIT (and_parts (nat_le 1 (length graph.tasks)) (nat_le (length graph.tasks) TASK_LIMIT) count).1)
-
-slots_fit : (name after : Bool) (wcet : ℕ) → (name && is_between 1 4096 wcet && after) ≡ true → (1 ≤ wcet) × (wcet ≤ 4096)
-slots_fit name after wcet h = grind (arith, nat_tests)
+use Rattle.slot_core.proofs.ListTests.{None-from_fails}
 
 -- the tasks of a graph of the set are those at its place
 tasks_at : (set : TaskSet) (g : ℕ) (graph : Graph) → slice_get set.graphs g ≡ Some graph → tasks_of set g ≡ graph.tasks
@@ -58,7 +50,7 @@ slice_get-within (x ∷ xs) (suc i) within = slice_get-within xs i (omega arith)
 task_slots : (set : TaskSet) (g : ℕ) (graph : Graph) → is_sound set ≡ true → slice_get set.graphs g ≡ Some graph → (t : ℕ) → t < length graph.tasks → (1 ≤ wcet_of graph.tasks t) × (wcet_of graph.tasks t ≤ 4096)
 task_slots set g graph sound at t within =
     let task = slice_get-within graph.tasks t within in
-    let fits = slots_fit _ _ task.0.wcet (task_in_range-from_sound set g t graph task.0 sound at task.1) in
+    let fits = bounds 1 SLOT_LIMIT task.0.wcet (TaskRanges-from_test task.0 (task_in_range-from_sound set g t graph task.0 sound at task.1)).wcet in
     let value = wcet_at graph.tasks t task.0 task.1 in
     (omega arith, omega arith)
 
@@ -137,12 +129,6 @@ AllZip-slice_get R (z ∷ xs) (y ∷ ys) zero x all at =
     (y, refl, subst (λ w. R w y) same all.0)
 AllZip-slice_get R (z ∷ xs) (y ∷ ys) (suc i) x all at = AllZip-slice_get R xs ys i x all.1 at
 
-same_graph : (g h t u k l : ℕ) → Offline g t k ≡ Offline h u l → g ≡ h
-same_graph g h t u k l e = cc
-
-same_task : (g h t u k l : ℕ) → Offline g t k ≡ Offline h u l → t ≡ u
-same_task g h t u k l e = cc
-
 -- chains of the graphs of a sound set are those of its raw jobs
 pub HasChains-from_graphs : (set : TaskSet) (chains : List Chains) (raw : RawJob) → is_sound set ≡ true → AreChainsOfGraphs set.graphs chains → IsRawJob set raw → HasChains chains raw
 HasChains-from_graphs set chains raw sound all is =
@@ -151,8 +137,8 @@ HasChains-from_graphs set chains raw sound all is =
     let few = (AreOrderable-from_sound set is.g is.graph sound is.graph_at).count in
     record {
       listed = λ g t k e.
-          let same = sym e ∙ is.key in
-          (omega (arith, same_graph g is.g t is.t k is.k same), omega (arith, same_task g is.g t is.t k is.k same, is.within));
+          let same = same_numbers g is.g t is.t k is.k (sym e ∙ is.key) in
+          (omega (arith, same.0), omega (arith, same.1, is.within));
       early = is.early;
     }
 

@@ -10,7 +10,7 @@ use Rattle.slot_core.proofs.ListMembers.{Has, Has-filter_passes, Has-range_with_
 use Rattle.slot_core.proofs.ChainLemmas.{leads_to_push}
 use Rattle.slot_core.proofs.FaultLemmas.{find-None}
 use Rattle.window_derive.specs.Orders.{is_listed, next_task, first_on_loop}
-use Rattle.window_derive.proofs.BoolLists.{fails-from_list_all, equal-from_Has, Has-from_equal}
+use Rattle.slot_core.proofs.ListTests.{fails-from_list_all, equal-from_Has, Has-from_equal}
 use Rattle.window_derive.proofs.OrderLemmas.{IsDistinct-cons, below_cons, length-le_from_below}
 
 -- a task that is not listed

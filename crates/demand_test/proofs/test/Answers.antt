@@ -8,7 +8,7 @@ use Rattle.slot_core.specs.declared.jobs.Window.{Window}
 use Rattle.slot_core.specs.declared.tasks.Sporadic.{Sporadic}
 use Rattle.slot_core.specs.Feasible.{window_demand, failing_window, first_some, first_failing_from, counterexample_in}
 use Rattle.demand_test.specs.Verdicts.{verdict_of}
-use Rattle.demand_test.proofs.FeasibleLemmas.{failing_window-permutation, counterexample_in-permutation}
+use Rattle.slot_core.proofs.FeasibleLemmas.{failing_window-permutation, counterexample_in-permutation}
 use Rattle.demand_test.proofs.CycleTotals.{window_demand-cycle}
 use Rattle.demand_test.proofs.test.Goals as goal
 

@@ -6,7 +6,8 @@ use Rattle.slot_core.specs.Ranges.{graph_in_range}
 use Rattle.slot_core.specs.Sporadics.{sporadic_demand}
 use Rattle.demand_test.specs.Totals.{graph_work}
 use Rattle.demand_test.proofs.CycleTotals.{demand-cycle}
-use Rattle.demand_test.proofs.SoundSets.{IsSoundSet-from_test, sporadic_demand-small}
+use Rattle.slot_core.proofs.RangeFacts.{SetRanges-from_sound}
+use Rattle.demand_test.proofs.SoundSets.{graphs-from_sound, sporadic_demand-small}
 use Rattle.demand_test.proofs.total.Goals as goal
 
 -- a number below the limit is there
@@ -23,7 +24,7 @@ unwrap-arriving-requires c =
 
 pub offline_slots-requires-clause-few : goal.offline_slots-requires-clause-few
 offline_slots-requires-clause-few c =
-    rw c.items-2.ensures (IsSoundSet-from_test c.args.tasks.now c.requires.sound).few_graphs
+    rw c.items-2.ensures (SetRanges-from_sound c.args.tasks.now c.requires.sound).count.1
 
 pub offline_slots-requires-clause-in_range : goal.offline_slots-requires-clause-in_range
 offline_slots-requires-clause-in_range c =
@@ -32,7 +33,7 @@ offline_slots-requires-clause-in_range c =
     _
     _
     c.items-2.ensures
-    (IsSoundSet-from_test c.args.tasks.now c.requires.sound).graphs
+    (graphs-from_sound c.args.tasks.now c.requires.sound)
 
 pub returns : goal.returns
 returns c =

@@ -1,8 +1,9 @@
 -- What the ranges say of the sizes and of the lengths of the cycle.
-use Rattle.std.proofs.Common.{◌≤◌, length, sym, subst}
+use Rattle.std.proofs.Common.{◌≤◌, length, sym, subst, arith}
+use Rattle.slot_core.proofs.RangeFacts.{few_sporadics}
 use Rattle.graph_unroll.proofs.RangeLemmas.{lengths_in_range}
 use Rattle.source_check.specs.Verdicts.{AreFew}
-use Rattle.source_check.proofs.RangeLemmas.{AreFew-from_range, few_sporadics}
+use Rattle.source_check.proofs.RangeLemmas.{AreFew-from_range}
 use Rattle.source_check.proofs.check.Goals as goal
 
 pub check_graph_names-requires : goal.check_graph_names-requires
@@ -11,7 +12,8 @@ check_graph_names-requires c =
 
 pub check_sporadic_names-requires : goal.check_sporadic_names-requires
 check_sporadic_names-requires c =
-    subst (λ s. length s ≤ 255) (sym c.items.ensures) (few_sporadics c.args.tasks.now c.requires)
+    let few = few_sporadics c.args.tasks.now c.requires in
+    subst (λ s. length s ≤ 255) (sym c.items.ensures) (omega arith)
 
 pub check_entries-requires : goal.check_entries-requires
 check_entries-requires c =

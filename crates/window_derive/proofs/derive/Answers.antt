@@ -17,7 +17,8 @@ use Rattle.slot_core.specs.Keys.{deadline_order}
 use Rattle.std.specs.Ordering.{is_lt}
 use Rattle.std.proofs.lemmas.Cmp.{nat_list_cmp_total}
 use Rattle.std.proofs.lemmas.List.Sorted.{ranks_by, answers_always}
-use Rattle.window_derive.proofs.DeadlineOrder.{job_cmp, AreInDeadlineOrder-from_sorted}
+use Rattle.slot_core.proofs.ChoiceLemmas.{job_cmp}
+use Rattle.window_derive.proofs.DeadlineOrder.{AreInDeadlineOrder-from_sorted}
 use Rattle.window_derive.proofs.derive.Goals as goal
 
 -- the windows before the sort are those of the derived jobs

@@ -6,9 +6,9 @@ use Rattle.slot_core.specs.OfflineJobs.{cycle_jobs}
 use Rattle.slot_core.specs.Feasible.{window_demand, counterexample_in}
 use Rattle.slot_core.proofs.OfflineJobLemmas.{cycle-at_most}
 use Rattle.demand_test.specs.Verdicts.{verdict_of}
-use Rattle.demand_test.proofs.FeasibleLemmas.{counterexample_in-permutation}
+use Rattle.slot_core.proofs.FeasibleLemmas.{counterexample_in-permutation}
 use Rattle.cycle_plan.proofs.PlanFacts.{all_due_by, window_demand-same}
-use Rattle.cycle_plan.proofs.SpanSums.{HasSameSums-from_permutation}
+use Rattle.slot_core.proofs.SameItems.{same-from_permutation}
 use Rattle.cycle_plan.proofs.plan.verdict.Goals as goal
 
 pub test-requires-clause-cycle : goal.test-requires-clause-cycle
@@ -22,7 +22,7 @@ pub test-requires-clause-fits : goal.test-requires-clause-fits
 test-requires-clause-fits c =
     let cycle = c.args.cycle in
     let first = cycle_jobs c.args.tasks.now cycle 0 in
-    let same = window_demand-same first c.args.jobs.now c.args.tasks.now.sporadics cycle 0 cycle (HasSameSums-from_permutation first c.args.jobs.now c.requires.listed) in
+    let same = window_demand-same first c.args.jobs.now c.args.tasks.now.sporadics cycle 0 cycle (same-from_permutation first c.args.jobs.now c.requires.listed) in
     let listed = ap (λ (ss : List Sporadic). window_demand c.args.jobs.now ss cycle 0 cycle) c.items.ensures in
     omega (arith, same, listed, c.requires.fits)
 

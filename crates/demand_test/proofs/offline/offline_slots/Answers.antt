@@ -7,13 +7,13 @@ use Rattle.slot_core.specs.declared.tasks.Task.{Task}
 use Rattle.slot_core.specs.declared.tasks.Graph.{Graph}
 use Rattle.slot_core.specs.Ranges.{graph_in_range}
 use Rattle.demand_test.specs.Totals.{graph_work}
-use Rattle.demand_test.proofs.SoundSets.{IsGraphInRange-from_test}
+use Rattle.demand_test.proofs.SoundSets.{graph_slots-le}
 use Rattle.demand_test.proofs.offline.offline_slots.Goals as goal
 
 -- the tasks of the graph that is read declare few slots
 few_slots : (graphs : List Graph) (i : ℕ) (graph : Graph) → All (λ g. graph_in_range g ≡ true) graphs → i < length graphs → graph ≡ get_or graphs i graph → sum_by (λ (t : Task). t.wcet) graph.tasks ≤ 2 ^ 17
 few_slots graphs i graph all low is =
-    (IsGraphInRange-from_test graph (ap graph_in_range is ∙ all i graph low)).few
+    graph_slots-le graph (ap graph_in_range is ∙ all i graph low)
 
 -- one cycle of the graph is little work
 little_work : (cycle : ℕ) (graph : Graph) → cycle < 2 ^ 32 → sum_by (λ (t : Task). t.wcet) graph.tasks ≤ 2 ^ 17 → graph_work cycle graph ≤ 2 ^ 49

@@ -10,7 +10,7 @@ use Rattle.slot_core.specs.declared.tasks.Sporadic.{Sporadic}
 use Rattle.slot_core.specs.Sporadics.{sporadic_demand}
 use Rattle.slot_core.specs.Feasible.{first_some, first_failing_from}
 use Rattle.demand_test.specs.Ends.{ending_at, first_end, IsDue, failing_in}
-use Rattle.demand_test.proofs.FirstSome.{first_some-found, first_some-from_none}
+use Rattle.slot_core.proofs.FirstSome.{first_some-found, first_some-from_none}
 use Rattle.demand_test.proofs.WindowSums.{AreTables, first_failing_from-AreTables, sum-IsDue-le}
 use Rattle.demand_test.proofs.windows.first_failing.Goals as goal
 

@@ -1,6 +1,7 @@
 -- Each entry names a task.
-use Rattle.source_check.proofs.EntryLemmas.{named-from_after_fault}
+use Rattle.slot_core.proofs.OfflineJobLemmas.{named-from_after_fault}
 use Rattle.source_check.proofs.loops.check_graph_loops.Goals as goal
 
 pub order-requires-clause-named : goal.order-requires-clause-named
-order-requires-clause-named c = named-from_after_fault c.args.index c.args.graph.now c.requires.named
+order-requires-clause-named c =
+    λ t p after. (named-from_after_fault c.args.index c.args.graph.now c.requires.named t p after).1

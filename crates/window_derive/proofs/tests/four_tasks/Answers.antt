@@ -6,7 +6,7 @@ use Rattle.slot_core.specs.declared.tasks.Task.{Task}
 use Rattle.slot_core.specs.ExampleSets.{task}
 use Rattle.slot_core.specs.Precedence.{comes_after}
 use Rattle.slot_core.proofs.ListMembers.{Contains-from_Has}
-use Rattle.window_derive.proofs.BoolLists.{Has-from_equal}
+use Rattle.slot_core.proofs.ListTests.{Has-from_equal}
 use Rattle.window_derive.proofs.tests.four_tasks.Goals as goal
 
 -- four such tasks

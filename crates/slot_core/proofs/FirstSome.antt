@@ -4,15 +4,7 @@ use Rattle.std.specs.Option.{option_or}
 use Rattle.std.specs.List.{range_with_len}
 use Rattle.std.proofs.lemmas.Bool.{cases_eq}
 use Rattle.slot_core.specs.Feasible.{first_some}
-
--- a choice that gives nothing, and one that gives something
-pub option_or-None : {X : Type 0} (a b : Option X) → option_or a b ≡ None → (a ≡ None) × (b ≡ None)
-option_or-None None b h = (refl, h)
-option_or-None (Some x) b h = absurd (cc h)
-
-pub cond-None : {X : Type 0} (test : Bool) (x : X) → cond test (Some x) None ≡ None → test ≡ false
-cond-None true x h = absurd (cc h)
-cond-None false x h = refl
+use Rattle.slot_core.proofs.FaultLemmas.{option_or-None}
 
 -- nothing is first where no value is there
 pub first_some-from_none : {X : Type 0} (f : ℕ → Option X) (a n : ℕ) → ((k : ℕ) → a ≤ k → k < a + n → f k ≡ None) → first_some f (range_with_len a n) ≡ None

@@ -1,5 +1,5 @@
--- Tests of all members of a list, and what a search finds.
-use Rattle.std.proofs.Common.{◌≡◌, ℕ, zero, suc, ◌<◌, ◌⊎◌, Bool, true, false, cond, ◌&&◌, ◌==◌, List, [], ◌∷◌, ◌++◌, length, take, Some, None, refl, sym, ap, ◌∙◌, subst, inl, inr, arith}
+-- Tests of the members of a list, and what a search finds.
+use Rattle.std.proofs.Common.{◌≡◌, ℕ, zero, suc, ◌<◌, ◌⊎◌, Bool, true, false, cond, ◌&&◌, ◌||◌, ◌==◌, List, [], ◌∷◌, ◌++◌, length, take, Some, None, refl, sym, ap, ◌∙◌, subst, inl, inr, arith}
 use Rattle.std.specs.Prelude.{slice_get, find}
 use Rattle.std.specs.List.{list_any, list_all}
 use Rattle.std.proofs.lemmas.Bool.{and_from, and_cases, false≢true, eqb-true, eq-eqb}
@@ -47,6 +47,11 @@ pub find-same : {X : Type 0} (p q : X → Bool) (xs : List X) → ((x : X) → H
 find-same p q [] same = refl
 find-same p q (x ∷ xs) same =
     ap (λ b. cond b (Some x) (find p xs)) (same x (inl refl)) ∙ ap (λ o. cond (q x) (Some x) o) (find-same p q xs (λ y h. same y (inr h)))
+
+pub list_any-same : {X : Type 0} (p q : X → Bool) (xs : List X) → ((x : X) → Has xs x → p x ≡ q x) → list_any p xs ≡ list_any q xs
+list_any-same p q [] same = refl
+list_any-same p q (x ∷ xs) same =
+    ap (λ b. b || list_any p xs) (same x (inl refl)) ∙ ap (λ b. q x || b) (list_any-same p q xs (λ y h. same y (inr h)))
 
 pub list_all-same : {X : Type 0} (p q : X → Bool) (xs : List X) → ((x : X) → p x ≡ q x) → list_all p xs ≡ list_all q xs
 list_all-same p q [] same = refl

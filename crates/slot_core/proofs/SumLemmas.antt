@@ -1,5 +1,5 @@
 -- Sums over lists that are made from others, and sums whose terms agree.
-use Rattle.std.proofs.Common.{◌≡◌, ℕ, ◌+◌, ◌*◌, List, [], ◌∷◌, map, length, refl, sym, ap, ◌∙◌, arith}
+use Rattle.std.proofs.Common.{◌≡◌, ℕ, ◌+◌, ◌*◌, ◌≤◌, Bool, true, false, cond, List, [], ◌∷◌, map, filter, length, refl, sym, ap, ◌∙◌, arith}
 use Rattle.std.specs.Prelude.{All, sum_by, flat_map}
 use Rattle.std.specs.List.{enumerate_from}
 use Rattle.std.proofs.lemmas.List.Elements.{All-head, All-tail}
@@ -45,3 +45,18 @@ pub sum_by-plus : {X : Type 0} (f g h : X → ℕ) (xs : List X) → ((x : X) �
 sum_by-plus f g h [] same = refl
 sum_by-plus f g h (x ∷ xs) same =
     omega (arith, sum_by-cons f x xs, sum_by-cons g x xs, sum_by-cons h x xs, same x, sum_by-plus f g h xs same)
+
+-- sums over filtered lists
+sum_by-cond : {X : Type 0} (f : X → ℕ) (b : Bool) (x : X) (xs : List X) → sum_by f (cond b (x ∷ xs) xs) ≡ cond b (f x) 0 + sum_by f xs
+sum_by-cond f true x xs = sum_by-cons f x xs
+sum_by-cond f false x xs = omega arith
+
+pub sum_by-filter : {X : Type 0} (f : X → ℕ) (p : X → Bool) (xs : List X) → sum_by f (filter p xs) ≡ sum_by (λ x. cond (p x) (f x) 0) xs
+sum_by-filter f p [] = refl
+sum_by-filter f p (x ∷ xs) =
+    omega (arith, sum_by-cond f (p x) x (filter p xs), sum_by-cons (λ y. cond (p y) (f y) 0) x xs, sum_by-filter f p xs)
+
+-- a term that counts or not
+pub cond-le : (b : Bool) (n : ℕ) → cond b n 0 ≤ n
+cond-le true n = omega arith
+cond-le false n = omega arith

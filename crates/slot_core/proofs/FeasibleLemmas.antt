@@ -13,13 +13,14 @@ use Rattle.slot_core.specs.declared.tasks.Sporadic.{Sporadic}
 use Rattle.slot_core.specs.declared.tasks.TaskSet.{TaskSet}
 use Rattle.slot_core.specs.OfflineJobs.{cycle_jobs}
 use Rattle.slot_core.specs.Feasible.{declared_within, window_demand, IsFeasible, failing_window, first_some, first_failing_from, counterexample_in, counterexample}
-use Rattle.demand_test.proofs.FirstSome.{option_or-None, cond-None, none-from_first_some, found-from_first_some, first_some-agree}
+use Rattle.slot_core.proofs.FaultLemmas.{option_or-None, cond-None}
+use Rattle.slot_core.proofs.FirstSome.{none-from_first_some, found-from_first_some, first_some-agree}
 
 -- a window that does not fail has slots for its demand
 pub fits-from_failing_window : (jobs : List Job) (sporadics : List Sporadic) (cycle a b : ℕ) → failing_window jobs sporadics cycle a b ≡ None → window_demand jobs sporadics cycle a b ≤ b - a
 fits-from_failing_window jobs sporadics cycle a b h =
     let needed = window_demand jobs sporadics cycle a b in
-    ltb-false (b - a) needed (cond-None (nat_lt (b - a) needed) (record { from = a; until = b; demand = needed }) h)
+    ltb-false (b - a) needed (cond-None (nat_lt (b - a) needed) (record { from = a; until = b; demand = needed }) None h).0
 
 -- where no window from a fails, each that ends in the first two cycles has slots for its demand
 pub fits-from_first_failing : (jobs : List Job) (sporadics : List Sporadic) (cycle a : ℕ) → first_failing_from jobs sporadics cycle a ≡ None → (b : ℕ) → a < b → b ≤ 2 * cycle → window_demand jobs sporadics cycle a b ≤ b - a

@@ -1,0 +1,73 @@
+-- Lists that have the same items in any order, by the sums over them.
+use Rattle.std.proofs.Common.{◌≡◌, ℕ, ◌+◌, ◌-◌, ◌≤◌, Bool, true, false, cond, not, List, [], ◌∷◌, ◌++◌, map, filter, refl, sym, ap, ◌∙◌, inl, inr, arith}
+use Rattle.std.specs.Prelude.{sum_by, nat_lt, IsPermutation}
+use Rattle.std.proofs.lemmas.Bool.{cases_Bool, true_from_ne_false, not_from_false, not-true, both_ways}
+use Rattle.std.proofs.lemmas.List.Sums.{sum_by-cons, sum_by-append}
+use Rattle.std.proofs.lemmas.List.Sorted.{sum_by-IsPermutation}
+use Rattle.slot_core.specs.declared.jobs.Key.{Key}
+use Rattle.slot_core.specs.declared.jobs.Job.{Job}
+use Rattle.slot_core.specs.Keys.{same_key}
+use Rattle.slot_core.specs.Steps.{after_run}
+use Rattle.slot_core.specs.Matches.{HaveSameItems}
+use Rattle.slot_core.proofs.ListMembers.{Has}
+use Rattle.slot_core.proofs.SumLemmas.{sum_by-map, sum_by-filter}
+
+-- a list and its permutation have the same items
+pub same-from_permutation : {X : Type 0} (xs ys : List X) → IsPermutation xs ys → HaveSameItems xs ys
+same-from_permutation xs ys h f = sym (sum_by-IsPermutation f xs ys h)
+
+-- lists that are the same up to order stay so
+pub same-sym : {X : Type 0} (xs ys : List X) → HaveSameItems xs ys → HaveSameItems ys xs
+same-sym xs ys same = λ f. sym (same f)
+
+pub same-map : {X Y : Type 0} (g : X → Y) (xs ys : List X) → HaveSameItems xs ys → HaveSameItems (map g xs) (map g ys)
+same-map g xs ys same = λ f. sum_by-map f g xs ∙ (same (λ x. f (g x)) ∙ sym (sum_by-map f g ys))
+
+pub same-filter : {X : Type 0} (p : X → Bool) (xs ys : List X) → HaveSameItems xs ys → HaveSameItems (filter p xs) (filter p ys)
+same-filter p xs ys same =
+    λ f. sum_by-filter f p xs ∙ (same (λ x. cond (p x) (f x) 0) ∙ sym (sum_by-filter f p ys))
+
+pub same-append : {X : Type 0} (xs ys us vs : List X) → HaveSameItems xs ys → HaveSameItems us vs → HaveSameItems (xs ++ us) (ys ++ vs)
+same-append xs ys us vs same more =
+    λ f. omega (arith, sum_by-append f xs us, sum_by-append f ys vs, same f, more f)
+
+pub same-after_run : (key : Key) (xs ys : List Job) → HaveSameItems xs ys → HaveSameItems (after_run key xs) (after_run key ys)
+same-after_run key xs ys same =
+    let ran = λ (j : Job). cond (same_key j.key key) (record j { left = j.left - 1 }) j in
+    same-filter (λ (j : Job). nat_lt 0 j.left) (map ran xs) (map ran ys) (same-map ran xs ys same)
+
+-- how many items pass a test, by sums
+abbrev pub count : {X : Type 0} → (X → Bool) → List X → ℕ
+count p xs = sum_by (λ x. cond (p x) 1 0) xs
+
+count-cons : {X : Type 0} (p : X → Bool) (x : X) (xs : List X) → count p (x ∷ xs) ≡ cond (p x) 1 0 + count p xs
+count-cons p x xs = sum_by-cons (λ x. cond (p x) 1 0) x xs
+
+-- an item that passes is counted
+pub counted : {X : Type 0} (p : X → Bool) (xs : List X) (x : X) → Has xs x → p x ≡ true → 1 ≤ count p xs
+counted p [] x at passes = absurd at
+counted p (y ∷ ys) x (inl e) passes = omega (arith, count-cons p y ys, ap {B = ℕ} (λ b. cond b 1 0) (ap p e ∙ passes))
+counted p (y ∷ ys) x (inr at) passes = omega (arith, count-cons p y ys, counted p ys x at passes)
+
+-- where one is counted, some item passes
+found : {X : Type 0} (p : X → Bool) (xs : List X) → 1 ≤ count p xs → (x : X) × Has xs x × (p x ≡ true)
+found p [] some = absurd (omega arith)
+found p (x ∷ xs) some =
+    elim (cases_Bool (p x)) [
+      | inl passes ↦ (x, inl refl, passes)
+      | inr fails ↦
+          let more = found p xs (omega (arith, count-cons p x xs, ap {B = ℕ} (λ b. cond b 1 0) fails)) in
+          (more.0, inr more.1, more.2)
+    ]
+
+-- where an item of one list passes, so does one of the other
+pub passes-same : {X : Type 0} (p : X → Bool) (xs ys : List X) (x : X) → HaveSameItems xs ys → Has xs x → p x ≡ true → (other : X) × Has ys other × (p other ≡ true)
+passes-same p xs ys x same at passes =
+    found p ys (omega (arith, same (λ y. cond (p y) 1 0), counted p xs x at passes))
+
+-- what passes for each item of one list passes for each of the other
+pub all-same : {X : Type 0} (p : X → Bool) (xs ys : List X) → HaveSameItems xs ys → ((x : X) → Has xs x → p x ≡ true) → (x : X) → Has ys x → p x ≡ true
+all-same p xs ys same each x at =
+    true_from_ne_false (p x) λ fails.
+    let m = passes-same (λ y. not (p y)) ys xs x (same-sym xs ys same) at (not_from_false (p x) fails) in
+    both_ways (p m.0) (not-true (p m.0) m.2) (each m.0 m.1)
