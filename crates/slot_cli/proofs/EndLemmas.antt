@@ -3,6 +3,7 @@ use Rattle.std.proofs.Common.{◌≡◌, ℕ, ◌≤◌, true, List, [], Option,
 use Rattle.std.proofs.KnownBytes.{Appends-nil}
 use Rattle.std.specs.Io.KnownBytes.{Appends}
 use Rattle.std.specs.Option.{option_map_or}
+use Rattle.slot_core.specs.Results.{◌>>=◌}
 use Rattle.slot_core.specs.declared.tasks.TaskSet.{TaskSet}
 use Rattle.slot_core.specs.Reports.{check_line}
 use Rattle.slot_core.specs.Texts.{trace_text}
@@ -16,7 +17,7 @@ use Rattle.slot_cli.specs.declared.outcome.Outcome.{Outcome}
 use Rattle.slot_cli.specs.declared.outcome.Outcome.TheVariants.{Done, Usage, Unreadable, TooLarge, BadTasks, Infeasible, BadArrivals, WriteFault, Memory}
 use Rattle.slot_cli.specs.Outcomes.{is_early}
 use Rattle.slot_cli.specs.Commands.{command_of}
-use Rattle.slot_cli.specs.Runs.{Stage, ◌>>=◌, text_of, expected, planned_set, arrivals_of, outcome_of, place_of, IsHostFault, IsWritten}
+use Rattle.slot_cli.specs.Runs.{Stage, text_of, expected, planned_set, arrivals_of, outcome_of, place_of, IsHostFault, IsWritten}
 use Rattle.slot_cli.specs.Works.{IsRefusal, IsBlamed, IsWriting, Ends}
 use Rattle.slot_cli.proofs.StepLemmas.{refused_first}
 use Rattle.slot_cli.proofs.PlaceLemmas.{place-text, place-traced}

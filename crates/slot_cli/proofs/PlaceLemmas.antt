@@ -3,6 +3,7 @@ use Rattle.std.proofs.Common.{◌≡◌, ℕ, ◌≤◌, Bool, true, false, List
 use Rattle.std.specs.Prelude.{⊤, nat_lt, if◌then◌else◌}
 use Rattle.std.specs.Option.{option_map_or}
 use Rattle.std.specs.Result.{result_map_both}
+use Rattle.slot_core.specs.Results.{◌>>=◌}
 use Rattle.slot_core.specs.declared.faults.TaskFault.{TaskFault}
 use Rattle.slot_core.specs.declared.jobs.Window.{Window}
 use Rattle.slot_core.specs.declared.tasks.TaskSet.{TaskSet}
@@ -21,7 +22,7 @@ use Rattle.slot_cli.specs.declared.outcome.Outcome.{Outcome}
 use Rattle.slot_cli.specs.declared.outcome.Outcome.TheVariants.{Done, Usage, Unreadable, TooLarge, BadTasks, Infeasible}
 use Rattle.slot_cli.specs.Commands.{command_of}
 use Rattle.slot_cli.specs.Outcomes.{name_of, limit_of}
-use Rattle.slot_cli.specs.Runs.{Stage, ◌>>=◌, expected, within_limit, bytes_of, set_of, feasible_set, planned_set, no_arrivals, arrivals_of, text_of, outcome_of, place_of}
+use Rattle.slot_cli.specs.Runs.{Stage, expected, within_limit, bytes_of, set_of, feasible_set, planned_set, no_arrivals, arrivals_of, text_of, outcome_of, place_of}
 
 -- the outcome that ends the run at this step, if one does, stands at this place or later, and before the output
 abbrev AllFrom : {X : Type 0} → ℕ → Stage X → Type 0

@@ -5,6 +5,7 @@ use Rattle.std.specs.List.{list_all}
 use Rattle.std.specs.Option.{option_map_or}
 use Rattle.std.specs.Result.{result_map_both}
 use Rattle.std.proofs.lemmas.Bool.{and_parts, leb-true}
+use Rattle.slot_core.specs.Results.{◌>>=◌}
 use Rattle.slot_core.specs.declared.TheConstants.{SPORADIC_LIMIT}
 use Rattle.slot_core.specs.declared.jobs.Window.{Window}
 use Rattle.slot_core.specs.declared.tasks.TaskSet.{TaskSet}
@@ -22,7 +23,7 @@ use Rattle.task_toml.specs.TomlFields.{Read}
 use Rattle.task_toml.proofs.SoundReadings.{is_sound-reading}
 use Rattle.slot_cli.specs.declared.outcome.File.TheVariants.{Tasks}
 use Rattle.slot_cli.specs.declared.outcome.Outcome.TheVariants.{BadTasks, Infeasible}
-use Rattle.slot_cli.specs.Runs.{Stage, ◌>>=◌, bytes_of, set_of, feasible_set, planned_set}
+use Rattle.slot_cli.specs.Runs.{Stage, bytes_of, set_of, feasible_set, planned_set}
 
 is_sound-read : (r : Read TaskSet) (read : TaskSet) → ((set : TaskSet) → r ≡ Ok set → is_sound set ≡ true) → (let s : Stage TaskSet = result_map_both (λ set. set) BadTasks r in s) ≡ Ok read → is_sound read ≡ true
 is_sound-read (Ok set) read sound is = let P : TaskSet → Type 0 = λ s. is_sound s ≡ true in let same : set ≡ read = cc in subst P same (sound set refl)

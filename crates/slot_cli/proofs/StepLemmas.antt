@@ -2,11 +2,12 @@
 use Rattle.std.proofs.Common.{◌≡◌, ℕ, List, Result, Ok, ap, ◌∙◌, inl, inr}
 use Rattle.std.specs.Result.{MatchResult}
 use Rattle.std.proofs.lemmas.Result.{MatchResult-weaker}
+use Rattle.slot_core.specs.Results.{◌>>=◌}
 use Rattle.slot_core.specs.declared.tasks.TaskSet.{TaskSet}
 use Rattle.slot_io.specs.Files.{Held}
 use Rattle.slot_cli.specs.declared.outcome.File.TheVariants.{Tasks, Arrivals}
 use Rattle.slot_cli.specs.declared.outcome.Outcome.{Outcome}
-use Rattle.slot_cli.specs.Runs.{Stage, ◌>>=◌, bytes_of, set_of, feasible_set, planned_set, no_arrivals, arrivals_of}
+use Rattle.slot_cli.specs.Runs.{Stage, bytes_of, set_of, feasible_set, planned_set, no_arrivals, arrivals_of}
 use Rattle.slot_cli.specs.Works.{IsRefusal}
 
 -- a step that ends the run ends it whatever comes after

@@ -2,6 +2,7 @@
 use Rattle.std.specs.Prelude.{◌≡◌, ℕ, ◌≤◌, ◌⊎◌, ⊤, List, [], ◌∷◌, length, nat_lt, if◌then◌else◌, Option, Some, Result, Ok, Err}
 use Rattle.std.specs.Option.{option_map_or}
 use Rattle.std.specs.Result.{result_map_both}
+use Rattle.slot_core.specs.Results.{◌>>=◌}
 use Rattle.slot_core.specs.declared.tasks.TaskSet.{TaskSet}
 use Rattle.slot_core.specs.Cycles.{cycle_of}
 use Rattle.slot_core.specs.Feasible.{counterexample}
@@ -25,11 +26,6 @@ use Rattle.slot_cli.specs.Outcomes.{name_of, limit_of, fault_line}
 -- a step of the work gives a value, or the outcome that ends the run
 abbrev pub Stage : Type 0 → Type 0
 Stage X = Result X Outcome
-
-infixl 10 ◌>>=◌
-abbrev pub ◌>>=◌ : {X Y : Type 0} → Stage X → (X → Stage Y) → Stage Y
-Ok x >>= f = f x
-Err outcome >>= f = Err outcome
 
 -- the bytes of a file within its limit
 abbrev pub within_limit : File → List ℕ → Stage (List ℕ)
@@ -109,12 +105,15 @@ IsHostFault command (Unreadable file) = Reads command file
 IsHostFault (Some command) WriteFault = ⊤
 IsHostFault command _ = ⊥
 
--- the outcome is the expected one, or want of memory, or a fault of the host at a place of the work that is
--- reached: no later than the expected outcome
+-- the outcome of the command is the one that is due, or want of memory, or a fault of the host at a place of the
+-- work that is reached: no later than that of the outcome that is due
+abbrev pub Answers : Option Command → Outcome → Outcome → Type 0
+Answers command due outcome =
+    (outcome ≡ due) ⊎ ((outcome ≡ Memory) ⊎ (IsHostFault command outcome × (place_of outcome ≤ place_of due)))
+
+-- the outcome is the expected one, or one of those
 abbrev pub IsAnswer : Held → List (List ℕ) → Outcome → Type 0
-IsAnswer held words outcome =
-    let due = outcome_of (expected held words) in
-    (outcome ≡ due) ⊎ ((outcome ≡ Memory) ⊎ (IsHostFault (command_of words) outcome × (place_of outcome ≤ place_of due)))
+IsAnswer held words outcome = Answers (command_of words) (outcome_of (expected held words)) outcome
 
 -- the line of the outcome is written to standard error, or a part of it where a fault is counted there
 abbrev pub IsReported : List (List ℕ) → Outcome → Option (List ℕ) → Option (List ℕ) → ℕ → ℕ → Type 0

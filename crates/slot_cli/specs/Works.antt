@@ -1,5 +1,5 @@
 -- What the steps of the work answer.
-use Rattle.std.specs.Prelude.{◌≡◌, ◌≢◌, ℕ, ◌≤◌, ◌⊎◌, List, [], ◌∷◌, ◌++◌, codes, Option, Some, Ok, Err}
+use Rattle.std.specs.Prelude.{◌≡◌, ◌≢◌, ℕ, ◌⊎◌, List, [], ◌∷◌, ◌++◌, codes, Option, Some, Ok, Err}
 use Rattle.std.specs.Io.KnownBytes.{Appends}
 use Rattle.slot_core.specs.Texts.{worded}
 use Rattle.slot_io.specs.Faults.{Rose}
@@ -9,7 +9,7 @@ use Rattle.slot_cli.specs.declared.outcome.File.{File}
 use Rattle.slot_cli.specs.declared.outcome.Outcome.{Outcome}
 use Rattle.slot_cli.specs.declared.outcome.Outcome.TheVariants.{Done, Unreadable, WriteFault, Memory}
 use Rattle.slot_cli.specs.Outcomes.{name_of}
-use Rattle.slot_cli.specs.Runs.{Stage, outcome_of, place_of, IsHostFault, IsWritten}
+use Rattle.slot_cli.specs.Runs.{Stage, outcome_of, Answers, IsWritten}
 
 -- a step ends the run, where this is due of it: with want of memory, a fault of the host, or the outcome that is due
 abbrev pub IsRefusal : {X : Type 0} → (Outcome → Type 0) → Stage X → Outcome → Type 0
@@ -38,7 +38,7 @@ IsWriting text _ before after faults_before faults_after = ⊥
 -- how the work of a command ends, where this text is due: as is due, with want of memory, or with a fault of the
 -- host at a place that is reached; and what is written
 pub record Ends (command : Option Command) (due : Stage (List ℕ)) (outcome : Outcome) (before after : Option (List ℕ)) : Type 0 where
-  pub answers : (outcome ≡ outcome_of due) ⊎ ((outcome ≡ Memory) ⊎ (IsHostFault command outcome × (place_of outcome ≤ place_of (outcome_of due))))
+  pub answers : Answers command (outcome_of due) outcome
   pub written : (text : List ℕ) → due ≡ Ok text → IsWritten outcome text before after
 
 -- the line of a check, by its numbers

@@ -22,6 +22,7 @@ pub mod Points
 pub mod Precedence
 pub mod Ranges
 pub mod Reports
+pub mod Results
 pub mod Scenes
 pub mod Schedules
 pub mod Service

@@ -5,9 +5,9 @@ use Rattle.std.proofs.lemmas.Int.{ints, clamps, by_lt_z}
 use Rattle.std.proofs.lemmas.List.{drop_more, length-drop}
 use Rattle.std.proofs.lemmas.Option.{slice_get-get_or}
 use Rattle.slot_core.specs.declared.jobs.Span.{Span}
-use Rattle.spare_capacity.specs.Recurrence.{filled, first_spare}
+use Rattle.spare_capacity.specs.Recurrence.{filled, first_spare, room}
 use Rattle.spare_capacity.proofs.Steps.{no_row}
-use Rattle.spare_capacity.specs.Laws.{room, room_of_all, sum_of_rooms, IsLeastRoom}
+use Rattle.spare_capacity.specs.Laws.{room_of_all, sum_of_rooms, IsLeastRoom}
 
 -- the least room of a stretch from the first row on: its rows after the first are counted by k
 record IsLeastFront (rows : List Span) (least : ℤ) : Type 0 where

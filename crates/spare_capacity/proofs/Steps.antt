@@ -3,8 +3,8 @@ use Rattle.std.proofs.Common.{◌≡◌, ℕ, zero, suc, ◌+◌, ◌-◌, ◌*�
 use Rattle.std.proofs.lemmas.List.{drop_more}
 use Rattle.std.proofs.lemmas.Int.{ints, clamps}
 use Rattle.slot_core.specs.declared.jobs.Span.{Span}
-use Rattle.spare_capacity.specs.Recurrence.{filled, first_spare, FollowOn, AreConsecutive}
-use Rattle.spare_capacity.specs.Refill.{refilled, with_spare, CanRefill}
+use Rattle.spare_capacity.specs.Recurrence.{filled, first_spare, with_spare, FollowOn, AreConsecutive}
+use Rattle.spare_capacity.specs.Refill.{refilled, CanRefill}
 
 -- the row that a read names past the end
 abbrev pub no_row : Span

@@ -1,10 +1,7 @@
 -- What a capacity by the recurrence is: the least room of a stretch that begins with its span.
-use Rattle.std.specs.Prelude.{◌≡◌, ℕ, ◌+◌, ◌-◌, ◌≤◌, ◌<◌, ℤ, pos, ◌+ℤ◌, ◌-ℤ◌, ◌≤ℤ◌, List, [], ◌∷◌, length, take, drop}
+use Rattle.std.specs.Prelude.{◌≡◌, ℕ, ◌+◌, ◌-◌, ◌≤◌, ◌<◌, ℤ, pos, ◌+ℤ◌, ◌≤ℤ◌, List, [], ◌∷◌, length, take, drop}
 use Rattle.slot_core.specs.declared.jobs.Span.{Span}
-
--- the slots of a span less its work, below 0 where it has more work than slots
-abbrev pub room : Span → ℤ
-room s = pos (s.end - s.start) -ℤ pos s.work
+use Rattle.spare_capacity.specs.Recurrence.{room}
 
 -- the sum of the rooms of the spans
 abbrev pub room_of_all : List Span → ℤ

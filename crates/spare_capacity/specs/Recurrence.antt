@@ -8,14 +8,18 @@ abbrev pub first_spare : List Span → ℤ
 first_spare [] = pos 0
 first_spare (s ∷ ss) = s.spare
 
--- the slots of a span less its work and less what the spans from here on borrow
-abbrev pub spare_before : Span → List Span → ℤ
-spare_before s rest = (pos (s.end - s.start) -ℤ pos s.work) +ℤ int_min (pos 0) (first_spare rest)
+-- the slots of a span less its work, below 0 where it has more work than slots
+abbrev pub room : Span → ℤ
+room s = pos (s.end - s.start) -ℤ pos s.work
+
+-- the span with its capacity: its room, less what the span after it borrows
+abbrev pub with_spare : Span → ℤ → Span
+with_spare s later = record s { spare = room s +ℤ int_min (pos 0) later }
 
 -- the spans with their capacities by the recurrence
 abbrev pub filled : List Span → List Span
 filled [] = []
-filled (s ∷ ss) = let rest = filled ss in record s { spare = spare_before s rest } ∷ rest
+filled (s ∷ ss) = let rest = filled ss in with_spare s (first_spare rest) ∷ rest
 
 -- consecutive spans from a time on, each with its end above its start and a length and work of at most 2 ^ 40
 abbrev pub FollowOn : ℕ → List Span → Type 0

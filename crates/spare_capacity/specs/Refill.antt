@@ -1,12 +1,7 @@
 -- What one step of the recurrence does to rows whose later ones have their capacities.
-use Rattle.std.specs.Prelude.{◌-◌, ◌≤◌, ◌^◌, ℤ, pos, neg_ℤ, ◌+ℤ◌, ◌-ℤ◌, ◌≤ℤ◌, List, [], ◌∷◌}
-use Rattle.std.specs.Int.{int_min}
+use Rattle.std.specs.Prelude.{◌-◌, ◌≤◌, ◌^◌, pos, neg_ℤ, ◌≤ℤ◌, List, [], ◌∷◌}
 use Rattle.slot_core.specs.declared.jobs.Span.{Span}
-use Rattle.spare_capacity.specs.Recurrence.{first_spare}
-
--- the row, with its capacity by that of the row after it
-abbrev pub with_spare : Span → ℤ → Span
-with_spare s later = record s { spare = (pos (s.end - s.start) -ℤ pos s.work) +ℤ int_min (pos 0) later }
+use Rattle.spare_capacity.specs.Recurrence.{first_spare, with_spare}
 
 -- the rows, with the capacity of the first by that of the second
 abbrev pub refilled : List Span → List Span

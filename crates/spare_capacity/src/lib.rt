@@ -2,8 +2,8 @@
 #![tactic(auto)]
 
 ghost use Rattle.std.specs.Prelude.{◌≡◌, ◌+◌, ◌≤◌, ◌<◌, ◌^◌, ◌++◌, length, take, drop, pos, neg_ℤ, ◌≤ℤ◌};
-ghost use Rattle.spare_capacity.specs.Recurrence.{filled, first_spare, AreConsecutive};
-ghost use Rattle.spare_capacity.specs.Refill.{refilled, with_spare, CanRefill, IsShort};
+ghost use Rattle.spare_capacity.specs.Recurrence.{filled, first_spare, with_spare, AreConsecutive};
+ghost use Rattle.spare_capacity.specs.Refill.{refilled, CanRefill, IsShort};
 
 pub mod laws;
 #[cfg(test)]

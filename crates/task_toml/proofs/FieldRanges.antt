@@ -4,12 +4,13 @@ use Rattle.std.proofs.lemmas.Bool.{cases_Bool}
 use Rattle.std.proofs.lemmas.Bool.Decides.{nat_tests}
 use Rattle.std.specs.Option.{ForSome}
 use Rattle.toml.specs.Data.{Data, string, integer, array, Members}
+use Rattle.slot_core.specs.Results.{◌>>=◌}
 use Rattle.slot_core.specs.declared.faults.Place.{Place}
 use Rattle.slot_core.specs.declared.faults.TaskFault.{TaskFault}
 use Rattle.slot_core.specs.declared.faults.TaskFault.TheVariants.{WrongKind}
 use Rattle.slot_core.specs.Names.{is_name}
 use Rattle.slot_core.specs.Ranges.{is_between}
-use Rattle.task_toml.specs.TomlFields.{◌>>=◌, or_fault, number_at, name_at}
+use Rattle.task_toml.specs.TomlFields.{or_fault, number_at, name_at}
 use Rattle.task_toml.specs.Reading.{all_tables, at_most, some_tables, texts_at, tables_at, tables_or_none_at}
 
 -- a choice between a value and a fault that gave a value

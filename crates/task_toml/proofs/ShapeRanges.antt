@@ -5,6 +5,7 @@ use Rattle.std.proofs.lemmas.List.{length-map}
 use Rattle.std.specs.List.{list_all}
 use Rattle.std.specs.Option.{ForSome}
 use Rattle.toml.specs.Data.{Members}
+use Rattle.slot_core.specs.Results.{◌>>=◌}
 use Rattle.slot_core.specs.declared.TheConstants.{TASK_LIMIT, AFTER_LIMIT, GRAPH_LIMIT, SPORADIC_LIMIT, SLOT_LIMIT, SOFT_LIMIT, SOFT_DEFAULT}
 use Rattle.slot_core.specs.declared.tasks.Graph.{Graph}
 use Rattle.slot_core.specs.declared.tasks.Sporadic.{Sporadic as SporadicTask}
@@ -15,7 +16,7 @@ use Rattle.slot_core.specs.declared.faults.Field.TheVariants.{Soft, Graph as Gra
 use Rattle.slot_core.specs.declared.faults.Place.{Place}
 use Rattle.slot_core.specs.Names.{is_name}
 use Rattle.slot_core.specs.Ranges.{is_between, task_in_range, graph_in_range, sporadic_in_range, is_in_range}
-use Rattle.task_toml.specs.TomlFields.{Read, ◌>>=◌, known_keys, at_key}
+use Rattle.task_toml.specs.TomlFields.{Read, known_keys, at_key}
 use Rattle.task_toml.specs.Reading.{NamedTask, each, task_of, with_indexes, graph_of, sporadic_of, set_of}
 use Rattle.task_toml.proofs.FieldRanges.{number_at-Ok, name_at-Ok, texts_at-Ok, tables_at-Ok, tables_or_none_at-Ok}
 

@@ -3,12 +3,13 @@ use Rattle.std.proofs.Common.{◌≡◌, ℕ, true, List, Option, None, Some, Ok
 use Rattle.std.specs.Prelude.{is_none}
 use Rattle.std.specs.Option.{option_map_or}
 use Rattle.toml.specs.Data.{Members}
+use Rattle.slot_core.specs.Results.{◌>>=◌}
 use Rattle.slot_core.specs.declared.faults.TaskFault.{TaskFault}
 use Rattle.slot_core.specs.declared.tasks.TaskSet.{TaskSet}
 use Rattle.slot_core.specs.Faults.{set_fault}
 use Rattle.slot_core.specs.Ranges.{is_sound}
 use Rattle.task_toml.specs.Reading.{set_of, document_of, without_fault, reading_of_tasks}
-use Rattle.task_toml.specs.TomlFields.{Read, ◌>>=◌}
+use Rattle.task_toml.specs.TomlFields.{Read}
 use Rattle.task_toml.proofs.ShapeRanges.{set_of-Ok}
 
 -- a set without a fault beyond its shape is itself
@@ -28,7 +29,7 @@ is_sound-members members (Ok set) read shape is = is_sound-shape members set rea
 is_sound-members members (Err fault) read shape is = cc
 
 is_sound-document : (r : Read Members) (read : TaskSet) → (r >>= (λ members. set_of members >>= without_fault)) ≡ Ok read → is_sound read ≡ true
-is_sound-document (Ok members) read is = is_sound-members members (set_of members) read refl is
+is_sound-document (Ok table) read is = is_sound-members table (set_of table) read refl is
 is_sound-document (Err fault) read is = cc
 
 -- the set that the bytes of a task file write is sound

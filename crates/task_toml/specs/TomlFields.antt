@@ -16,11 +16,6 @@ use Rattle.slot_core.specs.FaultTexts.{field_word}
 abbrev pub Read : Type 0 → Type 0
 Read X = Result X TaskFault
 
-infixl 10 ◌>>=◌
-abbrev pub ◌>>=◌ : {X Y : Type 0} → Read X → (X → Read Y) → Read Y
-Ok x >>= f = f x
-Err fault >>= f = Err fault
-
 -- the code's answer is what is read, as `seen` sees it, but that memory may run out
 abbrev pub AnswersAs : {A X : Type 0} → (A → X) → Result A TaskFault → Read X → Type 0
 AnswersAs seen answer read = MatchResult answer (λ a. read ≡ Ok (seen a)) (λ e. e ≢ Memory → read ≡ Err e)

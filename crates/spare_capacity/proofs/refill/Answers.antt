@@ -1,7 +1,7 @@
 use Rattle.std.proofs.Common.{◌∙◌, ap, get_or, set, w64, rules, arith}
 use Rattle.std.specs.Int.RustNames.{FitsSigned}
 use Rattle.std.proofs.lemmas.Int.{ints, to_z-of_z}
-use Rattle.spare_capacity.specs.Refill.{with_spare}
+use Rattle.spare_capacity.specs.Recurrence.{with_spare}
 use Rattle.spare_capacity.proofs.Steps.{no_row, CanRefill-at, set_with_spare}
 use Rattle.spare_capacity.proofs.refill.Goals as goal
 

@@ -1,8 +1,9 @@
 use Rattle.std.proofs.Common.{◌≡◌, Ok, sym, ap, ◌∙◌}
+use Rattle.slot_core.specs.Results.{◌>>=◌}
 use Rattle.slot_core.specs.Plans.{PlanParts}
 use Rattle.slot_cli.specs.declared.outcome.File.TheVariants.{Tasks}
 use Rattle.slot_cli.specs.declared.outcome.Outcome.TheVariants.{Unreadable}
-use Rattle.slot_cli.specs.Runs.{bytes_of, set_of, feasible_set, planned_set, ◌>>=◌}
+use Rattle.slot_cli.specs.Runs.{bytes_of, set_of, feasible_set, planned_set}
 use Rattle.slot_cli.proofs.StepLemmas.{refused_first, refused_next, answers_next, planned_set-read, planned_set-loaded}
 use Rattle.slot_cli.proofs.stages.planned.Goals as goal
 
