@@ -8,7 +8,6 @@ ghost use Rattle.slot_core.specs.Ranges.{is_sound};
 ghost use Rattle.cycle_plan.specs.InCycles.{ends_in_cycles, jobs_in_cycles};
 ghost use Rattle.cycle_plan.specs.NearJobs.{IsNear, instance_of};
 
-use crate::points::push_end;
 use slot_core::{Job, Key, Memory, TaskSet};
 use std::alloc::Global;
 
@@ -93,9 +92,7 @@ fn push_moved_jobs(
     ensures { OnOk result (all.new.items ≡ all.old.items ++ map (moved_job tasks.now cycle cycles) jobs.now) }
 {
     for job in jobs {
-        if all.push(moved_job(tasks, cycle, cycles, *job)).is_err() {
-            return Err(Memory);
-        }
+        all.push(moved_job(tasks, cycle, cycles, *job))?;
     }
     Ok(())
 }
@@ -119,7 +116,7 @@ fn push_moved_ends(all: &mut Vec<u64>, by: u64, ends: &[u64]) -> Result<(), Memo
     ensures { OnOk result (all.new.items ≡ all.old.items ++ map (λ end. end + by) ends.now) }
 {
     for end in ends {
-        push_end(all, *end + by)?;
+        all.push(*end + by)?;
     }
     Ok(())
 }

@@ -28,7 +28,7 @@ pub fn cycle_ends(alloc: Global, jobs: &[Job], cycle: u32) -> Result<Vec<u64>, M
         }
     }
     if before < u64::from(cycle) {
-        push_end(&mut ends, u64::from(cycle))?;
+        ends.push(u64::from(cycle))?;
     }
     Ok(ends)
 }
@@ -54,7 +54,7 @@ fn slots_before(alloc: Global, end: u64) -> Result<Vec<u64>, Memory>
 {
     let mut slots = Vec::new(alloc);
     for slot in 0..end {
-        push_end(&mut slots, slot)?;
+        slots.push(slot)?;
     }
     Ok(slots)
 }
@@ -64,17 +64,8 @@ fn push_interval(ends: &mut Vec<u64>, before: u64, start: u64, end: u64) -> Resu
     ensures { OnOk result (ends.new.items ≡ ends.old.items ++ (cond (nat_lt before start) (start ∷ []) [] ++ end ∷ [])) }
 {
     if before < start {
-        push_end(ends, start)?;
+        ends.push(start)?;
     }
-    push_end(ends, end)
-}
-
-/// Appends an end.
-pub fn push_end(ends: &mut Vec<u64>, end: u64) -> Result<(), Memory>
-    ensures { OnOk result (ends.new.items ≡ ends.old.items ++ end ∷ []) }
-{
-    match ends.push(end) {
-        Ok(()) => Ok(()),
-        Err(_) => Err(Memory),
-    }
+    ends.push(end)?;
+    Ok(())
 }

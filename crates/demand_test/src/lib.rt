@@ -57,9 +57,7 @@ pub fn test(
     if cycle == 0 {
         return Ok(Verdict::Fits);
     }
-    let Ok(mut ordered) = Vec::from_slice(alloc, jobs) else {
-        return Err(Memory);
-    };
+    let mut ordered = Vec::from_slice(alloc, jobs)?;
     ordered.sort_unstable_by_key(|job| job.est);
     match first_failing(alloc, ordered.as_slice(), sporadics, cycle)? {
         Some(window) => Ok(Verdict::Fails(window)),

@@ -37,9 +37,7 @@ fn due_table(alloc: Global, jobs: &[Job], cycle: u32) -> Result<Vec<u64>, Memory
     ensures { IfOk result (λ due. IsDue jobs.now jobs.now cycle due.items) }
 {
     let length = cycle as usize;
-    let Ok(mut due) = vec![in alloc; 0u64; 2 * length + 1] else {
-        return Err(Memory);
-    };
+    let mut due = vec![in alloc; 0u64; 2 * length + 1]?;
     for job in jobs {
         count_job(&mut due, job, length);
     }

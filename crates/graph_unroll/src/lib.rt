@@ -134,9 +134,7 @@ fn push_instance(
             deadline,
             wcet: task.wcet,
         };
-        if jobs.push(job).is_err() {
-            return Err(Memory);
-        }
+        jobs.push(job)?;
     }
     Ok(())
 }

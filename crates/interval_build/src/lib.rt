@@ -51,15 +51,12 @@ fn rows_until(alloc: Global, start: u64, ends: &[u64], jobs: &[Job]) -> Result<V
     let mut rest = jobs;
     for end in ends {
         let (due, later) = rest.split_at(count_due(rest, *end));
-        let row = Span {
+        rows.push(Span {
             start: from,
             end: *end,
             work: work_of(due),
             spare: 0,
-        };
-        if rows.push(row).is_err() {
-            return Err(Memory);
-        }
+        })?;
         from = *end;
         rest = later;
     }

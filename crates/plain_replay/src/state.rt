@@ -203,9 +203,7 @@ fn push_jobs(jobs: &mut Vec<Job>, plan: &Plan, cycles: u64) -> Result<(), Memory
     ensures { OnOk result (jobs.new.items ≡ jobs.old.items ++ jobs_in_cycle plan.now cycles) }
 {
     for i in 0..plan.jobs().len() {
-        if jobs.push(plan.job_in_cycle(i, cycles)).is_err() {
-            return Err(Memory);
-        }
+        jobs.push(plan.job_in_cycle(i, cycles))?;
     }
     Ok(())
 }
@@ -217,9 +215,7 @@ fn push_ends(ends: &mut Vec<u64>, plan: &Plan, cycles: u64) -> Result<(), Memory
 {
     let by = cycles * u64::from(plan.cycle());
     for span in plan.spans() {
-        if ends.push(span.end + by).is_err() {
-            return Err(Memory);
-        }
+        ends.push(span.end + by)?;
     }
     Ok(())
 }

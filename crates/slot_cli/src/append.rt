@@ -12,10 +12,8 @@ use slot_core::{Field, Memory, Part, Place, Window};
 pub fn push(line: &mut Vec<u8>, bytes: &[u8]) -> Result<(), Memory>
     ensures { OnOk result (line.new.items ≡ line.old.items ++ bytes.now) }
 {
-    match line.extend_from_slice(bytes) {
-        Ok(()) => Ok(()),
-        Err(_) => Err(Memory),
-    }
+    line.extend_from_slice(bytes)?;
+    Ok(())
 }
 
 /// Appends a space and the number.

@@ -84,14 +84,9 @@ pub fn planned<F: Files>(alloc: Global, words: &Words, files: &mut F) -> Result<
     ensures blamed { MatchResult result (λ _. F.faults files.new ≡ F.faults files.old)
         (λ e. IsBlamed words.now e (F.faults files.old) (F.faults files.new) (F.blamed files.new)) }
 {
-    let bytes = match read_file(alloc, words, files, File::Tasks) {
-        Ok(bytes) => bytes,
-        Err(outcome) => return Err(outcome),
-    };
-    match load_set(alloc, bytes.as_slice()) {
-        Ok(set) => plan_of(alloc, set),
-        Err(outcome) => Err(outcome),
-    }
+    let bytes = read_file(alloc, words, files, File::Tasks)?;
+    let set = load_set(alloc, bytes.as_slice())?;
+    plan_of(alloc, set)
 }
 
 /// Refuses an arrivals file with a byte.
@@ -104,10 +99,8 @@ pub fn read_arrivals<F: Files>(alloc: Global, words: &Words, files: &mut F) -> R
     ensures blamed { IfErr result
         (λ e. IsBlamed words.now e (F.faults files.old) (F.faults files.new) (F.blamed files.new)) }
 {
-    match read_file(alloc, words, files, File::Arrivals) {
-        Ok(bytes) => no_arrivals(bytes.as_slice()),
-        Err(outcome) => Err(outcome),
-    }
+    let bytes = read_file(alloc, words, files, File::Arrivals)?;
+    no_arrivals(bytes.as_slice())
 }
 
 /// Refuses bytes of an arrivals file.

@@ -1,8 +1,25 @@
 //! Refusals that several crates answer, and places in a task file.
 
+ghost use Rattle.std.specs.Prelude.{◌≡◌};
+ghost use Rattle.slot_core.specs.declared.faults.TaskFault.TheVariants.{Memory as MemoryFault};
+
+use std::alloc::{AllocError, AllocFailed};
+
 /// Want of memory: the only error of a call with no other refusal.
 #[derive(Clone, Copy, PartialEq, Eq, Debug)]
 pub struct Memory;
+
+impl From<AllocError> for Memory {
+    fn from(_: AllocError) -> Memory {
+        Memory
+    }
+}
+
+impl<T: Drop> From<AllocFailed<T>> for Memory {
+    fn from(_: AllocFailed<T>) -> Memory {
+        Memory
+    }
+}
 
 /// The fault of a file, a sink or another object that was handed in.
 #[derive(Clone, Copy, PartialEq, Eq, Debug)]
@@ -72,4 +89,20 @@ pub enum TaskFault {
     /// The least common multiple of periods and separations up to the first place where it is
     /// above 4096 slots.
     CycleTooLong(u64),
+}
+
+impl From<Memory> for TaskFault {
+    ghost from_gives = { λ _ fault. fault ≡ MemoryFault };
+
+    fn from(_: Memory) -> TaskFault {
+        TaskFault::Memory
+    }
+}
+
+impl<T: Drop> From<AllocFailed<T>> for TaskFault {
+    ghost from_gives = { λ _ fault. fault ≡ MemoryFault };
+
+    fn from(_: AllocFailed<T>) -> TaskFault {
+        TaskFault::Memory
+    }
 }

@@ -35,10 +35,8 @@ impl<T: Drop> List<T> {
         ensures ok { OnOk result (self.new ≡ self.old ++ item ∷ []) }
         ensures err { OnErr result (self.new ≡ self.old) }
     {
-        match self.items.push(item) {
-            Ok(()) => Ok(()),
-            Err(_) => Err(Memory),
-        }
+        self.items.push(item)?;
+        Ok(())
     }
 
     /// The number of items.

@@ -37,14 +37,9 @@ impl Words {
         ensures ok { OnOk result (self.new ≡ self.old ++ word.now ∷ []) }
         ensures err { OnErr result (self.new ≡ self.old) }
     {
-        let text = match String::from_str(self.alloc, word) {
-            Ok(text) => text,
-            Err(_) => return Err(Memory),
-        };
-        match self.texts.push(text) {
-            Ok(()) => Ok(()),
-            Err(_) => Err(Memory),
-        }
+        let text = String::from_str(self.alloc, word)?;
+        self.texts.push(text)?;
+        Ok(())
     }
 
     /// The number of words.

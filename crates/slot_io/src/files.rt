@@ -3,8 +3,9 @@
 ghost use Rattle.std.specs.Prelude.{◌≡◌, ◌≢◌, ℕ, ◌+◌, ◌≤◌, List, Option, Some, IfSome, IfOk, vec_len};
 ghost use Rattle.slot_io.specs.Faults.{Rose};
 ghost use Rattle.slot_io.specs.Files.{Held, first_bytes};
+ghost use Rattle.slot_io.specs.declared.files.ReadFault.TheVariants.{Memory as MemoryFault};
 
-use std::alloc::Global;
+use std::alloc::{AllocError, Global};
 
 /// Why a read gives no bytes.
 #[derive(Clone, Copy, PartialEq, Eq, Debug)]
@@ -13,6 +14,14 @@ pub enum ReadFault {
     Memory,
     /// The file could not be read.
     Failed,
+}
+
+impl From<AllocError> for ReadFault {
+    ghost from_gives = { λ _ fault. fault ≡ MemoryFault };
+
+    fn from(_: AllocError) -> ReadFault {
+        ReadFault::Memory
+    }
 }
 
 /// Files that are read whole up to a limit.

@@ -44,10 +44,7 @@ impl<R: rt::Files> Files for HostFiles<R> {
     ghost blamed = { λ f. option_map string_bytes f.blamed };
 
     fn read(&mut self, alloc: Global, name: &str, limit: usize) -> Result<Vec<u8>, ReadFault> {
-        let copy = match String::from_str(alloc, name) {
-            Ok(copy) => copy,
-            Err(_) => return Err(ReadFault::Memory),
-        };
+        let copy = String::from_str(alloc, name)?;
         match read_file(&self.rt, alloc, name, limit + 1) {
             Ok(bytes) => Ok(bytes),
             Err(ReadFault::Memory) => Err(ReadFault::Memory),
@@ -84,10 +81,8 @@ fn read_up_to<F: Read>(file: &mut F, alloc: Global, most: usize) -> Result<Vec<u
     let mut bytes = Vec::new(alloc);
     while bytes.len() < most {
         let room = most - bytes.len();
-        match read_piece(file, &mut bytes, room) {
-            Ok(0) => return Ok(bytes),
-            Ok(_) => {}
-            Err(fault) => return Err(fault),
+        if read_piece(file, &mut bytes, room)? == 0 {
+            return Ok(bytes);
         }
     }
     Ok(bytes)
@@ -100,16 +95,10 @@ fn read_piece<F: Read>(file: &mut F, bytes: &mut Vec<u8>, room: usize) -> Result
     ensures within { IfOk result (λ count. count ≤ room) }
 {
     let filled = bytes.len();
-    if bytes.resize(filled + room.min(PIECE), 0).is_err() {
-        return Err(ReadFault::Memory);
-    }
-    match read_once(file, &mut bytes.as_mut_slice()[filled..]) {
-        Ok(count) => {
-            bytes.truncate(filled + count);
-            Ok(count)
-        }
-        Err(fault) => Err(fault),
-    }
+    bytes.resize(filled + room.min(PIECE), 0)?;
+    let count = read_once(file, &mut bytes.as_mut_slice()[filled..])?;
+    bytes.truncate(filled + count);
+    Ok(count)
 }
 
 /// One read. As the loops of the standard library do, it tries again where a signal interrupts it,

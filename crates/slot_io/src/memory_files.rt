@@ -81,14 +81,9 @@ impl MemoryFiles {
             (self.new ≡ record self.old { held = insert self.old.held name.now bytes.now }) }
         ensures err { OnErr result (self.new ≡ self.old) }
     {
-        let entry = match entry_of(self.alloc, name, bytes) {
-            Ok(entry) => entry,
-            Err(Memory) => return Err(Memory),
-        };
-        match self.entries.push_front(entry) {
-            Ok(()) => Ok(()),
-            Err(_) => Err(Memory),
-        }
+        let entry = entry_of(self.alloc, name, bytes)?;
+        self.entries.push_front(entry)?;
+        Ok(())
     }
 
     /// Makes the read call of this number, counted from 1, fail. After Memory nothing has changed.
@@ -97,10 +92,8 @@ impl MemoryFiles {
             (self.new ≡ record self.old { failing = self.old.failing ++ n ∷ [] }) }
         ensures err { OnErr result (self.new ≡ self.old) }
     {
-        match self.failing.push(n) {
-            Ok(()) => Ok(()),
-            Err(_) => Err(Memory),
-        }
+        self.failing.push(n)?;
+        Ok(())
     }
 
     /// The bytes that this read gives, or None where it fails.
@@ -114,10 +107,7 @@ impl MemoryFiles {
             return Ok(None);
         }
         match find(&self.entries, name) {
-            Some(bytes) => match first_bytes(alloc, bytes, limit) {
-                Ok(first) => Ok(Some(first)),
-                Err(Memory) => Err(Memory),
-            },
+            Some(bytes) => Ok(Some(first_bytes(alloc, bytes, limit)?)),
             None => Ok(None),
         }
     }
@@ -180,14 +170,9 @@ impl Files for MemoryFiles {
 fn entry_of(alloc: Global, name: &str, bytes: &[u8]) -> Result<Entry, Memory>
     ensures { IfOk result (λ entry. entry ≡ (name.now, bytes.now)) }
 {
-    let name = match String::from_str(alloc, name) {
-        Ok(name) => name,
-        Err(_) => return Err(Memory),
-    };
-    match Vec::from_slice(alloc, bytes) {
-        Ok(bytes) => Ok(Entry { name, bytes }),
-        Err(_) => Err(Memory),
-    }
+    let name = String::from_str(alloc, name)?;
+    let bytes = Vec::from_slice(alloc, bytes)?;
+    Ok(Entry { name, bytes })
 }
 
 /// The bytes of the first entry of a name.
@@ -223,8 +208,6 @@ fn first_bytes(alloc: Global, bytes: &[u8], limit: usize) -> Result<Vec<u8>, Mem
     ensures { IfOk result (λ first. first.items ≡ take (limit + 1) bytes.now) }
 {
     let count = bytes.len().min(limit + 1);
-    match Vec::from_slice(alloc, &bytes[..count]) {
-        Ok(copy) => Ok(copy),
-        Err(_) => Err(Memory),
-    }
+    let copy = Vec::from_slice(alloc, &bytes[..count])?;
+    Ok(copy)
 }

@@ -44,16 +44,13 @@ impl MemorySink {
         ensures { IfOk result (λ sink. sink
             ≡ record { written = []; room = room; failing = []; calls = 0; faults = 0 }) }
     {
-        match Vec::with_capacity(alloc, room) {
-            Ok(written) => Ok(MemorySink {
-                written,
-                room,
-                failing: Vec::new(alloc),
-                calls: 0,
-                faults: 0,
-            }),
-            Err(_) => Err(Memory),
-        }
+        Ok(MemorySink {
+            written: Vec::with_capacity(alloc, room)?,
+            room,
+            failing: Vec::new(alloc),
+            calls: 0,
+            faults: 0,
+        })
     }
 
     /// Makes the put call of this number, counted from 1, fail. After Memory nothing has changed.
@@ -62,10 +59,8 @@ impl MemorySink {
             (self.new ≡ record self.old { failing = self.old.failing ++ n ∷ [] }) }
         ensures err { OnErr result (self.new ≡ self.old) }
     {
-        match self.failing.push(n) {
-            Ok(()) => Ok(()),
-            Err(_) => Err(Memory),
-        }
+        self.failing.push(n)?;
+        Ok(())
     }
 
     /// The bytes that are written.

@@ -25,8 +25,8 @@ is_sound-shape members set read shape is =
     subst P same (rw (in_range, none) refl)
 
 is_sound-members : (members : Members) (r : Read TaskSet) (read : TaskSet) → set_of members ≡ r → (r >>= without_fault) ≡ Ok read → is_sound read ≡ true
-is_sound-members members (Ok set) read shape is = is_sound-shape members set read shape is
-is_sound-members members (Err fault) read shape is = cc
+is_sound-members table (Ok set) read shape is = is_sound-shape table set read shape is
+is_sound-members table (Err fault) read shape is = cc
 
 is_sound-document : (r : Read Members) (read : TaskSet) → (r >>= (λ members. set_of members >>= without_fault)) ≡ Ok read → is_sound read ≡ true
 is_sound-document (Ok table) read is = is_sound-members table (set_of table) read refl is

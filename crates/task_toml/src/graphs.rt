@@ -8,7 +8,7 @@ ghost use Rattle.task_toml.specs.TomlFields.{Answers, AnswersAs};
 ghost use Rattle.toml.specs.View.{table_view};
 
 use crate::fields::{check_keys, name_at, number_at};
-use crate::tables::{append, tables_at, texts_at};
+use crate::tables::{tables_at, texts_at};
 use slot_core::{
     AFTER_LIMIT, Afters, Field, GRAPH_LIMIT, Graph, Graphs, List, Name, Part, SLOT_LIMIT,
     SPORADIC_LIMIT, Sporadic, Sporadics, TASK_LIMIT, Task, TaskFault, Tasks,
@@ -64,10 +64,7 @@ fn read_named_tasks<'a>(
 {
     let mut tasks = Vec::new(alloc);
     for (t, table) in tables.iter().enumerate() {
-        let task = read_task(alloc, graph, t as u16, table)?;
-        if tasks.push(task).is_err() {
-            return Err(TaskFault::Memory);
-        }
+        tasks.push(read_task(alloc, graph, t as u16, table)?)?;
     }
     Ok(tasks)
 }
@@ -102,7 +99,7 @@ fn places_of_names(alloc: Global, tasks: &[NamedTask], names: &[&str]) -> Result
 {
     let mut places = Afters::new(alloc);
     for name in names {
-        append(&mut places, place_of_name(tasks, name))?;
+        places.push(place_of_name(tasks, name))?;
     }
     Ok(places)
 }
@@ -116,10 +113,7 @@ fn places_after(alloc: Global, tasks: &[NamedTask]) -> Result<Vec<Afters>, TaskF
 {
     let mut lists = Vec::new(alloc);
     for task in tasks {
-        let places = places_of_names(alloc, tasks, task.after.items())?;
-        if lists.push(places).is_err() {
-            return Err(TaskFault::Memory);
-        }
+        lists.push(places_of_names(alloc, tasks, task.after.items())?)?;
     }
     Ok(lists)
 }
@@ -139,7 +133,7 @@ fn with_indexes(alloc: Global, named: Vec<NamedTask>) -> Result<Tasks, TaskFault
             wcet,
             after: _,
         } = task;
-        append(&mut tasks, Task { name, wcet, after })?;
+        tasks.push(Task { name, wcet, after })?;
     }
     Ok(tasks)
 }
@@ -175,7 +169,7 @@ pub fn read_graphs(alloc: Global, tables: &[&Table]) -> Result<Graphs, TaskFault
     let mut graphs = Graphs::new(alloc);
     for (g, table) in tables.iter().enumerate() {
         let graph = read_graph(alloc, g as u16, table)?;
-        append(&mut graphs, graph)?;
+        graphs.push(graph)?;
     }
     Ok(graphs)
 }
@@ -213,7 +207,7 @@ pub fn read_sporadics(alloc: Global, tables: &[&Table]) -> Result<Sporadics, Tas
     let mut sporadics = Sporadics::new(alloc);
     for (s, table) in tables.iter().enumerate() {
         let sporadic = read_sporadic(s as u8, table)?;
-        append(&mut sporadics, sporadic)?;
+        sporadics.push(sporadic)?;
     }
     Ok(sporadics)
 }

@@ -12,17 +12,6 @@ use slot_core::{Field, List, Part, Place, TaskFault};
 use std::alloc::Global;
 use toml::{Table, Value};
 
-/// Appends the item.
-pub fn append<T: Drop>(list: &mut List<T>, item: T) -> Result<(), TaskFault>
-    ensures ok { OnOk result (list.new ≡ list.old ++ item ∷ []) }
-    ensures memory { IfErr result (λ e. e ≡ TaskFault.Memory) }
-{
-    match list.push(item) {
-        Ok(()) => Ok(()),
-        Err(_) => Err(TaskFault::Memory),
-    }
-}
-
 /// The items as tables.
 fn all_tables<'a>(
     alloc: Global,
@@ -37,7 +26,7 @@ fn all_tables<'a>(
         let Value::Table(table) = item else {
             return Err(TaskFault::WrongKind(place));
         };
-        append(&mut tables, table)?;
+        tables.push(table)?;
     }
     Ok(tables)
 }
@@ -56,7 +45,7 @@ fn all_texts<'a>(
         let Value::String(text) = item else {
             return Err(TaskFault::WrongKind(place));
         };
-        append(&mut texts, text.as_str())?;
+        texts.push(text.as_str())?;
     }
     Ok(texts)
 }

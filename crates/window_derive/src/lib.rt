@@ -7,6 +7,7 @@ ghost use Rattle.slot_core.specs.OfflineJobs.{raw_jobs, derived_job};
 ghost use Rattle.slot_core.specs.Plans.{AreInDeadlineOrder};
 ghost use Rattle.slot_core.specs.Precedence.{comes_after};
 ghost use Rattle.slot_core.specs.Ranges.{is_sound};
+ghost use Rattle.window_derive.specs.declared.OrderFault.TheVariants.{Memory as MemoryFault};
 ghost use Rattle.window_derive.specs.Orders.{IsOrder, first_on_loop};
 
 mod chains;
@@ -19,7 +20,7 @@ mod windows;
 use loops::first_on_loop;
 use places::next_task;
 use slot_core::{Graph, Job, Memory, RawJob, TaskSet};
-use std::alloc::Global;
+use std::alloc::{AllocFailed, Global};
 use windows::{by_deadline, chains_of_graphs, windows_of};
 
 /// Most tasks of a graph that has an order here.
@@ -32,6 +33,14 @@ pub enum OrderFault {
     Memory,
     /// The least task on a loop of `after` entries.
     Loop(u16),
+}
+
+impl<T: Drop> From<AllocFailed<T>> for OrderFault {
+    ghost from_gives = { λ _ fault. fault ≡ MemoryFault };
+
+    fn from(_: AllocFailed<T>) -> OrderFault {
+        OrderFault::Memory
+    }
 }
 
 /// Every task once, at each place the least one whose predecessors all stand before it. A loop is told
@@ -50,9 +59,7 @@ pub fn order(alloc: Global, graph: &Graph) -> Result<Vec<u16>, OrderFault>
         let Some(task) = next_task(tasks, &placed) else {
             return Err(OrderFault::Loop(first_on_loop(tasks).unwrap()));
         };
-        if order.push(task).is_err() {
-            return Err(OrderFault::Memory);
-        }
+        order.push(task)?;
         placed[usize::from(task)] = true;
     }
     Ok(order)

@@ -27,10 +27,7 @@ pub fn chains_of_graphs(alloc: Global, graphs: &[Graph]) -> Result<Vec<Chains>, 
 {
     let mut chains = Vec::new(alloc);
     for graph in graphs {
-        let of_graph = chains_of_graph(alloc, graph)?;
-        if chains.push(of_graph).is_err() {
-            return Err(Memory);
-        }
+        chains.push(chains_of_graph(alloc, graph)?)?;
     }
     Ok(chains)
 }
@@ -59,9 +56,7 @@ pub fn windows_of(alloc: Global, raw: &[RawJob], chains: &[Chains]) -> Result<Ve
 {
     let mut jobs = Vec::new(alloc);
     for job in raw {
-        if jobs.push(window_of(job, chains)).is_err() {
-            return Err(Memory);
-        }
+        jobs.push(window_of(job, chains))?;
     }
     Ok(jobs)
 }

@@ -31,12 +31,12 @@ in_order jobs copy sorted slice a b c =
 
 pub first_failing-requires-clause-within : goal.first_failing-requires-clause-within
 first_failing-requires-clause-within c =
-    let same = in_order c.args.jobs.now c.in-Ok.ordered.items c.sort_unstable_by_key.new.self.items c.as_slice.result.now c.in-Ok.ensures.items c.sort_unstable_by_key.ensures.permutation c.as_slice.ensures.value in
+    let same = in_order c.args.jobs.now c.in_ok-ordered.ordered.items c.sort_unstable_by_key.new.self.items c.as_slice.result.now c.in_ok-ordered.ensures.items c.sort_unstable_by_key.ensures.permutation c.as_slice.ensures.value in
     All-permutation (λ (j : Job). j.dl ≤ c.args.cycle) c.args.jobs.now c.as_slice.result.now same c.requires.within
 
 pub first_failing-requires-clause-few : goal.first_failing-requires-clause-few
 first_failing-requires-clause-few c =
-    let same = in_order c.args.jobs.now c.in-Ok.ordered.items c.sort_unstable_by_key.new.self.items c.as_slice.result.now c.in-Ok.ensures.items c.sort_unstable_by_key.ensures.permutation c.as_slice.ensures.value in
+    let same = in_order c.args.jobs.now c.in_ok-ordered.ordered.items c.sort_unstable_by_key.new.self.items c.as_slice.result.now c.in_ok-ordered.ensures.items c.sort_unstable_by_key.ensures.permutation c.as_slice.ensures.value in
     omega (
       arith,
       sum_by-IsPermutation (λ (j : Job). j.declared) c.args.jobs.now c.as_slice.result.now same,
@@ -50,12 +50,12 @@ first_failing-requires-clause-ordered c =
 
 pub returns-in-Some : goal.returns-in-Some
 returns-in-Some c =
-    let same = in_order c.args.jobs.now c.in-Ok.ordered.items c.sort_unstable_by_key.new.self.items c.as_slice.result.now c.in-Ok.ensures.items c.sort_unstable_by_key.ensures.permutation c.as_slice.ensures.value in
+    let same = in_order c.args.jobs.now c.in_ok-ordered.ordered.items c.sort_unstable_by_key.new.self.items c.as_slice.result.now c.in_ok-ordered.ensures.items c.sort_unstable_by_key.ensures.permutation c.as_slice.ensures.value in
     let is = counterexample-is c.args.jobs.now c.as_slice.result.now c.args.sporadics.now c.args.cycle c.in_ok-window.field-0 same c.requires.fits c.in_ok-window.ensures in
     ap verdict_of (sym c.in-Some.is ∙ is)
 
 pub returns : goal.returns
 returns c =
-    let same = in_order c.args.jobs.now c.in-Ok.ordered.items c.sort_unstable_by_key.new.self.items c.as_slice.result.now c.in-Ok.ensures.items c.sort_unstable_by_key.ensures.permutation c.as_slice.ensures.value in
+    let same = in_order c.args.jobs.now c.in_ok-ordered.ordered.items c.sort_unstable_by_key.new.self.items c.as_slice.result.now c.in_ok-ordered.ensures.items c.sort_unstable_by_key.ensures.permutation c.as_slice.ensures.value in
     let is = counterexample-is c.args.jobs.now c.as_slice.result.now c.args.sporadics.now c.args.cycle c.in_ok-window.field-0 same c.requires.fits c.in_ok-window.ensures in
     ap verdict_of (sym c.in-None.is ∙ is)

@@ -33,7 +33,7 @@ loop-end-preserved c =
     let before = c.loop-end.invariant in
     let turn = AreRising-turn c.loop-end.from c.loop-end.end-index c.args.ends.now c.loop-end-test.true before.rising in
     let work = c.work_of.ensures ∙ ap (sum_by left_of) c.split_at.ensures.front ∙ work_of_front jobs c.loop-end.rest.now c.loop-end.from end c.count_due.result before.rest before.ordered c.count_due.ensures.count in
-    let pushed = c.push.ensures.items ∙ cond-true _ _ _ (c.is_err.ensures.negation ∙ ap not c.if-is_err.false) in
+    let pushed = c.in_ok-push.ensures.items in
     record {
       rows = ap (λ rows. rows ++ rows_between jobs end (drop (c.loop-end.end-index + 1) c.args.ends.now)) pushed ∙ rows_turn jobs c.loop-end.rows.items _ c.loop-end.from c.loop-end.end-index c.work_of.result c.args.ends.now c.loop-end-test.true before.rows work;
       rising = turn.1;

@@ -43,8 +43,7 @@ loop-place-preserved c =
     let next = IsNext-from_next_task tasks order task now in
     let count : length tasks ≤ 32 = rw c.items-tasks.ensures c.requires.count in
     let within : task < length c.loop-place.placed = omega (arith, c.loop-place.invariant.long, next.within) in
-    let ok = c.is_err.ensures.negation ∙ ap not c.if-is_err.false in
-    let pushed : c.push.new.self.items ≡ order ++ task ∷ [] = c.push.ensures.items ∙ ap (λ b. cond b (order ++ task ∷ []) order) ok in
+    let pushed : c.push.new.self.items ≡ order ++ task ∷ [] = c.in_ok-push.ensures.items in
     let marks = marked-push c.loop-place.placed order task within c.loop-place.invariant.marked in
     record {
       long = length-set c.loop-place.placed c.from.result true ∙ c.loop-place.invariant.long;

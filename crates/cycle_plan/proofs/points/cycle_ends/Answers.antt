@@ -10,7 +10,7 @@ use Rattle.slot_core.proofs.ListMembers.{Contains-from_Has}
 use Rattle.cycle_plan.proofs.PlanPoints.{AreInCycle, end_before-le}
 use Rattle.cycle_plan.proofs.CycleEnds.{start_if_later, ends_by, ends_by-due, end_before-none, ends_by-cycle}
 use Rattle.cycle_plan.proofs.points.cycle_ends.Goals as goal
-use Rattle.cycle_plan.proofs.points.cycle_ends.Goals.{then-start-end+in_ok-push_interval, else-start-end, then-before-from+in_ok-push_end, else-before-from}
+use Rattle.cycle_plan.proofs.points.cycle_ends.Goals.{then-start-end+in_ok-push_interval, else-start-end, then-before-from+in_ok-push, else-before-from}
 
 -- what the call requires of the jobs
 in_cycle : (cycle : ℕ) (jobs : List Job) → All (λ (j : Job). j.est < j.dl) jobs → All (λ (j : Job). j.dl ≤ cycle) jobs → AreInCycle cycle jobs
@@ -67,10 +67,10 @@ returns c =
     let places : c.loop-end.end ≡ cycle + 1 = omega (arith, table, c.loop-end-test.false) in
     let is_before : before ≡ end_before jobs (cycle + 1) = c.loop-end.invariant.is_before ∙ ap (end_before jobs) places in
     elim c.if-before-from.branch [
-      | then-before-from+in_ok-push_end w ↦
+      | then-before-from+in_ok-push w ↦
           let low : before < cycle = omega (arith, w.if-before-from.true, c.from.ensures) in
           let last = ends_by-cycle cycle jobs before c.requires.some all is_before low in
-          ap (λ (v : _). v.items) w.ends-is ∙ (w.in_ok-push_end.ensures ∙ (ap₂ (λ xs e. xs ++ e ∷ []) c.loop-end.invariant.points w.from-then-before-from.ensures ∙ sym last))
+          ap (λ (v : _). v.items) w.ends-is ∙ (w.in_ok-push.ensures.items ∙ (ap₂ (λ xs e. xs ++ e ∷ []) c.loop-end.invariant.points w.from-then-before-from.ensures ∙ sym last))
       | else-before-from w ↦
           let most : before ≤ cycle = omega (arith, end_before-le jobs (cycle + 1) cycle (λ j listed early. omega arith)) in
           let whole : before ≡ cycle = omega (arith, w.if-before-from.false, c.from.ensures) in

@@ -5,4 +5,4 @@ use Rattle.cycle_plan.proofs.points.slots_before.Goals as goal
 
 pub loop-slot-preserved : goal.loop-slot-preserved
 loop-slot-preserved c =
-    c.in_ok-push_end.ensures ∙ (ap (λ xs. xs ++ c.loop-slot.slot ∷ []) c.loop-slot.invariant ∙ sym (range-more c.loop-slot.slot))
+    c.in_ok-push.ensures.items ∙ (ap (λ xs. xs ++ c.loop-slot.slot ∷ []) c.loop-slot.invariant ∙ sym (range-more c.loop-slot.slot))

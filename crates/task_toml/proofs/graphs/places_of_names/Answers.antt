@@ -10,4 +10,4 @@ more g f xs i d done all z within is so_far = rw (append_assoc, is) (rw (drop_mo
 
 pub loop-name-preserved : goal.loop-name-preserved
 loop-name-preserved c =
-    rw c.in_ok-append.ensures.ok (more _ (place_of_name c.args.tasks.now) c.args.names.now c.loop-name.name-index _ _ _ _ c.loop-name-test.true c.place_of_name.ensures c.loop-name.invariant)
+    rw c.in_ok-push.ensures.ok (more _ (place_of_name c.args.tasks.now) c.args.names.now c.loop-name.name-index _ _ _ _ c.loop-name-test.true c.place_of_name.ensures c.loop-name.invariant)

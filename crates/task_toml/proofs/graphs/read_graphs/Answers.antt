@@ -5,4 +5,4 @@ use Rattle.task_toml.proofs.graphs.read_graphs.Goals as goal
 
 pub loop-g-preserved : goal.loop-g-preserved
 loop-g-preserved c =
-    rw c.in_ok-append.ensures.ok (each-more graph_of (λ t. table_view t.now) c.args.tables.now c.loop-g.g c.index-tables-g.result _ _ _ c.loop-g-test.true c.index-tables-g.is c.in_ok-graph.ensures c.loop-g.invariant)
+    rw c.in_ok-push.ensures.ok (each-more graph_of (λ t. table_view t.now) c.args.tables.now c.loop-g.g c.index-tables-g.result _ _ _ c.loop-g-test.true c.index-tables-g.is c.in_ok-graph.ensures c.loop-g.invariant)
