@@ -103,4 +103,22 @@ graph = [{ name = 'g', period = 8, task = [{ name = 'a', wcet = 1, after = ['a',
 graph = [{ name = 'g', period = 8, task = [{ name = '9', wcet = 0 }] }] => tasks bad name graph 0 task 0 name
 graph = [{ period = 8, color = 1, task = [{ name = 'a', wcet = 1 }] }] => tasks unknown key in graph 0
 graph = [{ name = 'g', period = 0, task = [{ name = 'a', wcet = 1 }] }, { name = '9' }] => tasks out of range graph 0 period 0
-graph = [{ name = 'g', period = 8, task = [{ name = 'a', wcet = 1 }] }, { period = 8 }] => tasks missing graph 1 name";
+graph = [{ name = 'g', period = 8, task = [{ name = 'a', wcet = 1 }] }, { period = 8 }] => tasks missing graph 1 name
+graph = [{}, {}, {}, {}, {}, {}, {}, {}, {}, {}, {}, {}, {}, {}, {}, {}, {}, {}, {}, {}, {}, {}, {}, {}, {}, {}, {}, {}, {}, {}, {}, {}, {}] => tasks too many top graph 33
+graph = [{ name = 'g', period = 8, task = [{ name = 'a', wcet = 1, color = 1 }] }] => tasks unknown key in graph 0 task 0
+color = 1 => tasks unknown key in top
+graph = [{ name = 'g', period = 8, task = [{ name = 'a', wcet = 1 }] }, { name = 'h', period = 7, offset = 7, task = [{ name = 'a', wcet = 1 }] }] => tasks out of range graph 1 offset 7
+graph = [{ name = 'g', period = 8, task = [{ name = 'a', wcet = 1 }] }, { name = 'g', period = 8, task = [{ name = 'a', wcet = 1 }] }] => tasks doubled graph 1 name
+graph = [{ name = 'g', task = [] }] => tasks missing graph 0 period
+graph = [{ name = 'g', period = 8, task = [{ name = 'a', wcet = 2, after = ['b'] }, { name = 'b', wcet = 1, after = ['a'] }] }] => tasks loop graph 0 task 0
+graph = [{ name = 'g', period = 8, task = [{ name = 'a', wcet = 2 }, { name = 'b', wcet = 1, after = ['x'] }] }] => tasks no such task graph 0 task 1 after
+graph = [{ name = 'g', period = 8, task = [{ name = 'a', wcet = 2 }, { name = 'a', wcet = 1 }] }] => tasks doubled graph 0 task 1 name
+graph = [{ name = 'g', period = 8, task = [{ name = 'a', wcet = 2 }, { name = 'b', wcet = 1, after = ['a', 'a'] }] }] => tasks doubled graph 0 task 1 after
+graph = [{ name = 'abcdefghijklmnopqrstuvwx' }] => tasks missing graph 0 period
+graph = [{ name = 'g', period = 4096 }] => tasks missing graph 0 task
+graph = [{ name = 'g', period = 8, offset = 7 }] => tasks missing graph 0 task
+graph = [{ name = 'g', offset = -1, period = 0 }] => tasks out of range graph 0 period 0
+graph = [{ name = 'g', period = 8, task = [{}] }, { wcet = 1 }] => tasks missing graph 0 task 0 name
+graph = [{ name = 'g', period = 8, task = [{ name = 'a', wcet = 1 }] }, { wcet = 1 }] => tasks unknown key in graph 1
+graph = [{ name = 'g', period = 8, task = [{ name = 'a b', deadline = 1 }] }] => tasks unknown key in graph 0 task 0
+graph = [{ name = 'g', period = 8, task = [{ name = 'a', wcet = 4096, after = ['b', 1] }] }] => tasks wrong kind graph 0 task 0 after";

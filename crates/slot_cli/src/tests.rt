@@ -2,7 +2,7 @@
 
 use crate::fault_lines::FAULT_LINES;
 use crate::{ARRIVALS_FILE_LIMIT, Status, TASK_FILE_LIMIT, run};
-use slot_core::{AFTER_LIMIT, TASK_LIMIT, Words};
+use slot_core::Words;
 use slot_io::{MemoryFiles, MemorySink};
 use std::alloc::Global;
 use std::process::Abort;
@@ -114,13 +114,13 @@ fn replays(words: &'static str, tasks: &'static str, out: &'static str) -> Case 
     }
 }
 
-/// A check that is refused.
-fn refuses(tasks: &'static str, status: Status, err: &'static str) -> Case {
+/// A check of a set that does not fit.
+fn refuses(tasks: &'static str, err: &'static str) -> Case {
     Case {
         words: "check a.toml",
         tasks,
         arrivals: "",
-        status,
+        status: Status::Infeasible,
         out: "",
         err,
     }
@@ -182,7 +182,14 @@ fn writes_what_is_due(rt: HostRuntime) -> Result<(), Fail> {
             "graph = [{ name = 'g', period = 4096, task = [{ name = 'a', wcet = 4096 }] }]",
             "feasible cycle 4096 jobs 1 spans 1\n",
         ),
+        fits(PAIR, "feasible cycle 8 jobs 2 spans 2\n"),
+        fits(FLIGHT, "feasible cycle 40 jobs 21 spans 15\n"),
         replays("replay a.toml none.csv 2", BORROWING, BORROWING_TRACE),
+        replays(
+            "replay a.toml none.csv 1",
+            PAIR,
+            "0 start | 0-7:5 7-8:0 8-15:5 15-16:0 16-23:5 23-24:0\n0 run g.a#0 | 1-7:5 7-8:0 8-15:5 15-16:0 16-23:5 23-24:0\n1 end\n",
+        ),
         replays(
             "replay a.toml none.csv 1",
             OFFSET,
@@ -196,85 +203,23 @@ fn writes_what_is_due(rt: HostRuntime) -> Result<(), Fail> {
 }
 
 #[test]
-fn refuses_sets(rt: HostRuntime) -> Result<(), Fail> {
+fn refuses_infeasible_sets(rt: HostRuntime) -> Result<(), Fail> {
     let cases = [
         refuses(
             "graph = [{ name = 'c', period = 10, offset = 5, deadline = 2, task = [{ name = 'a', wcet = 2 }] }, { name = 'd', period = 10, offset = 6, deadline = 1, task = [{ name = 'a', wcet = 1 }] }]",
-            Status::Infeasible,
             "infeasible 5 7 3\n",
         ),
         refuses(
             "graph = [{ name = 'g', period = 2, task = [{ name = 'a', wcet = 3 }] }]",
-            Status::Infeasible,
             "infeasible 0 2 3\n",
         ),
         refuses(
             "graph = [{ name = 'camera', period = 20, offset = 5, deadline = 4, task = [{ name = 'a', wcet = 3 }] }, { name = 'lidar', period = 20, offset = 6, deadline = 3, task = [{ name = 'a', wcet = 2 }] }, { name = 'log', period = 20, task = [{ name = 'a', wcet = 3 }] }]",
-            Status::Infeasible,
             "infeasible 5 9 5\n",
         ),
-        refuses("graph = []", Status::BadTasks, "tasks missing top graph\n"),
-        refuses("graph = ", Status::BadTasks, "tasks not toml\n"),
         refuses(
-            "graph = [{}, {}, {}, {}, {}, {}, {}, {}, {}, {}, {}, {}, {}, {}, {}, {}, {}, {}, {}, {}, {}, {}, {}, {}, {}, {}, {}, {}, {}, {}, {}, {}, {}]",
-            Status::BadTasks,
-            "tasks too many top graph 33\n",
-        ),
-        refuses(
-            "graph = [{ name = 'g', period = 4096, task = [{ name = 'a', wcet = 1 }] }, { name = 'h', period = 4095, task = [{ name = 'a', wcet = 1 }] }]",
-            Status::BadTasks,
-            "tasks cycle too long 16773120\n",
-        ),
-        refuses(
-            "graph = [{ name = 'g', period = 8, task = [{ name = 'a', wcet = 0 }] }]",
-            Status::BadTasks,
-            "tasks out of range graph 0 task 0 wcet 0\n",
-        ),
-        refuses(
-            "graph = [{ name = 'g', period = 8, task = [{ name = 'a', wcet = 2.0 }] }]",
-            Status::BadTasks,
-            "tasks wrong kind graph 0 task 0 wcet\n",
-        ),
-        refuses(
-            "graph = [{ name = 'g', period = 8, color = 1, task = [{ name = 'a', wcet = 1 }] }]",
-            Status::BadTasks,
-            "tasks unknown key in graph 0\n",
-        ),
-        refuses(
-            "graph = [{ name = 'g', period = 8, task = [{ name = 'a', wcet = 1, color = 1 }] }]",
-            Status::BadTasks,
-            "tasks unknown key in graph 0 task 0\n",
-        ),
-        refuses("color = 1", Status::BadTasks, "tasks unknown key in top\n"),
-        refuses(
-            "graph = [{ name = '9x', period = 8, task = [{ name = 'a', wcet = 1 }] }]",
-            Status::BadTasks,
-            "tasks bad name graph 0 name\n",
-        ),
-        refuses(
-            "graph = [{ name = 'g', period = 8, deadline = 9, task = [{ name = 'a', wcet = 1 }] }]",
-            Status::BadTasks,
-            "tasks out of range graph 0 deadline 9\n",
-        ),
-        refuses(
-            "graph = [{ name = 'g', period = 8, task = [{ name = 'a', wcet = 1 }] }, { name = 'h', period = 7, offset = 7, task = [{ name = 'a', wcet = 1 }] }]",
-            Status::BadTasks,
-            "tasks out of range graph 1 offset 7\n",
-        ),
-        refuses(
-            "graph = [{ name = 'g', period = 8, task = [{ name = 'a', wcet = 1 }] }, { name = 'g', period = 8, task = [{ name = 'a', wcet = 1 }] }]",
-            Status::BadTasks,
-            "tasks doubled graph 1 name\n",
-        ),
-        refuses(
-            "soft = -3",
-            Status::BadTasks,
-            "tasks out of range top soft -3\n",
-        ),
-        refuses(
-            "graph = [{ name = 'g', task = [] }]",
-            Status::BadTasks,
-            "tasks missing graph 0 period\n",
+            "graph = [{ name = 'g', period = 10, deadline = 3, task = [{ name = 'a', wcet = 2 }, { name = 'b', wcet = 2, after = ['a'] }, { name = 'c', wcet = 2, after = ['b'] }] }]",
+            "infeasible 0 1 4\n",
         ),
     ];
     for case in &cases {
@@ -283,33 +228,34 @@ fn refuses_sets(rt: HostRuntime) -> Result<(), Fail> {
     Ok(())
 }
 
+/// Words that are no command, a line each; the first has no word.
+const NO_COMMANDS: &str = "
+check
+check a.toml none.csv
+Check a.toml
+table a.toml
+selfrun 33
+replay a.toml none.csv
+replay a.toml none.csv 0
+replay a.toml none.csv 07
+replay a.toml none.csv +7
+replay a.toml none.csv 100001
+replay a.toml none.csv 1000000";
+
 #[test]
-fn stops_at_words_and_files(rt: HostRuntime) -> Result<(), Fail> {
+fn stops_at_words_that_are_no_command(rt: HostRuntime) -> Result<(), Fail> {
+    for words in NO_COMMANDS.lines() {
+        expect(&rt, rt.alloc(), &stops(words, "", Status::Usage, USAGE))?;
+    }
+    Ok(())
+}
+
+#[test]
+fn stops_at_files(rt: HostRuntime) -> Result<(), Fail> {
+    let unread = "cannot read b.toml\n";
     let cases = [
-        stops("", "", Status::Usage, USAGE),
-        stops("check", "", Status::Usage, USAGE),
-        stops("check a.toml none.csv", "", Status::Usage, USAGE),
-        stops("Check a.toml", "", Status::Usage, USAGE),
-        stops("table a.toml", "", Status::Usage, USAGE),
-        stops("selfrun 33", "", Status::Usage, USAGE),
-        stops("replay a.toml none.csv", "", Status::Usage, USAGE),
-        stops("replay a.toml none.csv 0", "", Status::Usage, USAGE),
-        stops("replay a.toml none.csv 07", "", Status::Usage, USAGE),
-        stops("replay a.toml none.csv +7", "", Status::Usage, USAGE),
-        stops("replay a.toml none.csv 100001", "", Status::Usage, USAGE),
-        stops("replay a.toml none.csv 1000000", "", Status::Usage, USAGE),
-        stops(
-            "check b.toml",
-            "",
-            Status::FileFault,
-            "cannot read b.toml\n",
-        ),
-        stops(
-            "replay b.toml b.csv 1",
-            "",
-            Status::FileFault,
-            "cannot read b.toml\n",
-        ),
+        stops("check b.toml", "", Status::FileFault, unread),
+        stops("replay b.toml b.csv 1", "", Status::FileFault, unread),
         stops(
             "replay a.toml b.csv 1",
             "",
@@ -329,59 +275,8 @@ fn stops_at_words_and_files(rt: HostRuntime) -> Result<(), Fail> {
     Ok(())
 }
 
-/// Whether a task set may have three tasks in a row.
-const HAS_CHAINS: bool = TASK_LIMIT >= 3 && AFTER_LIMIT >= 1;
-
-#[test]
-fn serves_tasks_in_a_row(rt: HostRuntime) -> Result<(), Fail> {
-    if !HAS_CHAINS {
-        return Ok(());
-    }
-    let cases = [
-        fits(PAIR, "feasible cycle 8 jobs 2 spans 2\n"),
-        fits(FLIGHT, "feasible cycle 40 jobs 21 spans 15\n"),
-        replays(
-            "replay a.toml none.csv 1",
-            PAIR,
-            "0 start | 0-7:5 7-8:0 8-15:5 15-16:0 16-23:5 23-24:0\n0 run g.a#0 | 1-7:5 7-8:0 8-15:5 15-16:0 16-23:5 23-24:0\n1 end\n",
-        ),
-        refuses(
-            "graph = [{ name = 'g', period = 10, deadline = 3, task = [{ name = 'a', wcet = 2 }, { name = 'b', wcet = 2, after = ['a'] }, { name = 'c', wcet = 2, after = ['b'] }] }]",
-            Status::Infeasible,
-            "infeasible 0 1 4\n",
-        ),
-        refuses(
-            "graph = [{ name = 'g', period = 8, task = [{ name = 'a', wcet = 2, after = ['b'] }, { name = 'b', wcet = 1, after = ['a'] }] }]",
-            Status::BadTasks,
-            "tasks loop graph 0 task 0\n",
-        ),
-        refuses(
-            "graph = [{ name = 'g', period = 8, task = [{ name = 'a', wcet = 2 }, { name = 'b', wcet = 1, after = ['x'] }] }]",
-            Status::BadTasks,
-            "tasks no such task graph 0 task 1 after\n",
-        ),
-        refuses(
-            "graph = [{ name = 'g', period = 8, task = [{ name = 'a', wcet = 2 }, { name = 'a', wcet = 1 }] }]",
-            Status::BadTasks,
-            "tasks doubled graph 0 task 1 name\n",
-        ),
-        refuses(
-            "graph = [{ name = 'g', period = 8, task = [{ name = 'a', wcet = 2 }, { name = 'b', wcet = 1, after = ['a', 'a'] }] }]",
-            Status::BadTasks,
-            "tasks doubled graph 0 task 1 after\n",
-        ),
-    ];
-    for case in &cases {
-        expect(&rt, rt.alloc(), case)?;
-    }
-    Ok(())
-}
-
 #[test]
 fn replays_later_cycles(rt: HostRuntime) -> Result<(), Fail> {
-    if !HAS_CHAINS {
-        return Ok(());
-    }
     let alloc = rt.alloc();
     let mut files = files_of(alloc, PAIR.as_bytes(), b"")?;
     let words = words_of(alloc, "replay a.toml none.csv 17")?;

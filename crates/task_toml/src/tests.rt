@@ -42,14 +42,6 @@ fn of_task(field: Field) -> Place {
     }
 }
 
-/// A key of the first sporadic task.
-fn of_sporadic(field: Field) -> Place {
-    Place {
-        part: Part::Sporadic(0),
-        field,
-    }
-}
-
 /// The set of the text, its shape alone checked.
 fn shape(alloc: Global, bytes: &[u8]) -> Result<TaskSet, TaskFault> {
     read_set(alloc, &read_document(alloc, bytes)?)
@@ -93,132 +85,6 @@ fn tells_faults_of_documents(rt: HostRuntime) -> Result<(), Fail> {
     ];
     for (bytes, fault) in cases {
         assert_eq!(rt; shape(rt.alloc(), bytes).err(), Some(fault));
-    }
-    Ok(())
-}
-
-#[test]
-fn tells_faults_of_graphs(rt: HostRuntime) -> Result<(), Fail> {
-    let cases = [
-        ("", TaskFault::Missing(of_graph(Field::Name))),
-        ("name = 1", TaskFault::WrongKind(of_graph(Field::Name))),
-        ("name = 'g a'", TaskFault::BadName(of_graph(Field::Name))),
-        ("name = '8g'", TaskFault::BadName(of_graph(Field::Name))),
-        (
-            "name = 'abcdefghijklmnopqrstuvwx'",
-            TaskFault::Missing(of_graph(Field::Period)),
-        ),
-        (
-            "name = 'abcdefghijklmnopqrstuvwxy'",
-            TaskFault::BadName(of_graph(Field::Name)),
-        ),
-        (
-            "name = 'g'\nperiod = 0",
-            TaskFault::OutOfRange(of_graph(Field::Period), 0),
-        ),
-        (
-            "name = 'g'\nperiod = 4096",
-            TaskFault::Missing(of_graph(Field::Task)),
-        ),
-        (
-            "name = 'g'\nperiod = 4097",
-            TaskFault::OutOfRange(of_graph(Field::Period), 4097),
-        ),
-        (
-            "name = 'g'\nperiod = 8\noffset = -1",
-            TaskFault::OutOfRange(of_graph(Field::Offset), -1),
-        ),
-        (
-            "name = 'g'\nperiod = 8\noffset = 7",
-            TaskFault::Missing(of_graph(Field::Task)),
-        ),
-        (
-            "name = 'g'\nperiod = 8\noffset = 8",
-            TaskFault::OutOfRange(of_graph(Field::Offset), 8),
-        ),
-        (
-            "name = 'g'\nperiod = 8\ndeadline = 0",
-            TaskFault::OutOfRange(of_graph(Field::Deadline), 0),
-        ),
-        (
-            "name = 'g'\nperiod = 8\ndeadline = 9",
-            TaskFault::OutOfRange(of_graph(Field::Deadline), 9),
-        ),
-        (
-            "name = 'g'\nperiod = 8\noffset = 2\ndeadline = 7",
-            TaskFault::OutOfRange(of_graph(Field::Deadline), 7),
-        ),
-        (
-            "name = 'g'\nperiod = 8\ntask = []",
-            TaskFault::Missing(of_graph(Field::Task)),
-        ),
-        (
-            "name = 'g'\nperiod = 8\ntask = 'a'",
-            TaskFault::WrongKind(of_graph(Field::Task)),
-        ),
-        ("name = 1\nwcet = 1", TaskFault::UnknownKey(Part::Graph(0))),
-        (
-            "offset = -1\nperiod = 0\nname = 'g'",
-            TaskFault::OutOfRange(of_graph(Field::Period), 0),
-        ),
-        (
-            "name = 'g'\nperiod = 8\ntask = [{}]\n[[graph]]\nwcet = 1",
-            TaskFault::Missing(of_task(Field::Name)),
-        ),
-        (
-            "name = 'g'\nperiod = 8\ntask = [{name = 'a', wcet = 1}]\n[[graph]]\nwcet = 1",
-            TaskFault::UnknownKey(Part::Graph(1)),
-        ),
-    ];
-    for (keys, fault) in cases {
-        let text = format!(in rt.alloc(); "[[graph]]\n{keys}")?;
-        assert_eq!(rt;
-            shape(rt.alloc(), text.as_bytes()).err(),
-            Some(fault),
-            "{keys}"
-        );
-    }
-    Ok(())
-}
-
-#[test]
-fn tells_faults_of_tasks(rt: HostRuntime) -> Result<(), Fail> {
-    let cases = [
-        ("", TaskFault::Missing(of_task(Field::Name))),
-        ("name = 'a b'", TaskFault::BadName(of_task(Field::Name))),
-        ("name = 'a'", TaskFault::Missing(of_task(Field::Wcet))),
-        (
-            "name = 'a'\nwcet = true",
-            TaskFault::WrongKind(of_task(Field::Wcet)),
-        ),
-        (
-            "name = 'a'\nwcet = 0",
-            TaskFault::OutOfRange(of_task(Field::Wcet), 0),
-        ),
-        (
-            "name = 'a'\nwcet = 4097",
-            TaskFault::OutOfRange(of_task(Field::Wcet), 4097),
-        ),
-        (
-            "name = 'a'\nwcet = 4096\nafter = 'b'",
-            TaskFault::WrongKind(of_task(Field::After)),
-        ),
-        (
-            "name = 'a'\nwcet = 1\nafter = ['b', 1]",
-            TaskFault::WrongKind(of_task(Field::After)),
-        ),
-        (
-            "name = 'a b'\ndeadline = 1",
-            TaskFault::UnknownKey(Part::Task(0, 0)),
-        ),
-    ];
-    for (keys, fault) in cases {
-        let text = format!(in rt.alloc(); "{GRAPH}[[graph.task]]\n{keys}")?;
-        assert_eq!(rt;
-            shape(rt.alloc(), text.as_bytes()).err(),
-            Some(fault),
-            "{keys}"
-        );
     }
     Ok(())
 }
@@ -275,14 +141,6 @@ fn described(alloc: Global, set: &TaskSet) -> Result<String, Fail> {
             text.push_str(task.as_str())?;
         }
     }
-    for sporadic in set.sporadics.items() {
-        let name = std::str::from_utf8(sporadic.name.bytes())?;
-        let numbers = format!(in alloc;
-            " | {name} {} {} {}",
-            sporadic.wcet, sporadic.separation, sporadic.deadline
-        )?;
-        text.push_str(numbers.as_str())?;
-    }
     Ok(text)
 }
 
@@ -310,69 +168,23 @@ fn reads_sets(rt: HostRuntime) -> Result<(), Fail> {
     Ok(())
 }
 
-/// Whether the limits have room for a set with predecessors and sporadic tasks.
-fn has_room() -> bool {
-    TASK_LIMIT >= 2 && AFTER_LIMIT >= 3 && SPORADIC_LIMIT >= 1
-}
-
 #[test]
-fn reads_predecessors_and_sporadic_tasks(rt: HostRuntime) -> Result<(), Fail> {
+fn reads_predecessors(rt: HostRuntime) -> Result<(), Fail> {
     let alloc = rt.alloc();
     let cases = [
         (
-            "name = 'a'\nwcet = 2\n[[graph.task]]\nname = 'b'\nwcet = 1\nafter = ['a']\n[[sporadic]]\nname = 'alarm'\nwcet = 1\nseparation = 8\ndeadline = 2",
-            "soft 64 | g 8 0 8 : a 2 [] : b 1 [0] | alarm 1 8 2",
+            "name = 'a'\nwcet = 2\n[[graph.task]]\nname = 'b'\nwcet = 1\nafter = ['a']",
+            "soft 64 | g 8 0 8 : a 2 [] : b 1 [0]",
         ),
         (
-            "name = 'a'\nwcet = 2\nafter = ['b', 'none', 'a']\n[[graph.task]]\nname = 'b'\nwcet = 1\n[[sporadic]]\nname = 'alarm'\nwcet = 4096\nseparation = 4096",
-            "soft 64 | g 8 0 8 : a 2 [1, 2, 0] : b 1 [] | alarm 4096 4096 4096",
+            "name = 'a'\nwcet = 2\nafter = ['b', 'none', 'a']\n[[graph.task]]\nname = 'b'\nwcet = 1",
+            "soft 64 | g 8 0 8 : a 2 [1, 2, 0] : b 1 []",
         ),
     ];
     for (keys, wanted) in cases {
         let text = format!(in alloc; "{GRAPH}[[graph.task]]\n{keys}")?;
-        if has_room() {
-            let set = shape(alloc, text.as_bytes())?;
-            assert_eq!(rt; described(alloc, &set)?.as_str(), wanted);
-        }
-    }
-    Ok(())
-}
-
-#[test]
-fn tells_faults_of_sporadic_tasks(rt: HostRuntime) -> Result<(), Fail> {
-    let cases = [
-        ("", TaskFault::Missing(of_sporadic(Field::Name))),
-        ("name = 's'", TaskFault::Missing(of_sporadic(Field::Wcet))),
-        (
-            "name = 's'\nwcet = 0",
-            TaskFault::OutOfRange(of_sporadic(Field::Wcet), 0),
-        ),
-        (
-            "name = 's'\nwcet = 1",
-            TaskFault::Missing(of_sporadic(Field::Separation)),
-        ),
-        (
-            "name = 's'\nwcet = 1\nseparation = 4097",
-            TaskFault::OutOfRange(of_sporadic(Field::Separation), 4097),
-        ),
-        (
-            "name = 's'\nwcet = 1\nseparation = 8\ndeadline = 9",
-            TaskFault::OutOfRange(of_sporadic(Field::Deadline), 9),
-        ),
-        (
-            "name = 's'\nperiod = 8",
-            TaskFault::UnknownKey(Part::Sporadic(0)),
-        ),
-    ];
-    for (keys, fault) in cases {
-        let text = format!(in rt.alloc(); "{GRAPH}[[graph.task]]\n{TASK}[[sporadic]]\n{keys}")?;
-        if has_room() {
-            assert_eq!(rt;
-                shape(rt.alloc(), text.as_bytes()).err(),
-                Some(fault),
-                "{keys}"
-            );
-        }
+        let set = shape(alloc, text.as_bytes())?;
+        assert_eq!(rt; described(alloc, &set)?.as_str(), wanted);
     }
     Ok(())
 }

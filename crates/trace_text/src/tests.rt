@@ -118,85 +118,89 @@ const LAST: u64 = u64::MAX;
 
 const ROW: u32 = u32::MAX;
 
+/// A refused offer.
+const REFUSED: Evidence = Evidence {
+    until: 20,
+    need: 9,
+    room: 8,
+};
+
+/// An entry of each kind at its time, and its line with two spans.
+const ENTRIES: [(u64, What, &str); 16] = [
+    (0, What::Start, "0 start | 3-7:5 7-8:-3\n"),
+    (
+        3,
+        What::Soft(1, 2, Soft::Taken),
+        "3 soft 1 2 taken | 3-7:5 7-8:-3\n",
+    ),
+    (
+        3,
+        What::Soft(9, 65535, Soft::Full(1024)),
+        "3 soft 9 65535 full 1024 | 3-7:5 7-8:-3\n",
+    ),
+    (
+        4,
+        What::Firm(2, 10, 20, Firm::Accepted),
+        "4 firm 2 10 20 accepted | 3-7:5 7-8:-3\n",
+    ),
+    (
+        4,
+        What::Firm(3, 1, 0, Firm::Late),
+        "4 firm 3 1 0 late | 3-7:5 7-8:-3\n",
+    ),
+    (
+        4,
+        What::Firm(4, 1, 65535, Firm::Far),
+        "4 firm 4 1 65535 far | 3-7:5 7-8:-3\n",
+    ),
+    (
+        4,
+        What::Firm(5, 9, 20, Firm::NoRoom(REFUSED)),
+        "4 firm 5 9 20 noroom 20 9 8 | 3-7:5 7-8:-3\n",
+    ),
+    (
+        5,
+        What::Sporadic(6, 0, Spo::Taken(7)),
+        "5 sporadic 6 alarm taken 7 | 3-7:5 7-8:-3\n",
+    ),
+    (
+        5,
+        What::Sporadic(7, 0, Spo::Soon(13)),
+        "5 sporadic 7 alarm soon 13 | 3-7:5 7-8:-3\n",
+    ),
+    (
+        6,
+        What::Done(8, Key::Offline(0, 1, 0), Done::Freed(1)),
+        "6 done 8 g.b#0 freed 1 | 3-7:5 7-8:-3\n",
+    ),
+    (
+        6,
+        What::Done(9, Key::Sporadic(0, 6), Done::NotRunning),
+        "6 done 9 alarm@6 notrunning | 3-7:5 7-8:-3\n",
+    ),
+    (
+        10,
+        What::Run(Key::Offline(0, 0, 12)),
+        "10 run g.a#12 | 3-7:5 7-8:-3\n",
+    ),
+    (
+        11,
+        What::Run(Key::Firm(3)),
+        "11 run firm:3 | 3-7:5 7-8:-3\n",
+    ),
+    (
+        12,
+        What::Run(Key::Soft(1)),
+        "12 run soft:1 | 3-7:5 7-8:-3\n",
+    ),
+    (13, What::Idle, "13 idle | 3-7:5 7-8:-3\n"),
+    (14, What::End, "14 end\n"),
+];
+
 #[test]
 fn writes_each_kind_of_entry(rt: HostRuntime) -> Result<(), Fail> {
     let tasks = task_set(rt.alloc())?;
-    let refused = Evidence {
-        until: 20,
-        need: 9,
-        room: 8,
-    };
-    let rows = [
-        (0, What::Start, "0 start | 3-7:5 7-8:-3\n"),
-        (
-            3,
-            What::Soft(1, 2, Soft::Taken),
-            "3 soft 1 2 taken | 3-7:5 7-8:-3\n",
-        ),
-        (
-            3,
-            What::Soft(9, 65535, Soft::Full(1024)),
-            "3 soft 9 65535 full 1024 | 3-7:5 7-8:-3\n",
-        ),
-        (
-            4,
-            What::Firm(2, 10, 20, Firm::Accepted),
-            "4 firm 2 10 20 accepted | 3-7:5 7-8:-3\n",
-        ),
-        (
-            4,
-            What::Firm(3, 1, 0, Firm::Late),
-            "4 firm 3 1 0 late | 3-7:5 7-8:-3\n",
-        ),
-        (
-            4,
-            What::Firm(4, 1, 65535, Firm::Far),
-            "4 firm 4 1 65535 far | 3-7:5 7-8:-3\n",
-        ),
-        (
-            4,
-            What::Firm(5, 9, 20, Firm::NoRoom(refused)),
-            "4 firm 5 9 20 noroom 20 9 8 | 3-7:5 7-8:-3\n",
-        ),
-        (
-            5,
-            What::Sporadic(6, 0, Spo::Taken(7)),
-            "5 sporadic 6 alarm taken 7 | 3-7:5 7-8:-3\n",
-        ),
-        (
-            5,
-            What::Sporadic(7, 0, Spo::Soon(13)),
-            "5 sporadic 7 alarm soon 13 | 3-7:5 7-8:-3\n",
-        ),
-        (
-            6,
-            What::Done(8, Key::Offline(0, 1, 0), Done::Freed(1)),
-            "6 done 8 g.b#0 freed 1 | 3-7:5 7-8:-3\n",
-        ),
-        (
-            6,
-            What::Done(9, Key::Sporadic(0, 6), Done::NotRunning),
-            "6 done 9 alarm@6 notrunning | 3-7:5 7-8:-3\n",
-        ),
-        (
-            10,
-            What::Run(Key::Offline(0, 0, 12)),
-            "10 run g.a#12 | 3-7:5 7-8:-3\n",
-        ),
-        (
-            11,
-            What::Run(Key::Firm(3)),
-            "11 run firm:3 | 3-7:5 7-8:-3\n",
-        ),
-        (
-            12,
-            What::Run(Key::Soft(1)),
-            "12 run soft:1 | 3-7:5 7-8:-3\n",
-        ),
-        (13, What::Idle, "13 idle | 3-7:5 7-8:-3\n"),
-        (14, What::End, "14 end\n"),
-    ];
-    for (time, what, want) in rows {
+    for (time, what, want) in ENTRIES {
         let shown = shown(&[span(3, 7, 5), span(7, 8, -3)], 0)?;
         let entry = Entry { time, what, shown };
         assert!(rt; is_what_of(entry.what, &tasks));
@@ -209,40 +213,46 @@ fn writes_each_kind_of_entry(rt: HostRuntime) -> Result<(), Fail> {
     Ok(())
 }
 
+/// The key of the longest text.
+const LONGEST: Key = Key::Offline(1, 1, LAST);
+
+/// A refusal of the longest text.
+const MOST: Evidence = Evidence {
+    until: LAST,
+    need: LAST,
+    room: LAST,
+};
+
+/// Entries of the longest words of their kind.
+const LONG_ENTRIES: [(What, &str); 5] = [
+    (
+        What::Soft(ROW, ROW, Soft::Full(ROW)),
+        "soft 4294967295 4294967295 full 4294967295",
+    ),
+    (
+        What::Firm(ROW, ROW, ROW, Firm::NoRoom(MOST)),
+        "firm 4294967295 4294967295 4294967295 noroom 18446744073709551615 18446744073709551615 18446744073709551615",
+    ),
+    (
+        What::Sporadic(ROW, 1, Spo::Taken(LAST)),
+        "sporadic 4294967295 sporadic-of-24-bytes_abc taken 18446744073709551615",
+    ),
+    (
+        What::Done(ROW, LONGEST, Done::Freed(ROW)),
+        "done 4294967295 graph-name-of-24-bytes_x.Task_name-of-24-bytes-yz#18446744073709551615 freed 4294967295",
+    ),
+    (
+        What::Run(Key::Sporadic(1, ROW)),
+        "run sporadic-of-24-bytes_abc@4294967295",
+    ),
+];
+
 #[test]
 fn writes_the_longest_numbers_and_names(rt: HostRuntime) -> Result<(), Fail> {
     let alloc = rt.alloc();
     let tasks = task_set(alloc)?;
-    let longest = Key::Offline(1, 1, LAST);
-    let refused = Evidence {
-        until: LAST,
-        need: LAST,
-        room: LAST,
-    };
-    let rows = [
-        (
-            What::Soft(ROW, ROW, Soft::Full(ROW)),
-            "soft 4294967295 4294967295 full 4294967295",
-        ),
-        (
-            What::Firm(ROW, ROW, ROW, Firm::NoRoom(refused)),
-            "firm 4294967295 4294967295 4294967295 noroom 18446744073709551615 18446744073709551615 18446744073709551615",
-        ),
-        (
-            What::Sporadic(ROW, 1, Spo::Taken(LAST)),
-            "sporadic 4294967295 sporadic-of-24-bytes_abc taken 18446744073709551615",
-        ),
-        (
-            What::Done(ROW, longest, Done::Freed(ROW)),
-            "done 4294967295 graph-name-of-24-bytes_x.Task_name-of-24-bytes-yz#18446744073709551615 freed 4294967295",
-        ),
-        (
-            What::Run(Key::Sporadic(1, ROW)),
-            "run sporadic-of-24-bytes_abc@4294967295",
-        ),
-    ];
     let last = " 18446744073709551615-18446744073709551615:-9223372036854775808";
-    for (what, words) in rows {
+    for (what, words) in LONG_ENTRIES {
         let shown = shown(&[span(LAST, LAST, i64::MIN); 8], ROW)?;
         let entry = Entry {
             time: LAST,
