@@ -1,6 +1,6 @@
 -- Work, slack, capacities and spans depend on sums over the jobs alone, and not on their order.
-use Rattle.std.proofs.Common.{◌≡◌, ℕ, ◌-◌, ◌&&◌, List, [], ◌∷◌, refl, sym}
-use Rattle.std.specs.Prelude.{pos, ◌-ℤ◌, nat_lt, nat_le, sum_by, if◌then◌else◌}
+use Rattle.std.proofs.Common.{◌≡◌, ℕ, ◌-◌, ◌&&◌, List, [], ◌∷◌, refl}
+use Rattle.std.specs.Prelude.{pos, ◌-ℤ◌, nat_lt, nat_le, if◌then◌else◌}
 use Rattle.std.specs.List.Sorted.{IsPermutation}
 use Rattle.slot_core.specs.declared.jobs.Job.{Job}
 use Rattle.slot_core.specs.Demand.{work_between}

@@ -1,10 +1,10 @@
 -- The offline jobs of a feasible set, over any number of cycles.
-use Rattle.std.proofs.Common.{◌≡◌, ℕ, zero, suc, cond, List, ◌∷◌, inl, inr, ◌+◌, ◌-◌, ◌*◌, ◌/◌, ◌<◌, ◌≤◌, true, [], Option, Some, arith, refl, sym, subst, ap}
-use Rattle.std.specs.Prelude.{sum_by, Contains, slice_get, nat_le, ◌&&◌, min, max, ◌⊎◌}
+use Rattle.std.proofs.Common.{◌≡◌, ℕ, zero, suc, cond, inl, inr, ◌+◌, ◌-◌, ◌*◌, ◌/◌, ◌<◌, ◌≤◌, true, [], Option, Some, arith, refl, sym, subst, ap}
+use Rattle.std.specs.Prelude.{Contains, slice_get, nat_le, ◌&&◌, min, max, ◌⊎◌}
 use Rattle.std.specs.Option.{option_map_or}
 use Rattle.std.proofs.lemmas.Bool.{cases_lt}
 use Rattle.std.proofs.lemmas.Bool.Decides.{nat_tests}
-use Rattle.std.proofs.lemmas.List.Sums.{sum_by-cons, sum_by-append, sum_by-le-sum_by}
+use Rattle.std.proofs.lemmas.List.Sums.{sum_by-append, sum_by-le-sum_by}
 use Rattle.std.proofs.Math.Nat.{mul-le-mul_right}
 use Rattle.slot_core.specs.declared.jobs.Key.TheVariants.{Offline}
 use Rattle.slot_core.specs.declared.jobs.Job.{Job}

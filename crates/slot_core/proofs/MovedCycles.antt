@@ -1,10 +1,10 @@
 -- In a feasible set the offline jobs of a cycle are those of the first cycle, with their windows moved.
-use Rattle.std.proofs.Common.{◌≡◌, ℕ, zero, suc, ◌+◌, ◌-◌, ◌*◌, ◌/◌, ◌<◌, ◌≤◌, Bool, true, cond, List, [], ◌∷◌, length, Some, arith, refl, sym, subst, ap, ◌∙◌}
-use Rattle.std.specs.Prelude.{sum_by, nat_le, ◌&&◌, map, flat_map, slice_get}
+use Rattle.std.proofs.Common.{◌≡◌, ℕ, zero, suc, ◌+◌, ◌-◌, ◌*◌, ◌/◌, ◌<◌, ◌≤◌, true, cond, List, [], ◌∷◌, length, Some, arith, refl, sym, subst, ap, ◌∙◌}
+use Rattle.std.specs.Prelude.{sum_by, nat_le, ◌&&◌, slice_get}
 use Rattle.std.specs.Option.{option_map_or}
 use Rattle.std.specs.List.{range_with_len, enumerate_from}
 use Rattle.std.proofs.lemmas.Bool.Decides.{nat_tests}
-use Rattle.std.proofs.lemmas.List.Sums.{sum_by-cons, sum_by-append}
+use Rattle.std.proofs.lemmas.List.Sums.{sum_by-cons}
 use Rattle.std.proofs.lemmas.Option.{slice_get_within}
 use Rattle.std.proofs.Math.Nat.{mul-le-mul_right}
 use Rattle.slot_core.specs.declared.TheConstants.{SLOT_LIMIT}
@@ -15,7 +15,7 @@ use Rattle.slot_core.specs.declared.tasks.Graph.{Graph}
 use Rattle.slot_core.specs.declared.tasks.TaskSet.{TaskSet}
 use Rattle.slot_core.specs.Cycles.{cycle_of}
 use Rattle.slot_core.specs.Precedence.{wcet_of, longest_before, longest_after}
-use Rattle.slot_core.specs.Ranges.{is_sound, is_between}
+use Rattle.slot_core.specs.Ranges.{is_sound}
 use Rattle.slot_core.specs.OfflineJobs.{tasks_of, release_of, deadline_of, raw_job, instance_jobs, graph_jobs, raw_jobs, chain_before, chain_after, derived_job, cycle_jobs}
 use Rattle.slot_core.specs.Feasible.{declared_within, IsFeasible}
 use Rattle.slot_core.proofs.ChainLemmas.{HasNoLoop}

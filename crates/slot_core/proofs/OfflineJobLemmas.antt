@@ -1,14 +1,13 @@
 -- Which jobs the offline jobs of a set are.
-use Rattle.std.proofs.Common.{◌≡◌, ℕ, zero, suc, ◌+◌, ◌-◌, ◌*◌, ◌/◌, ◌<◌, ◌≤◌, true, ◌==◌, [], length, map, Option, Some, None, refl, sym, ap, ◌∙◌, subst, inl, inr, arith}
-use Rattle.std.specs.Prelude.{Contains, slice_get, find, nat_le, is_none, option_map}
+use Rattle.std.proofs.Common.{◌≡◌, ℕ, zero, suc, ◌+◌, ◌*◌, ◌/◌, ◌<◌, ◌≤◌, true, ◌==◌, [], length, map, Option, Some, None, refl, sym, ap, ◌∙◌, subst, inl, inr, arith}
+use Rattle.std.specs.Prelude.{Contains, slice_get, find, is_none, option_map}
 use Rattle.std.specs.Option.{option_or, option_map_or}
-use Rattle.std.specs.List.{list_any, list_all, range_with_len, enumerate_from}
+use Rattle.std.specs.List.{list_any, range_with_len, enumerate_from}
 use Rattle.std.proofs.Math.Nat.{zero-add, mul-le-mul_right}
 use Rattle.std.proofs.lemmas.Bool.{cases_lt, and_parts, false≢true, eqb-true}
 use Rattle.std.proofs.lemmas.Option.{slice_get_within}
 use Rattle.std.proofs.lemmas.List.Elements.{Contains-append_left, Contains-append_right, Contains-append_cases}
 use Rattle.slot_core.specs.declared.TheConstants.{SLOT_LIMIT}
-use Rattle.slot_core.specs.declared.jobs.Key.TheVariants.{Offline}
 use Rattle.slot_core.specs.declared.jobs.RawJob.{RawJob}
 use Rattle.slot_core.specs.declared.jobs.Job.{Job}
 use Rattle.slot_core.specs.declared.tasks.Task.{Task}
@@ -26,7 +25,7 @@ use Rattle.slot_core.specs.OfflineJobs.{raw_job, instance_jobs, graph_jobs, raw_
 use Rattle.slot_core.specs.Precedence.{comes_after, is_on_loop}
 use Rattle.slot_core.proofs.ListMembers.{Has, Has-from_Contains, Contains-from_Has, Has-append_left, Has-append_cases, Has-map, Has-map_cases, Has-flat_map, Has-flat_map_cases, Has-range_with_len, Has-range_with_len_bounds, Has-enumerate_from, Has-enumerate_from_at, Has-from_list_any, Has-from_slice_get, passes_from_list_all}
 use Rattle.slot_core.proofs.ChainLemmas.{HasNoLoop}
-use Rattle.slot_core.proofs.RangeFacts.{bounds, GraphRanges-from_test, SporadicRanges-from_test, SetRanges, SetRanges-from_sound}
+use Rattle.slot_core.proofs.RangeFacts.{bounds, GraphRanges-from_test, SporadicRanges-from_test, SetRanges-from_sound}
 use Rattle.slot_core.proofs.FaultLemmas.{None-from_is_none, option_or-None, option_map-None, find-None, first_fault-None, below-from_entries}
 use Rattle.slot_core.proofs.CycleMultiples.{div-mul-IsMultiple, IsMultiple-fold, fold_least_common_multiple-positive, fold_least_common_multiple-le}
 

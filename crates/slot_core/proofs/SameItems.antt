@@ -1,5 +1,5 @@
 -- Lists that have the same items in any order, by the sums over them.
-use Rattle.std.proofs.Common.{◌≡◌, ℕ, ◌+◌, ◌-◌, ◌≤◌, Bool, true, false, cond, not, List, [], ◌∷◌, ◌++◌, map, filter, refl, sym, ap, ◌∙◌, inl, inr, arith}
+use Rattle.std.proofs.Common.{◌≡◌, ℕ, ◌+◌, ◌-◌, ◌≤◌, Bool, true, cond, not, List, [], ◌∷◌, ◌++◌, map, filter, refl, sym, ap, ◌∙◌, inl, inr, arith}
 use Rattle.std.specs.Prelude.{sum_by, nat_lt, IsPermutation}
 use Rattle.std.proofs.lemmas.Bool.{cases_Bool, true_from_ne_false, not_from_false, not-true, both_ways}
 use Rattle.std.proofs.lemmas.List.Sums.{sum_by-cons, sum_by-append}

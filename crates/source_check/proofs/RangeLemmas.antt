@@ -1,11 +1,7 @@
 -- What the ranges of a set say of its sizes.
-use Rattle.std.proofs.Common.{◌≡◌, ◌≤◌, true, length, get_or, nat_le, lit≤, arith}
-use Rattle.std.specs.List.{list_all}
-use Rattle.std.proofs.lemmas.Bool.{and_parts, leb-true}
-use Rattle.slot_core.specs.declared.TheConstants.{GRAPH_LIMIT, TASK_LIMIT, SPORADIC_LIMIT}
-use Rattle.slot_core.specs.declared.tasks.Graph.{Graph}
+use Rattle.std.proofs.Common.{◌≡◌, true, get_or}
 use Rattle.slot_core.specs.declared.tasks.TaskSet.{TaskSet}
-use Rattle.slot_core.specs.Ranges.{is_between, is_in_range, graph_in_range, task_in_range, sporadic_in_range}
+use Rattle.slot_core.specs.Ranges.{is_in_range, graph_in_range}
 use Rattle.slot_core.proofs.RangeFacts.{SetRanges-from_test, few_graphs, few_tasks}
 use Rattle.graph_unroll.proofs.RangeLemmas.{list_all_get_or}
 use Rattle.source_check.specs.Verdicts.{AreFew}

@@ -1,10 +1,9 @@
 -- What a sound set says of its graphs and of the raw jobs of its first cycle.
-use Rattle.std.proofs.Common.{◌≡◌, ℕ, zero, suc, ◌+◌, ◌-◌, ◌*◌, ◌/◌, ◌<◌, ◌≤◌, Bool, true, ◌&&◌, List, [], ◌∷◌, ◌++◌, length, map, get_or, take, Some, refl, sym, ap, ◌∙◌, subst, inl, inr, arith}
-use Rattle.std.specs.Prelude.{slice_get, slice_index, All, nat_le}
-use Rattle.std.specs.List.{AllZip, list_all, range_with_len}
+use Rattle.std.proofs.Common.{◌≡◌, ℕ, zero, suc, ◌+◌, ◌-◌, ◌*◌, ◌/◌, ◌<◌, ◌≤◌, true, List, [], ◌∷◌, ◌++◌, length, map, get_or, take, Some, refl, sym, ap, ◌∙◌, subst, inl, inr, arith}
+use Rattle.std.specs.Prelude.{slice_get, slice_index, All}
+use Rattle.std.specs.List.{AllZip, range_with_len}
 use Rattle.std.specs.Option.{option_map_or}
-use Rattle.std.proofs.lemmas.Bool.{cases_lt, and_parts, leb-true}
-use Rattle.std.proofs.lemmas.Bool.Decides.{nat_tests}
+use Rattle.std.proofs.lemmas.Bool.{cases_lt}
 use Rattle.std.proofs.lemmas.List.{take_more}
 use Rattle.std.proofs.lemmas.Option.{slice_get-get_or, slice_get_past, slice_get_within}
 use Rattle.std.proofs.Math.Nat.{mul-le-mul_right}
@@ -18,7 +17,7 @@ use Rattle.slot_core.specs.declared.tasks.TaskSet.{TaskSet}
 use Rattle.slot_core.specs.Cycles.{cycle_of}
 use Rattle.slot_core.specs.OfflineJobs.{raw_jobs, derived_job, tasks_of, release_of, chain_before, chain_after}
 use Rattle.slot_core.specs.Precedence.{wcet_of, is_on_loop, longest_before, longest_after}
-use Rattle.slot_core.specs.Ranges.{is_sound, is_between, graph_in_range, task_in_range}
+use Rattle.slot_core.specs.Ranges.{is_sound}
 use Rattle.slot_core.proofs.ListMembers.{Has, Has-map, Contains-from_Has, Has-range_with_len_bounds}
 use Rattle.slot_core.proofs.DistinctKeys.{same_numbers}
 use Rattle.slot_core.proofs.ChainLemmas.{HasNoLoop}

@@ -1,5 +1,4 @@
-use Rattle.std.proofs.Common.{◌++◌, ◌∙◌, ◌<◌, sym, refl, ap, get_or, sum_by, subst, drop, ◌+◌, not, arith}
-use Rattle.std.proofs.lemmas.Bool.{cond-true}
+use Rattle.std.proofs.Common.{◌++◌, ◌∙◌, ◌<◌, sym, refl, ap, get_or, sum_by, subst, drop, ◌+◌, arith}
 use Rattle.std.proofs.lemmas.List.Elements.{recursion_from_All}
 use Rattle.slot_core.specs.declared.jobs.Job.{Job}
 use Rattle.slot_core.specs.Plans.{AreInDeadlineOrder}

@@ -1,5 +1,5 @@
 -- The order so far, one task more, and whole.
-use Rattle.std.proofs.Common.{◌≡◌, ◌+◌, ◌<◌, ◌≤◌, true, false, not, cond, [], ◌∷◌, ◌++◌, replicate, length, length-set, refl, sym, ap, ◌∙◌, rules, arith}
+use Rattle.std.proofs.Common.{◌≡◌, ◌+◌, ◌<◌, ◌≤◌, true, false, [], ◌∷◌, ◌++◌, replicate, length, length-set, refl, sym, ap, ◌∙◌, rules, arith}
 use Rattle.std.proofs.lemmas.List.{length_push}
 use Rattle.std.specs.Prelude.{is_some}
 use Rattle.window_derive.specs.Orders.{is_listed}

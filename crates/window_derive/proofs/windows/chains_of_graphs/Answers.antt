@@ -1,5 +1,4 @@
 -- The chains of one graph more.
-use Rattle.std.proofs.Common.{◌≡◌, ◌∷◌, ◌++◌, [], not, cond, ap, ◌∙◌}
 use Rattle.window_derive.proofs.SoundSets.{AreChainsOfGraphs-more}
 use Rattle.window_derive.proofs.windows.chains_of_graphs.Goals as goal
 
