@@ -37,6 +37,9 @@ pub use status::Status;
 use std::alloc::Global;
 use work::work;
 
+/// The line of want of memory.
+pub const OUT_OF_MEMORY: &[u8] = b"out of memory\n";
+
 /// Most slots of a replay.
 pub const REPLAY_LIMIT: u32 = 100_000;
 

@@ -9,15 +9,13 @@ ghost use Rattle.slot_io.specs.Sinks.{AppendsPart};
 ghost use Rattle.slot_cli.specs.Outcomes.{reason_of, fault_line, has_fixed_line};
 ghost use Rattle.slot_cli.specs.Runs.{IsReported};
 
+use crate::OUT_OF_MEMORY;
 use crate::append::{push, push_window, push_worded};
 use crate::faults::push_task_fault;
 use crate::outcome::Outcome;
 use slot_core::{Memory, TaskFault, Words};
 use slot_io::Sink;
 use std::alloc::Global;
-
-/// The line of want of memory.
-const OUT_OF_MEMORY: &[u8] = b"out of memory\n";
 
 /// Puts the line of the outcome on `err`, in one put, and answers how the run ends: as it did, or with
 /// Memory where there is none for the line. A failing put changes nothing of it.

@@ -1,14 +1,19 @@
 -- Lists that have the same items in any order, by the sums over them.
-use Rattle.std.proofs.Common.{◌≡◌, ℕ, ◌+◌, ◌-◌, ◌≤◌, Bool, true, cond, not, List, [], ◌∷◌, ◌++◌, map, filter, refl, sym, ap, ◌∙◌, inl, inr, arith}
+use Rattle.std.proofs.Common.{◌≡◌, ℕ, ◌+◌, ◌-◌, ◌≤◌, ◌↔◌, Bool, true, cond, not, ◌==◌, List, [], ◌∷◌, ◌++◌, map, filter, drop, nat_cmp, is_eq, refl, sym, ap, subst, ◌∙◌, inl, inr, arith}
 use Rattle.std.specs.Prelude.{sum_by, nat_lt, IsPermutation}
-use Rattle.std.proofs.lemmas.Bool.{cases_Bool, true_from_ne_false, not_from_false, not-true, both_ways}
+use Rattle.std.specs.Cmp.{Equal-is}
+use Rattle.std.specs.Cmp.Lexicographic.{slice_cmp}
+use Rattle.std.proofs.lemmas.Bool.{cases_Bool, true_from_ne_false, not_from_false, not-true, both_ways, eq-eqb, eqb-true}
+use Rattle.std.proofs.lemmas.Cmp.{nat_list_cmp_total, tied_itself}
+use Rattle.std.proofs.lemmas.Map.Lookups.{exact_bytes}
 use Rattle.std.proofs.lemmas.List.Sums.{sum_by-cons, sum_by-append}
-use Rattle.std.proofs.lemmas.List.Sorted.{sum_by-IsPermutation}
+use Rattle.std.proofs.lemmas.List.Sorted.{sum_by-IsPermutation, IsPermutation-refl, IsPermutation-sym, IsPermutation-trans, IsPermutation-cons, IsPermutation-middle}
 use Rattle.slot_core.specs.declared.jobs.Key.{Key}
 use Rattle.slot_core.specs.declared.jobs.Job.{Job}
-use Rattle.slot_core.specs.Keys.{same_key}
+use Rattle.slot_core.specs.Keys.{key_order, same_key}
 use Rattle.slot_core.specs.Steps.{after_run}
 use Rattle.slot_core.specs.Matches.{HaveSameItems}
+use Rattle.slot_core.proofs.ChoiceLemmas.{same_from_order}
 use Rattle.slot_core.proofs.ListMembers.{Has}
 use Rattle.slot_core.proofs.SumLemmas.{sum_by-map, sum_by-filter}
 
@@ -71,3 +76,61 @@ all-same p xs ys same each x at =
     true_from_ne_false (p x) λ fails.
     let m = passes-same (λ y. not (p y)) ys xs x (same-sym xs ys same) at (not_from_false (p x) fails) in
     both_ways (p m.0) (not-true (p m.0) m.2) (each m.0 m.1)
+
+-- the two parts of a list around a member
+around : {X : Type 0} (xs : List X) (x : X) → Has xs x → (us vs : List X) × (xs ≡ us ++ x ∷ vs)
+around [] x at = absurd at
+around (y ∷ xs) x (inl e) = ([], xs, ap (λ z. z ∷ xs) e)
+around (y ∷ xs) x (inr at) =
+    let r = around xs x at in
+    (y ∷ r.0, r.1, ap (λ zs. y ∷ zs) r.2)
+
+-- without an item in both
+same-without : {X : Type 0} (x : X) (xs us vs : List X) → HaveSameItems (x ∷ xs) (us ++ x ∷ vs) → HaveSameItems xs (us ++ vs)
+same-without x xs us vs same f =
+    omega (arith, same f, sum_by-cons f x xs, sum_by-append f us (x ∷ vs), sum_by-cons f x vs, sum_by-append f us vs)
+
+none_left : {X : Type 0} (ys : List X) → HaveSameItems [] ys → ys ≡ []
+none_left [] same = refl
+none_left (y ∷ ys) same = absurd (omega (arith, same (λ z. 1), sum_by-cons (λ z. 1) y ys))
+
+-- where a test tells items apart, lists with the same items are permutations of each other
+permutation-from_same : {X : Type 0} (eq : X → X → Bool) → ((x : X) → eq x x ≡ true) → ((x y : X) → eq x y ≡ true → x ≡ y) → (xs ys : List X) → HaveSameItems xs ys → IsPermutation xs ys
+permutation-from_same eq itself exact [] ys same = subst (IsPermutation []) (sym (none_left ys same)) (IsPermutation-refl [])
+permutation-from_same eq itself exact (x ∷ xs) ys same =
+    let twin = passes-same (eq x) (x ∷ xs) ys x same (inl refl) (itself x) in
+    let parts = around ys x (subst (Has ys) (sym (exact x twin.0 twin.2)) twin.1) in
+    let us = parts.0 in
+    let vs = parts.1 in
+    let rest = permutation-from_same eq itself exact xs (us ++ vs) (same-without x xs us vs (subst (HaveSameItems (x ∷ xs)) parts.2 same)) in
+    let moved = IsPermutation-trans (x ∷ xs) (x ∷ (us ++ vs)) (us ++ x ∷ vs) (IsPermutation-cons x xs (us ++ vs) rest) (IsPermutation-sym (us ++ x ∷ vs) (x ∷ (us ++ vs)) (IsPermutation-middle us x vs)) in
+    subst (IsPermutation (x ∷ xs)) (sym parts.2) moved
+
+-- so it is for numbers and for jobs: 'the same items' and 'a permutation' are one
+pub numbers-same_items : (xs ys : List ℕ) → HaveSameItems xs ys ↔ IsPermutation xs ys
+numbers-same_items xs ys =
+    (permutation-from_same (λ a b. a == b) (λ a. eq-eqb a a refl) (λ a b e. eqb-true a b e) xs ys, same-from_permutation xs ys)
+
+abbrev job_numbers : Job → List ℕ
+job_numbers job = job.est ∷ job.dl ∷ job.left ∷ job.declared ∷ key_order job.key
+
+same_job : (a b : Job) → job_numbers a ≡ job_numbers b → a ≡ b
+same_job a b e =
+    let key = same_from_order a.key b.key (ap (drop 4) e) in
+    let est : a.est ≡ b.est = cc in
+    let dl : a.dl ≡ b.dl = cc in
+    let left : a.left ≡ b.left = cc in
+    let declared : a.declared ≡ b.declared = cc in
+    λ i. record { key = key i; est = est i; dl = dl i; left = left i; declared = declared i }
+
+pub jobs-same_items : (xs ys : List Job) → HaveSameItems xs ys ↔ IsPermutation xs ys
+jobs-same_items xs ys =
+    let eq = λ (a b : Job). is_eq (slice_cmp nat_cmp (job_numbers a) (job_numbers b)) in (
+      permutation-from_same
+      eq
+      (λ a. ap is_eq (tied_itself nat_list_cmp_total (job_numbers a)))
+      (λ a b e. same_job a b (exact_bytes (job_numbers a) (job_numbers b) ((Equal-is (slice_cmp nat_cmp (job_numbers a) (job_numbers b))).0 e)))
+      xs
+      ys,
+      same-from_permutation xs ys,
+    )

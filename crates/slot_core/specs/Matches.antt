@@ -5,7 +5,8 @@ use Rattle.slot_core.specs.Histories.{History, last_row}
 use Rattle.slot_core.specs.Scenes.{Scene, scene_of}
 use Rattle.slot_core.specs.Traces.{IsLegal}
 
--- the same items in any order: every sum over the one list is that over the other
+-- the same items in any order: every sum over the one list is that over the other (for numbers and for jobs this is
+-- the same as a permutation, as proofs/SameItems shows)
 abbrev pub HaveSameItems : {X : Type 0} → List X → List X → Type 0
 HaveSameItems {X} xs ys = (f : X → ℕ) → sum_by f xs ≡ sum_by f ys
 
