@@ -27,10 +27,7 @@ pub fn command_of(words: &Words) -> Option<Command>
         return Some(Command::Check);
     }
     if words.len() == 4 && words.word(0) == "replay" {
-        return match number_of(REPLAY_LIMIT, words.word(3)) {
-            Some(slots) => Some(Command::Replay(slots)),
-            None => None,
-        };
+        return number_of(REPLAY_LIMIT, words.word(3)).map(Command::Replay);
     }
     None
 }
@@ -53,10 +50,7 @@ fn value_of(word: &str) -> u32
     requires { is_number word.now ≡ true }
     ensures { result ≡ digits_value 10 word.now }
 {
-    match word.parse::<u32>() {
-        Ok(value) => value,
-        Err(_) => unreachable!(),
-    }
+    word.parse::<u32>().unwrap()
 }
 
 /// Whether the bytes are 1 to 6 digits, the first not 0.

@@ -127,10 +127,10 @@ pub jobs-same_items : (xs ys : List Job) → HaveSameItems xs ys ↔ IsPermutati
 jobs-same_items xs ys =
     let eq = λ (a b : Job). is_eq (slice_cmp nat_cmp (job_numbers a) (job_numbers b)) in (
       permutation-from_same
-      eq
-      (λ a. ap is_eq (tied_itself nat_list_cmp_total (job_numbers a)))
-      (λ a b e. same_job a b (exact_bytes (job_numbers a) (job_numbers b) ((Equal-is (slice_cmp nat_cmp (job_numbers a) (job_numbers b))).0 e)))
-      xs
-      ys,
+          eq
+          (λ a. ap is_eq (tied_itself nat_list_cmp_total (job_numbers a)))
+          (λ a b e. same_job a b (exact_bytes (job_numbers a) (job_numbers b) ((Equal-is (slice_cmp nat_cmp (job_numbers a) (job_numbers b))).0 e)))
+          xs
+          ys,
       same-from_permutation xs ys,
     )
