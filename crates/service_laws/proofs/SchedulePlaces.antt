@@ -11,6 +11,7 @@ use Rattle.slot_core.specs.declared.events.What.TheVariants.{Run, Idle}
 use Rattle.slot_core.specs.Keys.{same_key}
 use Rattle.slot_core.specs.Histories.{History, time_of, executed}
 use Rattle.slot_core.specs.Schedules.{holds}
+use Rattle.slot_core.proofs.ListTests.{slice_get-push}
 use Rattle.slot_core.proofs.ListMembers.{Has-from_slice_get}
 use Rattle.slot_core.proofs.ChoiceLemmas.{same_from_key}
 use Rattle.slot_core.proofs.DistinctKeys.{IsApart}
@@ -97,9 +98,6 @@ count_by-places_of jobs n job (Idle ∷ h) apart at =
 count_by-places_of jobs n job (_ ∷ h) apart at = count_by-places_of jobs n job h apart at
 
 -- a place of a longer list is one of the first list or the last one
-pub slice_get-push : (xs : List (Option ℕ)) (y : Option ℕ) (u n : ℕ) → slice_get (xs ++ y ∷ []) u ≡ Some (Some n) → (slice_get xs u ≡ Some (Some n)) ⊎ ((length xs ≡ u) × (y ≡ Some n))
-slice_get-push [] y zero n at = inr (refl, cc)
-slice_get-push [] y (suc u) n at = absurd (cc at)
-slice_get-push (x ∷ xs) y zero n at = inl at
-slice_get-push (x ∷ xs) y (suc u) n at =
-    elim (slice_get-push xs y u n at) [ inl a ↦ inl a | inr b ↦ inr (ap suc b.0, b.1) ]
+pub place-push : (xs : List (Option ℕ)) (y : Option ℕ) (u n : ℕ) → slice_get (xs ++ y ∷ []) u ≡ Some (Some n) → (slice_get xs u ≡ Some (Some n)) ⊎ ((length xs ≡ u) × (y ≡ Some n))
+place-push xs y u n at =
+    elim (slice_get-push xs y (Some n) u at) [ inl low ↦ inl low.1 | inr last ↦ inr (sym last.0, sym last.1) ]

@@ -27,7 +27,7 @@ use Rattle.slot_core.proofs.OfflineJobLemmas.{cycle-positive}
 use Rattle.service_laws.specs.Verdicts.{FitsMeansASchedule}
 use Rattle.slot_core.proofs.DistinctKeys.{offline_jobs-apart}
 use Rattle.slot_core.proofs.OfflineWindows.{IsOfCycle-from_offline}
-use Rattle.service_laws.proofs.SchedulePlaces.{number_of, places_of, length-places_of, keyed-from_number, count_by-places_of, slice_get-push}
+use Rattle.service_laws.proofs.SchedulePlaces.{number_of, places_of, length-places_of, keyed-from_number, count_by-places_of, place-push}
 use Rattle.slot_core.proofs.KeptHistories.{IsKept, IsAlwaysKept, due_now, time_of-ran, kept-after_slots, kept-at_start}
 use Rattle.slot_core.proofs.ServingHistories.{IsPlanned, MayRun, IsServing, empty, start, end, idle, run, IsQuiet-from_serving, at_most_declared}
 
@@ -37,12 +37,12 @@ in_window jobs empty u n job planned own at = absurd (cc at)
 in_window jobs (start s) u n job planned own at = in_window jobs s u n job planned own at
 in_window jobs (end s) u n job planned own at = in_window jobs s u n job planned own at
 in_window jobs (idle {h = h} s) u n job planned own at =
-    elim (slice_get-push (places_of jobs h) None u n at) [
+    elim (place-push (places_of jobs h) None u n at) [
       | inl before ↦ in_window jobs s u n job planned own before
       | inr last ↦ absurd (cc last.1)
     ]
 in_window jobs (run {h = h} {key = key} may s) u n job planned own at =
-    elim (slice_get-push (places_of jobs h) (number_of jobs key) u n at) [
+    elim (place-push (places_of jobs h) (number_of jobs key) u n at) [
       | inl before ↦ in_window jobs s u n job planned own before
       | inr last ↦
           let same = keyed-from_number jobs n job key last.1 own in
@@ -64,7 +64,7 @@ record IsStep (set : TaskSet) (cycles : ℕ) (jobs : List Job) (before after : J
 -- where a job stands in a place up to a run, its predecessors have ended at that run
 ended_at_run : {set : TaskSet} {cycles : ℕ} {h : History} {key : Key} (jobs : List Job) → MayRun set cycles h key → (v n : ℕ) (before after : Job) → IsStep set cycles jobs before after n → (slice_get (places_of jobs h) v ≡ Some (Some n) → has_ended h before ≡ true) → slice_get (places_of jobs (Run key ∷ h)) v ≡ Some (Some n) → has_ended h before ≡ true
 ended_at_run {h = h} {key = key} jobs may v n before after step earlier at =
-    elim (slice_get-push (places_of jobs h) (number_of jobs key) v n at) [
+    elim (place-push (places_of jobs h) (number_of jobs key) v n at) [
       | inl low ↦ earlier low
       | inr last ↦
           may.ordered before after step.first step.second (keyed-from_number jobs n after key last.1 step.own) step.listed
@@ -76,7 +76,7 @@ ended_before jobs empty v n before after step at = absurd (cc at)
 ended_before jobs (start s) v n before after step at = ended_before jobs s v n before after step at
 ended_before jobs (end s) v n before after step at = ended_before jobs s v n before after step at
 ended_before jobs (idle {h = h} s) v n before after step at =
-    elim (slice_get-push (places_of jobs h) None v n at) [
+    elim (place-push (places_of jobs h) None v n at) [
       | inl low ↦ ended_before jobs s v n before after step low
       | inr last ↦ absurd (cc last.1)
     ]
@@ -96,16 +96,16 @@ ordered_places jobs (start s) u v m n before after step own at_u at_v =
 ordered_places jobs (end s) u v m n before after step own at_u at_v =
     ordered_places jobs s u v m n before after step own at_u at_v
 ordered_places jobs (idle {h = h} s) u v m n before after step own at_u at_v =
-    elim (slice_get-push (places_of jobs h) None u m at_u) [
-      | inl low ↦ elim (slice_get-push (places_of jobs h) None v n at_v) [
+    elim (place-push (places_of jobs h) None u m at_u) [
+      | inl low ↦ elim (place-push (places_of jobs h) None v n at_v) [
         | inl late ↦ ordered_places jobs s u v m n before after step own low late
         | inr last ↦ absurd (cc last.1)
       ]
       | inr last ↦ absurd (cc last.1)
     ]
 ordered_places jobs (run {h = h} {key = key} may s) u v m n before after step own at_u at_v =
-    elim (slice_get-push (places_of jobs h) (number_of jobs key) u m at_u) [
-      | inl low ↦ elim (slice_get-push (places_of jobs h) (number_of jobs key) v n at_v) [
+    elim (place-push (places_of jobs h) (number_of jobs key) u m at_u) [
+      | inl low ↦ elim (place-push (places_of jobs h) (number_of jobs key) v n at_v) [
         | inl late ↦ ordered_places jobs s u v m n before after step own low late
         | inr last ↦ omega (arith, slice_get_within (places_of jobs h) u (Some m) low, last.0)
       ]

@@ -107,13 +107,13 @@ IsHostFault command _ = ⊥
 
 -- the outcome of the command is the one that is due, or want of memory, or a fault of the host at a place of the
 -- work that is reached: no later than that of the outcome that is due
-abbrev pub Answers : Option Command → Outcome → Outcome → Type 0
-Answers command due outcome =
+abbrev pub IsAnswerTo : Option Command → Outcome → Outcome → Type 0
+IsAnswerTo command due outcome =
     (outcome ≡ due) ⊎ ((outcome ≡ Memory) ⊎ (IsHostFault command outcome × (place_of outcome ≤ place_of due)))
 
 -- the outcome is the expected one, or one of those
 abbrev pub IsAnswer : Held → List (List ℕ) → Outcome → Type 0
-IsAnswer held words outcome = Answers (command_of words) (outcome_of (expected held words)) outcome
+IsAnswer held words outcome = IsAnswerTo (command_of words) (outcome_of (expected held words)) outcome
 
 -- the line of the outcome is written to standard error, or a part of it where a fault is counted there
 abbrev pub IsReported : List (List ℕ) → Outcome → Option (List ℕ) → Option (List ℕ) → ℕ → ℕ → Type 0

@@ -9,7 +9,7 @@ use Rattle.slot_cli.specs.declared.outcome.File.{File}
 use Rattle.slot_cli.specs.declared.outcome.Outcome.{Outcome}
 use Rattle.slot_cli.specs.declared.outcome.Outcome.TheVariants.{Done, Unreadable, WriteFault, Memory}
 use Rattle.slot_cli.specs.Outcomes.{name_of}
-use Rattle.slot_cli.specs.Runs.{Stage, outcome_of, Answers, IsWritten}
+use Rattle.slot_cli.specs.Runs.{Stage, outcome_of, IsAnswerTo, IsWritten}
 
 -- a step ends the run, where this is due of it: with want of memory, a fault of the host, or the outcome that is due
 abbrev pub IsRefusal : {X : Type 0} → (Outcome → Type 0) → Stage X → Outcome → Type 0
@@ -38,7 +38,7 @@ IsWriting text _ before after faults_before faults_after = ⊥
 -- how the work of a command ends, where this text is due: as is due, with want of memory, or with a fault of the
 -- host at a place that is reached; and what is written
 pub record Ends (command : Option Command) (due : Stage (List ℕ)) (outcome : Outcome) (before after : Option (List ℕ)) : Type 0 where
-  pub answers : Answers command (outcome_of due) outcome
+  pub answers : IsAnswerTo command (outcome_of due) outcome
   pub written : (text : List ℕ) → due ≡ Ok text → IsWritten outcome text before after
 
 -- the line of a check, by its numbers
