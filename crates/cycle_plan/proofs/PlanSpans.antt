@@ -69,7 +69,7 @@ is_end_of set jobs = is_point (cycle_of set) (plan_points (cycle_of set) jobs) [
 abbrev pub ends_of : TaskSet → List Job → List ℕ
 ends_of set jobs = filter (is_end_of set jobs) (range_with_len 1 (cycle_of set))
 
--- the jobs lie in the cycle, so that the these points do
+-- the jobs lie in the cycle, so that the points do too
 pub in_cycle-from_first : (set : TaskSet) (jobs : List Job) → AreFirstJobs set jobs → AreInCycle (cycle_of set) jobs
 in_cycle-from_first set jobs these j listed =
     let first = cycle_jobs set (cycle_of set) 0 in

@@ -40,7 +40,7 @@ pub fn total(tasks: &TaskSet, cycle: u32) -> u64
 }
 
 /// Tries every window that starts in the first cycle and ends in the first two. The jobs are those of one
-/// cycle, whose demand as a whole fits it. Memory is also the answer where 64 bits do not hold the slots that
+/// cycle, whose demand as a whole fits it. Memory is also the answer where 63 bits do not hold the slots that
 /// the arrivals of two cycles need, which no sound task set has.
 pub fn test(
     alloc: Global,

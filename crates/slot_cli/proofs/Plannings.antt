@@ -1,6 +1,7 @@
 -- What the steps up to the plan give.
 use Rattle.std.proofs.Common.{◌≡◌, ℕ, ◌<◌, List, length, Option, Some, None, Ok, refl, sym, ap, subst, ◌∙◌, arith}
 use Rattle.std.proofs.lemmas.List.Sorted.{length_permutation}
+use Rattle.slot_core.specs.Reports.{check_line, counts_line}
 use Rattle.slot_core.specs.declared.jobs.Job.{Job}
 use Rattle.slot_core.specs.declared.jobs.Span.{Span}
 use Rattle.slot_core.specs.declared.jobs.Window.{Window}
@@ -9,10 +10,8 @@ use Rattle.slot_core.specs.Cycles.{cycle_of}
 use Rattle.slot_core.specs.Feasible.{IsFeasible, counterexample}
 use Rattle.slot_core.specs.OfflineJobs.{cycle_jobs}
 use Rattle.slot_core.specs.Plans.{PlanParts, IsPlan, plan_spans}
-use Rattle.slot_core.specs.Reports.{check_line}
 use Rattle.slot_core.proofs.OfflineJobLemmas.{cycle-positive}
 use Rattle.slot_core.proofs.FeasibleLemmas.{counterexample-fails}
-use Rattle.slot_cli.specs.Works.{counts_line}
 use Rattle.slot_cli.specs.Runs.{feasible_set}
 
 -- a feasible set has no counterexample

@@ -1,7 +1,6 @@
 -- What the steps of the work answer.
-use Rattle.std.specs.Prelude.{◌≡◌, ◌≢◌, ℕ, ◌⊎◌, List, [], ◌∷◌, ◌++◌, codes, Option, Some, Ok, Err}
+use Rattle.std.specs.Prelude.{◌≡◌, ◌≢◌, ℕ, ◌⊎◌, List, Option, Some, Ok, Err}
 use Rattle.std.specs.Io.KnownBytes.{Appends}
-use Rattle.slot_core.specs.Texts.{worded}
 use Rattle.slot_io.specs.Faults.{Rose}
 use Rattle.slot_io.specs.Sinks.{AppendsPart}
 use Rattle.slot_cli.specs.declared.command.Command.{Command}
@@ -40,8 +39,3 @@ IsWriting text _ before after faults_before faults_after = ⊥
 pub record Ends (command : Option Command) (due : Stage (List ℕ)) (outcome : Outcome) (before after : Option (List ℕ)) : Type 0 where
   pub answers : IsAnswerTo command (outcome_of due) outcome
   pub written : (text : List ℕ) → due ≡ Ok text → IsWritten outcome text before after
-
--- the line of a check, by its numbers
-abbrev pub counts_line : ℕ → ℕ → ℕ → List ℕ
-counts_line cycle jobs spans =
-    worded (codes "feasible cycle") cycle ++ worded (codes " jobs") jobs ++ worded (codes " spans") spans ++ 10 ∷ []

@@ -2,7 +2,7 @@
 
 ghost use Rattle.std.specs.Prelude.{◌≡◌, ◌≢◌, ◌≤◌, ◌↔◌, [], true, None, Some, IfOk};
 ghost use Rattle.slot_core.specs.Ranges.{is_sound};
-ghost use Rattle.slot_core.specs.Reports.{check_line};
+ghost use Rattle.slot_core.specs.Reports.{check_line, counts_line};
 ghost use Rattle.slot_core.specs.Texts.{trace_text};
 ghost use Rattle.slot_core.specs.Traces.{trace};
 ghost use Rattle.slot_io.specs.Faults.{Rose};
@@ -12,7 +12,7 @@ ghost use Rattle.slot_cli.specs.declared.outcome.File.{File};
 ghost use Rattle.slot_cli.specs.Commands.{command_of};
 ghost use Rattle.slot_cli.specs.Outcomes.{is_refusal};
 ghost use Rattle.slot_cli.specs.Runs.{text_of, expected, Reads};
-ghost use Rattle.slot_cli.specs.Works.{IsBlamed, IsUnreadableOnly, IsWriting, Ends, counts_line};
+ghost use Rattle.slot_cli.specs.Works.{IsBlamed, IsUnreadableOnly, IsWriting, Ends};
 
 use crate::REPLAY_LIMIT;
 use crate::append::{push, push_worded};

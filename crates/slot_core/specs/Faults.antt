@@ -2,8 +2,7 @@
 use Rattle.std.specs.Prelude.{ℕ, ◌+◌, ◌==◌, Bool, List, [], ◌∷◌, length, find, map, Option, Some, None, option_map, nat_le, if◌then◌else◌}
 use Rattle.std.specs.Option.{option_or}
 use Rattle.std.specs.List.{list_any, range_with_len}
-use Rattle.std.specs.Ordering.{nat_cmp, is_eq}
-use Rattle.std.specs.Cmp.Lexicographic.{slice_cmp}
+use Rattle.std.specs.Str.{bytes_eq}
 use Rattle.slot_core.specs.declared.TheConstants.{SLOT_LIMIT}
 use Rattle.slot_core.specs.declared.tasks.Task.{Task}
 use Rattle.slot_core.specs.declared.tasks.Graph.{Graph}
@@ -17,10 +16,6 @@ use Rattle.slot_core.specs.declared.faults.TaskFault.{TaskFault}
 use Rattle.slot_core.specs.declared.faults.TaskFault.TheVariants.{Doubled, NoSuchTask, Loop, CycleTooLong}
 use Rattle.slot_core.specs.Precedence.{is_on_loop}
 use Rattle.slot_core.specs.Cycles.{cycle_lengths, first_multiple_above}
-
--- the two names have the same bytes
-abbrev pub same_name : List ℕ → List ℕ → Bool
-same_name a b = is_eq (slice_cmp nat_cmp a b)
 
 -- the fault, where the test holds
 abbrev pub fault_if : Bool → TaskFault → Option TaskFault
@@ -36,7 +31,7 @@ abbrev pub names_fault : (ℕ → Part) → List (List ℕ) → ℕ → List (Li
 names_fault part earlier n [] = None
 names_fault part earlier n (name ∷ names) =
     option_or
-    (fault_if (list_any (same_name name) earlier) (Doubled (record { part = part n; field = Name })))
+    (fault_if (list_any (bytes_eq name) earlier) (Doubled (record { part = part n; field = Name })))
     (names_fault part (name ∷ earlier) (n + 1) names)
 
 -- each graph's own name against those of earlier graphs, then the names of its tasks
@@ -44,7 +39,7 @@ abbrev pub graph_names_fault : List (List ℕ) → ℕ → List Graph → Option
 graph_names_fault earlier g [] = None
 graph_names_fault earlier g (graph ∷ graphs) =
     option_or
-    (fault_if (list_any (same_name graph.name) earlier) (Doubled (record { part = GraphPart g; field = Name })))
+    (fault_if (list_any (bytes_eq graph.name) earlier) (Doubled (record { part = GraphPart g; field = Name })))
     (option_or
     (names_fault (TaskPart g) [] 0 (map (λ (t : Task). t.name) graph.tasks))
     (graph_names_fault (graph.name ∷ earlier) (g + 1) graphs))

@@ -6,8 +6,13 @@ use Rattle.slot_core.specs.OfflineJobs.{cycle_jobs}
 use Rattle.slot_core.specs.Plans.{plan_spans}
 use Rattle.slot_core.specs.Texts.{worded}
 
--- the numbers of a plan: its cycle, the jobs and the spans of one cycle
+-- the line of a check, by its numbers: the cycle, the jobs and the spans of one cycle
+abbrev pub counts_line : ℕ → ℕ → ℕ → List ℕ
+counts_line cycle jobs spans =
+    worded (codes "feasible cycle") cycle ++ worded (codes " jobs") jobs ++ worded (codes " spans") spans ++ 10 ∷ []
+
+-- the line of the check of a set, with the numbers of its plan
 abbrev pub check_line : TaskSet → List ℕ
 check_line set =
     let cycle = cycle_of set in
-    worded (codes "feasible cycle") cycle ++ worded (codes " jobs") (length (cycle_jobs set cycle 0)) ++ worded (codes " spans") (length (plan_spans set cycle)) ++ 10 ∷ []
+    counts_line cycle (length (cycle_jobs set cycle 0)) (length (plan_spans set cycle))

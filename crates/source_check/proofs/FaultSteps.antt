@@ -13,7 +13,8 @@ use Rattle.slot_core.specs.declared.faults.Field.TheVariants.{Name, After}
 use Rattle.slot_core.specs.declared.faults.Place.{Place}
 use Rattle.slot_core.specs.declared.faults.TaskFault.{TaskFault}
 use Rattle.slot_core.specs.declared.faults.TaskFault.TheVariants.{Doubled, NoSuchTask}
-use Rattle.slot_core.specs.Faults.{same_name, fault_if, first_fault, names_fault, graph_names_fault, entries_fault}
+use Rattle.std.specs.Str.{bytes_eq}
+use Rattle.slot_core.specs.Faults.{fault_if, first_fault, names_fault, graph_names_fault, entries_fault}
 
 -- the items before a place, newest first
 abbrev pub earlier : {X : Type 0} → List X → ℕ → List X
@@ -68,11 +69,11 @@ list_any-map p f (x ∷ xs) = ap (λ b. p (f x) || b) (list_any-map p f xs)
 any_image : {X Y : Type 0} (p : Y → Bool) (f : X → Y) (xs : List X) (i : ℕ) → list_any p (earlier (map f xs) i) ≡ list_any (λ x. p (f x)) (take i xs)
 any_image p f xs i = any_earlier p (map f xs) i ∙ ap (list_any p) (take-map f i xs) ∙ list_any-map p f (take i xs)
 
-pub names_step : {X : Type 0} (part : ℕ → Part) (name : X → List ℕ) (xs : List X) (i : ℕ) (x : X) → i < length xs → x ≡ get_or xs i x → names_from part name xs i ≡ option_or (fault_if (list_any (λ y. same_name (name x) (name y)) (take i xs)) (doubled_name (part i))) (names_from part name xs (i + 1))
+pub names_step : {X : Type 0} (part : ℕ → Part) (name : X → List ℕ) (xs : List X) (i : ℕ) (x : X) → i < length xs → x ≡ get_or xs i x → names_from part name xs i ≡ option_or (fault_if (list_any (λ y. bytes_eq (name x) (name y)) (take i xs)) (doubled_name (part i))) (names_from part name xs (i + 1))
 names_step part name xs i x within is =
     let before = earlier (map name xs) i in
     let rest = drop (i + 1) xs in
-    at_drop_more (λ ys. names_fault part before i (map name ys)) xs i x within ∙ ap (λ y. names_fault part before i (map name (y ∷ rest))) (sym is) ∙ ap (λ test. option_or (fault_if test (doubled_name (part i))) (names_fault part (name x ∷ before) (i + 1) (map name rest))) (any_image (same_name (name x)) name xs i) ∙ ap (λ names. option_or (fault_if (list_any (λ y. same_name (name x) (name y)) (take i xs)) (doubled_name (part i))) (names_fault part names (i + 1) (map name rest))) (sym (images_more name xs i x within is))
+    at_drop_more (λ ys. names_fault part before i (map name ys)) xs i x within ∙ ap (λ y. names_fault part before i (map name (y ∷ rest))) (sym is) ∙ ap (λ test. option_or (fault_if test (doubled_name (part i))) (names_fault part (name x ∷ before) (i + 1) (map name rest))) (any_image (bytes_eq (name x)) name xs i) ∙ ap (λ names. option_or (fault_if (list_any (λ y. bytes_eq (name x) (name y)) (take i xs)) (doubled_name (part i))) (names_fault part names (i + 1) (map name rest))) (sym (images_more name xs i x within is))
 
 -- the first doubled name of a graph or of a task of a graph, from graph i on
 abbrev pub name_of : Graph → List ℕ
@@ -84,11 +85,11 @@ task_names_fault g tasks = names_fault (TaskPart g) [] 0 (map (λ (t : Task). t.
 abbrev pub graph_names_from : List Graph → ℕ → Option TaskFault
 graph_names_from graphs i = graph_names_fault (earlier (map name_of graphs) i) i (drop i graphs)
 
-pub graph_names_step : (graphs : List Graph) (i : ℕ) (graph : Graph) → i < length graphs → graph ≡ get_or graphs i graph → graph_names_from graphs i ≡ option_or (fault_if (list_any (λ g. same_name graph.name (name_of g)) (take i graphs)) (doubled_name (GraphPart i))) (option_or (task_names_fault i graph.tasks) (graph_names_from graphs (i + 1)))
+pub graph_names_step : (graphs : List Graph) (i : ℕ) (graph : Graph) → i < length graphs → graph ≡ get_or graphs i graph → graph_names_from graphs i ≡ option_or (fault_if (list_any (λ g. bytes_eq graph.name (name_of g)) (take i graphs)) (doubled_name (GraphPart i))) (option_or (task_names_fault i graph.tasks) (graph_names_from graphs (i + 1)))
 graph_names_step graphs i graph within is =
     let before = earlier (map name_of graphs) i in
     let rest = drop (i + 1) graphs in
-    at_drop_more (graph_names_fault before i) graphs i graph within ∙ ap (λ g. graph_names_fault before i (g ∷ rest)) (sym is) ∙ ap (λ test. option_or (fault_if test (doubled_name (GraphPart i))) (option_or (task_names_fault i graph.tasks) (graph_names_fault (graph.name ∷ before) (i + 1) rest))) (any_image (same_name graph.name) name_of graphs i) ∙ ap (λ names. option_or (fault_if (list_any (λ g. same_name graph.name (name_of g)) (take i graphs)) (doubled_name (GraphPart i))) (option_or (task_names_fault i graph.tasks) (graph_names_fault names (i + 1) rest))) (sym (images_more name_of graphs i graph within is))
+    at_drop_more (graph_names_fault before i) graphs i graph within ∙ ap (λ g. graph_names_fault before i (g ∷ rest)) (sym is) ∙ ap (λ test. option_or (fault_if test (doubled_name (GraphPart i))) (option_or (task_names_fault i graph.tasks) (graph_names_fault (graph.name ∷ before) (i + 1) rest))) (any_image (bytes_eq graph.name) name_of graphs i) ∙ ap (λ names. option_or (fault_if (list_any (λ g. bytes_eq graph.name (name_of g)) (take i graphs)) (doubled_name (GraphPart i))) (option_or (task_names_fault i graph.tasks) (graph_names_fault names (i + 1) rest))) (sym (images_more name_of graphs i graph within is))
 
 -- the first wrong entry from place i on
 abbrev pub entries_from : Place → ℕ → List ℕ → ℕ → Option TaskFault

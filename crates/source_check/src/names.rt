@@ -2,7 +2,8 @@
 
 ghost use Rattle.std.specs.Prelude.{◌≡◌, ◌≤◌, [], length, map};
 ghost use Rattle.std.specs.List.{list_any};
-ghost use Rattle.slot_core.specs.Faults.{graph_names_fault, names_fault, same_name};
+ghost use Rattle.std.specs.Str.{bytes_eq};
+ghost use Rattle.slot_core.specs.Faults.{graph_names_fault, names_fault};
 ghost use Rattle.source_check.specs.Verdicts.{AreFew, Tells};
 
 use slot_core::{Field, Graph, Name, Part, Place, Sporadic, Task, TaskFault};
@@ -49,21 +50,21 @@ pub fn check_sporadic_names(sporadics: &[Sporadic]) -> Result<(), TaskFault>
 
 /// Whether one of the graphs has the name.
 fn is_graph_name(graphs: &[Graph], name: &Name) -> bool
-    ensures { result ≡ list_any (λ g. same_name name.now g.name) graphs.now }
+    ensures { result ≡ list_any (λ g. bytes_eq name.now g.name) graphs.now }
 {
     graphs.iter().any(|graph| are_same(name, &graph.name))
 }
 
 /// Whether one of the tasks has the name.
 fn is_task_name(tasks: &[Task], name: &Name) -> bool
-    ensures { result ≡ list_any (λ t. same_name name.now t.name) tasks.now }
+    ensures { result ≡ list_any (λ t. bytes_eq name.now t.name) tasks.now }
 {
     tasks.iter().any(|task| are_same(name, &task.name))
 }
 
 /// Whether one of the sporadic tasks has the name.
 fn is_sporadic_name(sporadics: &[Sporadic], name: &Name) -> bool
-    ensures { result ≡ list_any (λ s. same_name name.now s.name) sporadics.now }
+    ensures { result ≡ list_any (λ s. bytes_eq name.now s.name) sporadics.now }
 {
     sporadics
         .iter()
@@ -72,7 +73,7 @@ fn is_sporadic_name(sporadics: &[Sporadic], name: &Name) -> bool
 
 /// Whether the names have the same bytes.
 fn are_same(name: &Name, other: &Name) -> bool
-    ensures { result ≡ same_name name.now other.now }
+    ensures { result ≡ bytes_eq name.now other.now }
 {
     name.bytes() == other.bytes()
 }

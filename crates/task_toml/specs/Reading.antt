@@ -15,7 +15,8 @@ use Rattle.slot_core.specs.declared.faults.Part.TheVariants.{Top, Graph as Graph
 use Rattle.slot_core.specs.declared.faults.Field.TheVariants.{Soft, Graph as GraphKey, Sporadic, Name, Period, Offset, Deadline, Task as TaskKey, Wcet, After, Separation}
 use Rattle.slot_core.specs.declared.faults.Place.{Place}
 use Rattle.slot_core.specs.declared.faults.TaskFault.TheVariants.{NotToml, Missing, WrongKind, TooMany}
-use Rattle.slot_core.specs.Faults.{same_name, set_fault}
+use Rattle.std.specs.Str.{bytes_eq}
+use Rattle.slot_core.specs.Faults.{set_fault}
 use Rattle.task_toml.specs.TomlFields.{Read, or_fault, known_keys, at_key, number_at, name_at}
 
 -- the tables of an array, and the texts of one; none where an item is of another kind
@@ -75,7 +76,7 @@ task_of g t members = do
 
 -- the place of the first task of this name, or the number of tasks where there is none
 abbrev pub place_of_name : List NamedTask → List ℕ → ℕ
-place_of_name tasks name = position_or_len (λ (t : NamedTask). same_name t.name name) tasks
+place_of_name tasks name = position_or_len (λ (t : NamedTask). bytes_eq t.name name) tasks
 
 abbrev pub with_indexes : List NamedTask → NamedTask → Task
 with_indexes tasks t = record { name = t.name; wcet = t.wcet; after = map (place_of_name tasks) t.after }

@@ -9,7 +9,7 @@ use Rattle.slot_core.specs.declared.faults.Place.{Place}
 use Rattle.slot_core.specs.declared.faults.TaskFault.{TaskFault}
 use Rattle.slot_core.specs.declared.faults.TaskFault.TheVariants.{Memory, UnknownKey, Missing, WrongKind, OutOfRange, BadName}
 use Rattle.slot_core.specs.Names.{is_name}
-use Rattle.slot_core.specs.Faults.{same_name}
+use Rattle.std.specs.Str.{bytes_eq}
 use Rattle.slot_core.specs.FaultTexts.{field_word}
 
 -- a value or the first fault
@@ -25,12 +25,12 @@ Answers = AnswersAs (λ x. x)
 
 -- the key is one that a table of this part knows
 abbrev pub knows_key : Part → List ℕ → Bool
-knows_key Top key = same_name (field_word Soft) key || same_name (field_word Graph) key || same_name (field_word Sporadic) key
+knows_key Top key = bytes_eq (field_word Soft) key || bytes_eq (field_word Graph) key || bytes_eq (field_word Sporadic) key
 knows_key (GraphPart g) key =
-    same_name (field_word Name) key || same_name (field_word Period) key || same_name (field_word Offset) key || same_name (field_word Deadline) key || same_name (field_word Task) key
-knows_key (TaskPart g t) key = same_name (field_word Name) key || same_name (field_word Wcet) key || same_name (field_word After) key
+    bytes_eq (field_word Name) key || bytes_eq (field_word Period) key || bytes_eq (field_word Offset) key || bytes_eq (field_word Deadline) key || bytes_eq (field_word Task) key
+knows_key (TaskPart g t) key = bytes_eq (field_word Name) key || bytes_eq (field_word Wcet) key || bytes_eq (field_word After) key
 knows_key (SporadicPart s) key =
-    same_name (field_word Name) key || same_name (field_word Wcet) key || same_name (field_word Separation) key || same_name (field_word Deadline) key
+    bytes_eq (field_word Name) key || bytes_eq (field_word Wcet) key || bytes_eq (field_word Separation) key || bytes_eq (field_word Deadline) key
 
 -- each key of the table is one that it knows
 abbrev pub knows_keys : Part → Members → Bool

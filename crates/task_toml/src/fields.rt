@@ -4,7 +4,7 @@ ghost use Rattle.std.specs.Prelude.{◌≡◌, ◌≤◌, ◌&&◌, pos, nat_abs
 ghost use Rattle.std.specs.Prelude.{if◌then◌else◌, IfOk, MatchResult};
 ghost use Rattle.std.specs.Option.{ForSome};
 ghost use Rattle.slot_core.specs.FaultTexts.{field_word};
-ghost use Rattle.slot_core.specs.Faults.{same_name};
+ghost use Rattle.std.specs.Str.{bytes_eq};
 ghost use Rattle.task_toml.specs.TomlFields.{known_keys, knows_key, number_at, name_at, at_key};
 ghost use Rattle.toml.specs.View.{table_view, view};
 
@@ -31,9 +31,8 @@ fn word(field: Field) -> &'static str
 }
 
 /// Whether the text is the key's word.
-#[tactic(auto, using(crate::proofs::SameTexts::same_texts))]
 fn is_word(field: Field, text: &str) -> bool
-    ensures { result ≡ same_name (field_word field) text.now }
+    ensures { result ≡ bytes_eq (field_word field) text.now }
 {
     word(field) == text
 }

@@ -1,7 +1,7 @@
 //! Tasks, graphs and sporadic tasks of a task file.
 
 ghost use Rattle.std.specs.Prelude.{◌≡◌, ◌≢◌, ◌≤◌, length, map, IfOk, IfErr, OnOk};
-ghost use Rattle.slot_core.specs.Faults.{same_name};
+ghost use Rattle.std.specs.Str.{bytes_eq};
 ghost use Rattle.task_toml.specs.Reading.{each, task_of, graph_of, sporadic_of};
 ghost use Rattle.task_toml.specs.Reading.{place_of_name, with_indexes};
 ghost use Rattle.task_toml.specs.TomlFields.{Answers, AnswersAs};
@@ -70,9 +70,8 @@ fn read_named_tasks<'a>(
 }
 
 /// Whether the task has this name.
-#[tactic(auto, using(crate::proofs::SameTexts::same_texts))]
 fn is_named(task: &NamedTask, name: &str) -> bool
-    ensures { result ≡ same_name task.now.name name.now }
+    ensures { result ≡ bytes_eq task.now.name name.now }
 {
     task.name.bytes() == name.as_bytes()
 }
