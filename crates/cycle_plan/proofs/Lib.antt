@@ -1,12 +1,3 @@
-pub mod CycleEnds
-pub mod DeadlineOrder
-pub mod FirstJobFacts
-pub mod MovedJobs
-pub mod MovedPoints
+pub mod NearJobFacts
 pub mod PlanFacts
-pub mod PlanPoints
-pub mod PlanSpans
-pub mod PointsInAnyOrder
-pub mod RangeFilters
-pub mod RisingEnds
-pub mod SpanSums
+pub mod StartsInOrder

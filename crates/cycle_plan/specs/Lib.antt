@@ -1,3 +1,3 @@
-pub mod FirstJobs
-pub mod InCycles
+pub mod FaultTexts
 pub mod NearJobs
+pub mod StartOrder

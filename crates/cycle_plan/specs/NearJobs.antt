@@ -1,4 +1,4 @@
--- Jobs near the start, which can be moved by many cycles without overflow.
+-- Jobs near the start, which many cycles later are still far from an overflow.
 use Rattle.std.specs.Prelude.{ℕ, ◌≤◌}
 use Rattle.slot_core.specs.declared.TheConstants.{SLOT_LIMIT}
 use Rattle.slot_core.specs.declared.jobs.Key.{Key}

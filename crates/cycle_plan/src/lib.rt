@@ -1,10 +1,9 @@
 //! The plan of a feasible task set.
 #![tactic(auto)]
 
-mod moves;
+mod later;
 pub mod plan;
-mod points;
-mod spans;
+mod starts;
 #[cfg(test)]
 mod tests;
 

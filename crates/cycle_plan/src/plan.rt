@@ -1,43 +1,59 @@
 //! Plans and how they are made.
 
-ghost use Rattle.std.specs.Prelude.{◌≡◌, ◌≤◌, ◌<◌, true, Some, length, slice_get, IfOk, IfSome, IsPermutation};
+ghost use Rattle.std.specs.Prelude.{◌≡◌, ℕ, ◌≤◌, ◌<◌, true, Some, length, slice_get, IfOk, IfSome, IsPermutation};
+ghost use Rattle.slot_core.specs.declared.TheConstants.{CYCLES_LIMIT};
 ghost use Rattle.slot_core.specs.declared.jobs.Job.{Job};
 ghost use Rattle.slot_core.specs.declared.jobs.Window.{Window};
 ghost use Rattle.slot_core.specs.Cycles.{cycle_of};
 ghost use Rattle.slot_core.specs.Feasible.{counterexample, demand};
-ghost use Rattle.slot_core.specs.OfflineJobs.{cycle_jobs, moved_job};
+ghost use Rattle.slot_core.specs.Futures.{CyclesCanBeServed, DensestLeavesNone};
+ghost use Rattle.slot_core.specs.OfflineJobs.{cycle_jobs, later_job};
 ghost use Rattle.slot_core.specs.Plans.{AreInDeadlineOrder, IsPlan};
 ghost use Rattle.slot_core.specs.Ranges.{is_sound};
 ghost use Rattle.demand_test.specs.Verdicts.{verdict_of};
+ghost use Rattle.cycle_plan.specs.StartOrder.{AreInStartOrder, StartsRise};
 ghost use Rattle.cycle_plan.specs.declared.plan.PlanFault.TheVariants.{Memory as MemoryFault};
 
-use crate::moves::moved_job;
-use crate::spans::first_spans;
+use crate::later::later_job;
+use crate::starts::sorted_by_start;
 use demand_test::{Verdict, test, total};
 use graph_unroll::{cycle_of, unroll};
+use interval_build::build;
 use slot_core::{Job, Memory, Span, Sporadic, TaskSet, Window};
 use std::alloc::Global;
+use std::error::Error;
+use std::fmt;
 use std::marker::Model;
 use window_derive::derive;
 
-/// A sound and feasible task set with its cycle, the offline jobs of the first cycle in deadline order, and
-/// the spans of the first cycle before the first slot. Its type keeps that all agree.
+/// A sound and feasible task set with its cycle, the offline jobs of the first cycle in deadline
+/// order and once more by start, and the spans of the first cycle before the first slot. Its type
+/// keeps that all agree.
 #[derive(Drop)]
 pub struct Plan {
     tasks: TaskSet,
     cycle: u32,
     jobs: Vec<Job>,
+    by_start: Vec<Job>,
     spans: Vec<Span>,
 }
 
 impl Model for Plan {
-    ghost use Rattle.slot_core.specs.Plans.{PlanParts, IsPlan};
+    ghost use Rattle.slot_core.specs.Plans.{PlanParts};
+    ghost use Rattle.cycle_plan.specs.StartOrder.{KeepsPlan};
 
     ghost Value = { PlanParts };
 
-    ghost view = { λ p. record { tasks = p.tasks; cycle = p.cycle; jobs = p.jobs.items; spans = p.spans.items } };
+    ghost view = { λ p. record {
+      tasks = p.tasks;
+      cycle = p.cycle;
+      jobs = p.jobs.items;
+      spans = p.spans.items;
+    } };
 
-    ghost invariant = { λ p. IsPlan (record { tasks = p.tasks; cycle = p.cycle; jobs = p.jobs.items; spans = p.spans.items }) };
+    ghost invariant = { λ p. KeepsPlan
+        (record { tasks = p.tasks; cycle = p.cycle; jobs = p.jobs.items; spans = p.spans.items })
+        p.by_start.items };
 }
 
 /// Why a set has no plan.
@@ -45,9 +61,26 @@ impl Model for Plan {
 pub enum PlanFault {
     /// Memory ran out.
     Memory,
-    /// A window with more demand than slots: the whole cycle where it is too short, else the first one.
+    /// A window with more demand than slots: the whole cycle where it is too short, else the first
+    /// one.
     Infeasible(Window),
 }
+
+impl fmt::Display for PlanFault {
+    ghost use Rattle.std.specs.Prelude.{Some};
+    ghost use Rattle.cycle_plan.specs.FaultTexts.{plan_fault_text};
+
+    ghost output = { λ fault. Some (plan_fault_text fault) };
+
+    fn fmt<W: fmt::Write>(&self, f: &mut fmt::Formatter<W>) -> fmt::Result {
+        match self {
+            PlanFault::Memory => write!(f, "out of memory"),
+            PlanFault::Infeasible(w) => write!(f, "infeasible {} {} {}", w.from, w.until, w.demand),
+        }
+    }
+}
+
+impl Error for PlanFault {}
 
 impl From<Memory> for PlanFault {
     ghost from_gives = { λ _ fault. fault ≡ MemoryFault };
@@ -62,7 +95,13 @@ pub fn make_plan(alloc: Global, tasks: TaskSet) -> Result<Plan, PlanFault>
     requires { is_sound tasks ≡ true }
     ensures tasks { IfOk result (λ plan. plan.tasks ≡ tasks) }
     ensures plan { IfOk result IsPlan }
-    ensures infeasible { (w : Window) → result ≡ Err (PlanFault.Infeasible w) → counterexample tasks (cycle_of tasks) ≡ Some w }
+    ensures infeasible { (w : Window) → result ≡ Err (PlanFault.Infeasible w)
+        → counterexample tasks (cycle_of tasks) ≡ Some w }
+
+    // What it means over slot schedules.
+    ensures schedules { IfOk result (λ plan. (cycles : ℕ) → CyclesCanBeServed plan.tasks cycles) }
+    ensures none { (w : Window) → result ≡ Err (PlanFault.Infeasible w)
+        → ¬ (CyclesCanBeServed tasks 3) × DensestLeavesNone tasks w.from }
 {
     let cycle = cycle_of(&tasks).unwrap();
     let demand = total(&tasks, cycle);
@@ -78,11 +117,13 @@ pub fn make_plan(alloc: Global, tasks: TaskSet) -> Result<Plan, PlanFault>
         Verdict::Fits => {}
         Verdict::Fails(window) => return Err(PlanFault::Infeasible(window)),
     }
-    let spans = first_spans(alloc, &tasks, cycle, &jobs)?;
+    let by_start = sorted_by_start(alloc, &jobs)?;
+    let spans = build(alloc, &jobs, cycle)?;
     Ok(Plan {
         tasks,
         cycle,
         jobs,
+        by_start,
         spans,
     })
 }
@@ -90,14 +131,16 @@ pub fn make_plan(alloc: Global, tasks: TaskSet) -> Result<Plan, PlanFault>
 /// The offline jobs of the first cycle, by deadline and then by key.
 fn first_jobs(alloc: Global, tasks: &TaskSet) -> Result<Vec<Job>, Memory>
     requires { is_sound tasks.now ≡ true }
-    ensures listed { IfOk result (λ jobs. IsPermutation (cycle_jobs tasks.now (cycle_of tasks.now) 0) jobs.items) }
+    ensures listed { IfOk result (λ jobs.
+        IsPermutation (cycle_jobs tasks.now (cycle_of tasks.now) 0) jobs.items) }
     ensures ordered { IfOk result (λ jobs. AreInDeadlineOrder jobs.items) }
 {
     let raw = unroll(alloc, tasks)?;
     derive(alloc, tasks, &raw)
 }
 
-/// The cycle test of a set whose demand fits the cycle as a whole, with the jobs of its first cycle.
+/// The cycle test of a set whose demand fits the cycle as a whole, with the jobs of its first
+/// cycle.
 fn verdict(alloc: Global, tasks: &TaskSet, cycle: u32, jobs: &[Job]) -> Result<Verdict, Memory>
     requires sound { is_sound tasks.now ≡ true }
     requires cycle { cycle ≡ cycle_of tasks.now }
@@ -109,7 +152,7 @@ fn verdict(alloc: Global, tasks: &TaskSet, cycle: u32, jobs: &[Job]) -> Result<V
 }
 
 impl Plan {
-    /// The cycle in slots: 1 to 4096.
+    /// The cycle in slots: 1 to `SLOT_LIMIT`.
     pub fn cycle(&self) -> u32
         ensures cycle { result ≡ self.now.cycle }
         ensures plan { IsPlan self.now }
@@ -133,6 +176,15 @@ impl Plan {
         self.jobs.as_slice()
     }
 
+    /// The same jobs in the order in which they come: by start, then by deadline and key.
+    pub fn jobs_by_start(&self) -> &[Job]
+        ensures items { IsPermutation self.now.jobs result.now }
+        ensures ordered { AreInStartOrder result.now }
+        ensures starts { StartsRise result.now }
+    {
+        self.by_start.as_slice()
+    }
+
     /// The spans of the first cycle before the first slot.
     pub fn spans(&self) -> &[Span]
         ensures spans { result.now ≡ self.now.spans }
@@ -151,9 +203,10 @@ impl Plan {
     /// The job at this place of the first cycle, as it stands so many cycles later.
     pub fn job_in_cycle(&self, i: usize, cycles: u64) -> Job
         requires place { i < length self.now.jobs }
-        requires near { cycles ≤ 1048576 }
-        ensures { IfSome (slice_get self.now.jobs i) (λ job. result ≡ moved_job self.now.tasks self.now.cycle cycles job) }
+        requires near { cycles ≤ CYCLES_LIMIT }
+        ensures { IfSome (slice_get self.now.jobs i) (λ job. result
+            ≡ later_job self.now.tasks self.now.cycle cycles job) }
     {
-        moved_job(&self.tasks, self.cycle, cycles, self.jobs[i])
+        later_job(&self.tasks, self.cycle, cycles, self.jobs[i])
     }
 }

@@ -1,93 +1,9 @@
 //! Plans of small sets, and sets that have none.
 
-ghost use Rattle.std.specs.Prelude.{◌≡◌, [], ◌∷◌, true, codes, IfOk};
-ghost use Rattle.slot_core.specs.ExampleSets.{flight_set, lone_task, plain_graph, set_of, task};
-ghost use Rattle.slot_core.specs.Names.{is_name};
-
 use crate::{PlanFault, make_plan};
-use slot_core::{
-    Afters, Graph, Graphs, Job, Key, Memory, Name, Span, Sporadics, Task, TaskSet, Tasks, Window,
-};
-use std::alloc::Global;
+use slot_core::{Job, Key, Span, Window};
+use slot_examples::{crowded_set, overlong_set, unmanned_flight_set};
 use std::test::Fail;
-
-/// A task without predecessors.
-fn first_task(alloc: Global, name: &[u8], wcet: u32) -> Task
-    requires { is_name name.now ≡ true }
-    ensures { result ≡ task name.now wcet [] }
-{
-    Task {
-        name: Name::of(name).unwrap(),
-        wcet,
-        after: Afters::new(alloc),
-    }
-}
-
-/// A task after another one.
-fn next_task(alloc: Global, name: &[u8], wcet: u32, before: u16) -> Result<Task, Memory>
-    requires { is_name name.now ≡ true }
-    ensures { IfOk result (λ t. t ≡ task name.now wcet (before ∷ [])) }
-{
-    let mut next = first_task(alloc, name, wcet);
-    next.after.push(before)?;
-    Ok(next)
-}
-
-/// A graph of three tasks, due at the end of its period.
-fn graph_of_three(
-    alloc: Global,
-    name: &[u8],
-    period: u32,
-    first: Task,
-    second: Task,
-    third: Task,
-) -> Result<Graph, Memory>
-    requires { is_name name.now ≡ true }
-    ensures { IfOk result (λ g. g ≡ plain_graph name.now period (first ∷ second ∷ third ∷ [])) }
-{
-    let mut tasks = Tasks::new(alloc);
-    tasks.push(first)?;
-    tasks.push(second)?;
-    tasks.push(third)?;
-    Ok(Graph {
-        name: Name::of(name).unwrap(),
-        period,
-        offset: 0,
-        deadline: period,
-        tasks,
-    })
-}
-
-/// A flight controller without its sporadic task.
-fn flight(alloc: Global) -> Result<TaskSet, Memory>
-    ensures { IfOk result (λ set. set ≡ record flight_set { sporadics = [] }) }
-{
-    let mut graphs = Graphs::new(alloc);
-    let fuse = next_task(alloc, b"fuse", 1, 0)?;
-    let ctl = next_task(alloc, b"ctl", 1, 1)?;
-    let imu = graph_of_three(alloc, b"imu", 10, first_task(alloc, b"read", 1), fuse, ctl)?;
-    graphs.push(imu)?;
-    let fix = next_task(alloc, b"fix", 2, 0)?;
-    let nav = next_task(alloc, b"nav", 1, 1)?;
-    let gps = graph_of_three(alloc, b"gps", 20, first_task(alloc, b"read", 1), fix, nav)?;
-    graphs.push(gps)?;
-    let plan = next_task(alloc, b"plan", 3, 0)?;
-    let send = next_task(alloc, b"send", 1, 1)?;
-    let link = graph_of_three(
-        alloc,
-        b"link",
-        40,
-        first_task(alloc, b"recv", 2),
-        plan,
-        send,
-    )?;
-    graphs.push(link)?;
-    Ok(TaskSet {
-        soft_limit: 64,
-        graphs,
-        sporadics: Sporadics::new(alloc),
-    })
-}
 
 fn span(start: u64, end: u64, work: u64, spare: i64) -> Span {
     Span {
@@ -101,7 +17,9 @@ fn span(start: u64, end: u64, work: u64, spare: i64) -> Span {
 #[test]
 fn plans_a_flight_controller(rt: HostRuntime) -> Result<(), Fail> {
     let alloc = rt.alloc();
-    let plan = make_plan(alloc, flight(alloc)?).ok().ok_or("no plan")?;
+    let plan = make_plan(alloc, unmanned_flight_set(alloc)?)
+        .ok()
+        .ok_or("no plan")?;
     assert_eq!(rt; plan.cycle(), 40);
     assert_eq!(rt; plan.jobs().len(), 21);
     let expected = [
@@ -123,52 +41,22 @@ fn plans_a_flight_controller(rt: HostRuntime) -> Result<(), Fail> {
     ];
     assert_eq!(rt; plan.spans(), expected.as_slice());
     let last = plan.jobs().len().checked_sub(1).ok_or("no job")?;
-    let moved = Job {
+    let later = Job {
         key: Key::Offline(2, 2, 2),
         est: 85,
         dl: 120,
         left: 1,
         declared: 1,
     };
-    assert_eq!(rt; plan.job_in_cycle(last, 2), moved);
+    assert_eq!(rt; plan.job_in_cycle(last, 2), later);
+    let starts = [
+        0, 0, 0, 1, 1, 2, 2, 3, 5, 10, 11, 12, 20, 20, 21, 21, 22, 23, 30, 31, 32,
+    ];
+    assert_eq!(rt; plan.jobs_by_start().len(), starts.len());
+    for (job, start) in plan.jobs_by_start().iter().zip(&starts) {
+        assert_eq!(rt; job.est, *start);
+    }
     Ok(())
-}
-
-/// A graph of one task.
-fn lone_graph(
-    alloc: Global,
-    name: &[u8],
-    period: u32,
-    offset: u32,
-    deadline: u32,
-    wcet: u32,
-) -> Result<Graph, Memory>
-    requires { is_name name.now ≡ true }
-    ensures { IfOk result (λ g. g ≡ lone_task name.now period offset deadline wcet) }
-{
-    let mut tasks = Tasks::new(alloc);
-    tasks.push(first_task(alloc, b"w", wcet))?;
-    Ok(Graph {
-        name: Name::of(name).unwrap(),
-        period,
-        offset,
-        deadline,
-        tasks,
-    })
-}
-
-/// A set of two graphs.
-fn set_of_two(alloc: Global, first: Graph, second: Graph) -> Result<TaskSet, Memory>
-    ensures { IfOk result (λ set. set ≡ set_of 64 (first ∷ second ∷ []) []) }
-{
-    let mut graphs = Graphs::new(alloc);
-    graphs.push(first)?;
-    graphs.push(second)?;
-    Ok(TaskSet {
-        soft_limit: 64,
-        graphs,
-        sporadics: Sporadics::new(alloc),
-    })
 }
 
 /// The fault of a set whose demand in a window is more than its slots.
@@ -181,21 +69,11 @@ fn infeasible(from: u64, until: u64, demand: u64) -> Option<PlanFault> {
 }
 
 #[test]
-fn refuses_a_crowded_window(rt: HostRuntime) -> Result<(), Fail> {
+fn refuses_windows_of_too_much_demand(rt: HostRuntime) -> Result<(), Fail> {
     let alloc = rt.alloc();
-    let first = lone_graph(alloc, b"c", 10, 5, 2, 2)?;
-    let second = lone_graph(alloc, b"d", 10, 6, 1, 1)?;
-    let fault = make_plan(alloc, set_of_two(alloc, first, second)?).err();
-    assert_eq!(rt; fault, infeasible(5, 7, 3));
-    Ok(())
-}
-
-#[test]
-fn refuses_too_much_for_a_cycle(rt: HostRuntime) -> Result<(), Fail> {
-    let alloc = rt.alloc();
-    let first = lone_graph(alloc, b"g", 2, 0, 2, 3)?;
-    let second = lone_graph(alloc, b"h", 2, 0, 1, 1)?;
-    let fault = make_plan(alloc, set_of_two(alloc, first, second)?).err();
-    assert_eq!(rt; fault, infeasible(0, 2, 4));
+    let crowded = make_plan(alloc, crowded_set(alloc)?).err();
+    assert_eq!(rt; crowded, infeasible(5, 7, 3));
+    let overlong = make_plan(alloc, overlong_set(alloc)?).err();
+    assert_eq!(rt; overlong, infeasible(0, 2, 3));
     Ok(())
 }

@@ -17,9 +17,9 @@ use Rattle.slot_core.specs.Sporadics.{sporadic_demand}
 use Rattle.slot_core.specs.Feasible.{declared_within, window_demand, demand}
 use Rattle.slot_core.specs.Ranges.{graph_in_range, is_sound}
 use Rattle.demand_test.specs.Totals.{graph_work}
-use Rattle.slot_core.proofs.RangeFacts.{GraphFits-from_test}
-use Rattle.demand_test.proofs.SoundSets.{graphs-from_sound}
-use Rattle.slot_core.proofs.SumLemmas.{sum_by-map, sum_by-flat_map, sum_by-enumerate_from, sum_by-constant, sum_by-agree}
+use Rattle.slot_facts.proofs.Sets.Ranges.{GraphFits-from_test}
+use Rattle.slot_facts.proofs.Sets.Sizes.{graphs-from_sound}
+use Rattle.slot_facts.proofs.Lists.Sums.{sum_by-map, sum_by-flat_map, sum_by-enumerate_from, sum_by-constant, sum_by-agree}
 
 -- the slots of the jobs that a graph releases in a cycle
 graph_jobs-slots : (cycle n : ℕ) (i : ℕ × Graph) → sum_by (λ (raw : RawJob). raw.wcet) (graph_jobs cycle n i) ≡ graph_work cycle i.1

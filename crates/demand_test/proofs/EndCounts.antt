@@ -5,7 +5,7 @@ use Rattle.std.proofs.lemmas.Bool.Decides.{nat_tests}
 use Rattle.std.proofs.lemmas.List.{get_or-set_same, get_or-set_other, get_or-replicate, length-set, length-replicate, get_or_default, take_more}
 use Rattle.std.proofs.lemmas.List.Sums.{sum_by_push, sum_by-le-sum_by}
 use Rattle.slot_core.specs.declared.jobs.Job.{Job}
-use Rattle.demand_test.specs.Ends.{ending_at, first_end, next_end, raised, IsDue}
+use Rattle.demand_test.specs.EndTables.{ending_at, first_end, next_end, raised, IsEndTable}
 
 -- a number that is added at one place
 get_or-raised : (xs : List ℕ) (e b d : ℕ) → e < length xs → get_or (raised xs e d) b 0 ≡ get_or xs b 0 + (if e == b then d else 0)
@@ -21,16 +21,16 @@ ending_at-le end jobs b =
     part false n = omega arith
 
 -- the empty table
-pub IsDue-none : (cycle : ℕ) → IsDue [] [] cycle (replicate (2 * cycle + 1) 0)
-IsDue-none cycle =
+pub IsEndTable-none : (cycle : ℕ) → IsEndTable [] [] cycle (replicate (2 * cycle + 1) 0)
+IsEndTable-none cycle =
     record {
       len = length-replicate (2 * cycle + 1) 0;
       ends = λ b low. get_or-replicate (2 * cycle + 1) b 0 0 (omega arith);
     }
 
 -- one more job, which is counted at its two ends
-pub IsDue-more : (first next : List Job) (cycle : ℕ) (due : List ℕ) (j : Job) → IsDue first next cycle due → first_end j ≤ 2 * cycle → next_end cycle j ≤ 2 * cycle → IsDue (first ++ j ∷ []) (next ++ j ∷ []) cycle (raised (raised due (first_end j) j.declared) (next_end cycle j) j.declared)
-IsDue-more first next cycle due j h first_within next_within =
+pub IsEndTable-more : (first next : List Job) (cycle : ℕ) (due : List ℕ) (j : Job) → IsEndTable first next cycle due → first_end j ≤ 2 * cycle → next_end cycle j ≤ 2 * cycle → IsEndTable (first ++ j ∷ []) (next ++ j ∷ []) cycle (raised (raised due (first_end j) j.declared) (next_end cycle j) j.declared)
+IsEndTable-more first next cycle due j h first_within next_within =
     let once = raised due (first_end j) j.declared in
     let len_once = length-set due (first_end j) (get_or due (first_end j) 0 + j.declared) in
     let len_twice = length-set once (next_end cycle j) (get_or once (next_end cycle j) 0 + j.declared) in
@@ -49,8 +49,8 @@ IsDue-more first next cycle due j h first_within next_within =
     }
 
 -- no entry of the table is more than all that is declared, twice
-pub IsDue-small : (first next : List Job) (cycle : ℕ) (due : List ℕ) (m : ℕ) → IsDue first next cycle due → sum_by (λ (j : Job). j.declared) first ≤ m → sum_by (λ (j : Job). j.declared) next ≤ m → All (λ n. n ≤ 2 * m) due
-IsDue-small first next cycle due m h few_first few_next k d low =
+pub IsEndTable-small : (first next : List Job) (cycle : ℕ) (due : List ℕ) (m : ℕ) → IsEndTable first next cycle due → sum_by (λ (j : Job). j.declared) first ≤ m → sum_by (λ (j : Job). j.declared) next ≤ m → All (λ n. n ≤ 2 * m) due
+IsEndTable-small first next cycle due m h few_first few_next k d low =
     let len = h.len in
     omega (
       arith,
@@ -61,8 +61,8 @@ IsDue-small first next cycle due m h few_first few_next k d low =
     )
 
 -- the table of the jobs so far, and of the next
-pub IsDue-next : (jobs : List Job) (i cycle : ℕ) (d : Job) (old new : List ℕ) → i < length jobs → 0 < cycle → All (λ (j : Job). j.dl ≤ cycle) jobs → IsDue (take i jobs) (take i jobs) cycle old → new ≡ raised (raised old (first_end (get_or jobs i d)) (get_or jobs i d).declared) (next_end cycle (get_or jobs i d)) (get_or jobs i d).declared → IsDue (take (i + 1) jobs) (take (i + 1) jobs) cycle new
-IsDue-next jobs i cycle d old new low positive within h is =
+pub IsEndTable-next : (jobs : List Job) (i cycle : ℕ) (d : Job) (old new : List ℕ) → i < length jobs → 0 < cycle → All (λ (j : Job). j.dl ≤ cycle) jobs → IsEndTable (take i jobs) (take i jobs) cycle old → new ≡ raised (raised old (first_end (get_or jobs i d)) (get_or jobs i d).declared) (next_end cycle (get_or jobs i d)) (get_or jobs i d).declared → IsEndTable (take (i + 1) jobs) (take (i + 1) jobs) cycle new
+IsEndTable-next jobs i cycle d old new low positive within h is =
     let j = get_or jobs i d in
     let due = within i d low in
-    rw (take_more jobs i d low, is) (IsDue-more (take i jobs) (take i jobs) cycle old j h (omega arith) (omega arith))
+    rw (take_more jobs i d low, is) (IsEndTable-more (take i jobs) (take i jobs) cycle old j h (omega arith) (omega arith))

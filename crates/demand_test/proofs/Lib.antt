@@ -1,5 +1,4 @@
-pub mod ArrivalCounts
 pub mod CycleTotals
 pub mod EndCounts
-pub mod SoundSets
+pub mod Schedules
 pub mod WindowSums

@@ -1,3 +1,3 @@
-pub mod Ends
+pub mod EndTables
 pub mod Totals
 pub mod Verdicts

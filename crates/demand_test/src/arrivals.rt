@@ -43,8 +43,8 @@ pub fn needed_by(sporadics: &[Sporadic], end: u32) -> Option<u64>
 /// The slots that the densest arrivals from slot 0 on need by each end from 0 to `last`.
 pub fn needed_table(alloc: Global, sporadics: &[Sporadic], last: u32) -> Result<List<u64>, Memory>
     requires { last < 2 ^ 32 - 1 }
-    ensures values { IfOk result
-        (λ table. table ≡ map (λ x. sporadic_demand sporadics.now [] 0 x) (range_with_len 0 (last + 1))) }
+    ensures values { IfOk result (λ table. table
+        ≡ map (λ x. sporadic_demand sporadics.now [] 0 x) (range_with_len 0 (last + 1))) }
     ensures small { IfOk result (λ table. All (λ n. n < 2 ^ 63) table) }
 {
     let mut table = List::new(alloc);

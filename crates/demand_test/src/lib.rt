@@ -2,11 +2,13 @@
 #![tactic(auto)]
 
 ghost use Rattle.std.specs.Prelude.{◌≡◌, ◌≤◌, true, All, IfOk};
+ghost use Rattle.slot_core.specs.declared.TheConstants.{SLOT_LIMIT};
 ghost use Rattle.slot_core.specs.declared.jobs.Job.{Job};
+ghost use Rattle.slot_core.specs.declared.tasks.TaskSet.{TaskSet};
 ghost use Rattle.slot_core.specs.Cycles.{cycle_of};
 ghost use Rattle.slot_core.specs.Feasible.{demand, window_demand, counterexample_in};
 ghost use Rattle.slot_core.specs.Ranges.{is_sound};
-ghost use Rattle.demand_test.specs.Verdicts.{verdict_of};
+ghost use Rattle.demand_test.specs.Verdicts.{verdict_of, AreOfSet, MeansSchedules};
 
 mod arrivals;
 mod offline;
@@ -29,7 +31,8 @@ pub enum Verdict {
     Fails(Window),
 }
 
-/// The demand of the whole cycle, in slots: the offline work of one cycle and the densest sporadic arrivals.
+/// The demand of the whole cycle, in slots: the offline work of one cycle and the densest sporadic
+/// arrivals.
 pub fn total(tasks: &TaskSet, cycle: u32) -> u64
     requires sound { is_sound tasks.now ≡ true }
     requires cycle { cycle ≡ cycle_of tasks.now }
@@ -39,19 +42,23 @@ pub fn total(tasks: &TaskSet, cycle: u32) -> u64
     offline_slots(tasks.graphs.items(), cycle) + arriving
 }
 
-/// Tries every window that starts in the first cycle and ends in the first two. The jobs are those of one
-/// cycle, whose demand as a whole fits it. Memory is also the answer where 63 bits do not hold the slots that
-/// the arrivals of two cycles need, which no sound task set has.
+/// Tries every window that starts in the first cycle and ends in the first two. The jobs are those
+/// of one cycle, whose demand as a whole fits it. Memory is also the answer where 63 bits do not
+/// hold the slots that the arrivals of two cycles need, which no sound task set has.
 pub fn test(
     alloc: Global,
     jobs: &[Job],
     sporadics: &[Sporadic],
     cycle: u32,
 ) -> Result<Verdict, Memory>
-    requires cycle { cycle ≤ 4096 }
+    requires cycle { cycle ≤ SLOT_LIMIT }
     requires within { All (λ (j : Job). j.dl ≤ cycle) jobs.now }
     requires fits { window_demand jobs.now sporadics.now cycle 0 cycle ≤ cycle }
-    ensures { IfOk result (λ v. v ≡ verdict_of (counterexample_in jobs.now sporadics.now cycle)) }
+    ensures verdict { IfOk result
+        (λ v. v ≡ verdict_of (counterexample_in jobs.now sporadics.now cycle)) }
+    ensures schedules { IfOk result (λ v. (set : TaskSet)
+        → AreOfSet set jobs.now sporadics.now cycle
+        → MeansSchedules set v) }
 {
     // An empty cycle has no window, and the table of ends has no place for a next cycle.
     if cycle == 0 {

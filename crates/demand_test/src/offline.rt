@@ -1,6 +1,7 @@
 //! The offline work of one cycle.
 
 ghost use Rattle.std.specs.Prelude.{◌≡◌, ◌^◌, ◌<◌, ◌≤◌, true, All, length, sum_by};
+ghost use Rattle.slot_core.specs.declared.TheConstants.{GRAPH_LIMIT};
 ghost use Rattle.slot_core.specs.declared.tasks.Task.{Task};
 ghost use Rattle.slot_core.specs.Ranges.{graph_in_range};
 ghost use Rattle.demand_test.specs.Totals.{graph_work};
@@ -17,7 +18,7 @@ fn declared_slots(tasks: &[Task]) -> u64
 
 /// The declared slots of all jobs that the graphs release in one cycle.
 pub fn offline_slots(graphs: &[Graph], cycle: u32) -> u64
-    requires few { length graphs.now ≤ 32 }
+    requires few { length graphs.now ≤ GRAPH_LIMIT }
     requires in_range { All (λ graph. graph_in_range graph ≡ true) graphs.now }
     ensures value { result ≡ sum_by (graph_work cycle) graphs.now }
     ensures small { result < 2 ^ 63 }

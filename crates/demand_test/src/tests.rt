@@ -5,7 +5,7 @@ ghost use Rattle.slot_core.specs.declared.jobs.Job.{Job};
 
 use crate::arrivals::needed_by;
 use crate::{Verdict, test};
-use slot_core::{Job, Key, Name, Sporadic, Sporadics, Window};
+use slot_core::{Job, Key, Name, SLOT_LIMIT, Sporadic, Sporadics, Window};
 use std::alloc::Global;
 use std::test::Fail;
 
@@ -22,7 +22,7 @@ fn declared_slots(jobs: &[Job]) -> Option<u64>
 
 /// The verdict, or none where the cycle test may not be asked or memory runs out.
 fn verdict(alloc: Global, jobs: &[Job], sporadics: &[Sporadic], cycle: u32) -> Option<Verdict> {
-    if cycle > 4096 || !jobs.iter().all(|job| job.dl <= u64::from(cycle)) {
+    if cycle > SLOT_LIMIT || !jobs.iter().all(|job| job.dl <= u64::from(cycle)) {
         return None;
     }
     let declared = declared_slots(jobs)?;
@@ -92,11 +92,12 @@ fn judges_short_cycles(rt: HostRuntime) -> Result<(), Fail> {
 #[test]
 fn judges_the_longest_cycle(rt: HostRuntime) -> Result<(), Fail> {
     let alloc = rt.alloc();
+    let cycle = u64::from(SLOT_LIMIT);
     let mut jobs = Vec::new(alloc);
-    for slot in 0..4096 {
-        jobs.push(job(4095 - slot, 4096 - slot, 1))?;
+    for slot in 0..cycle {
+        jobs.push(job(cycle - slot - 1, cycle - slot, 1))?;
     }
-    let found = verdict(alloc, jobs.as_slice(), &[], 4096);
+    let found = verdict(alloc, jobs.as_slice(), &[], SLOT_LIMIT);
     assert_eq!(rt; found, Some(Verdict::Fits));
     Ok(())
 }

@@ -1,25 +1,27 @@
 //! The search for a window with more demand than slots.
 
-ghost use Rattle.std.specs.Prelude.{◌≡◌, ℕ, ◌+◌, ◌-◌, ◌*◌, ◌^◌, ◌<◌, ◌≤◌, All, IfOk, length, drop, sum, sum_by, slice_index};
-ghost use Rattle.std.specs.List.{range_with_len};
+ghost use Rattle.std.specs.Prelude.{◌≡◌, ℕ, ◌+◌, ◌-◌, ◌*◌, ◌^◌, ◌<◌, ◌≤◌, All, IfOk, length, nat_le, sum, sum_by, slice_index};
+ghost use Rattle.std.specs.List.{prefix_len, range_with_len};
 ghost use Rattle.std.specs.List.Sorted.{IsNonDecreasingBy};
+ghost use Rattle.slot_core.specs.declared.TheConstants.{SLOT_LIMIT};
 ghost use Rattle.slot_core.specs.declared.jobs.Job.{Job};
 ghost use Rattle.slot_core.specs.Feasible.{first_some, first_failing_from};
-ghost use Rattle.demand_test.specs.Ends.{ending_at, first_end, next_end, raised, IsDue, IsStart, failing_in};
+ghost use Rattle.demand_test.specs.EndTables.{ending_at, first_end, next_end, raised, IsEndTable, failing_in};
 
 use crate::arrivals::needed_table;
 use slot_core::{Job, Memory, Sporadic, Window};
 use std::alloc::Global;
 
-/// Adds the declared slots of a job at its ends: its deadline in the first cycle, and its deadline in the next,
-/// past the end of the first.
+/// Adds the declared slots of a job at its ends: its deadline in the first cycle, and its deadline
+/// in the next, past the end of the first.
 fn count_job(due: &mut [u64], job: &Job, cycle: usize)
     requires positive { 0 < cycle }
     requires len { length due.old ≡ 2 * cycle + 1 }
     requires within { job.now.dl ≤ cycle }
     requires small { All (λ n. n < 2 ^ 63) due.old }
-    ensures { due.new
-        ≡ raised (raised due.old (first_end job.now) job.now.declared) (next_end cycle job.now) job.now.declared }
+    ensures { due.new ≡ raised
+        (raised due.old (first_end job.now) job.now.declared)
+        (next_end cycle job.now) job.now.declared }
 {
     let end = job.dl as usize;
     let next = (end + cycle).max(cycle + 1);
@@ -27,14 +29,14 @@ fn count_job(due: &mut [u64], job: &Job, cycle: usize)
     due[next] += u64::from(job.declared);
 }
 
-/// For each end, 0 to two cycles, the slots of the jobs of the first cycle and of the next that begin to count
-/// there.
+/// For each end, 0 to two cycles, the slots of the jobs of the first cycle and of the next that
+/// begin to count there.
 fn due_table(alloc: Global, jobs: &[Job], cycle: u32) -> Result<Vec<u64>, Memory>
     requires positive { 0 < cycle }
-    requires cycle { cycle ≤ 4096 }
+    requires cycle { cycle ≤ SLOT_LIMIT }
     requires within { All (λ (j : Job). j.dl ≤ cycle) jobs.now }
     requires few { sum_by (λ (j : Job). j.declared) jobs.now ≤ cycle }
-    ensures { IfOk result (λ due. IsDue jobs.now jobs.now cycle due.items) }
+    ensures { IfOk result (λ due. IsEndTable jobs.now jobs.now cycle due.items) }
 {
     let length = cycle as usize;
     let mut due = vec![in alloc; 0u64; 2 * length + 1]?;
@@ -44,26 +46,28 @@ fn due_table(alloc: Global, jobs: &[Job], cycle: u32) -> Result<Vec<u64>, Memory
     Ok(due)
 }
 
-/// Takes out the jobs that start by `from`, of which the first `passed` are out, and tells how many are out then.
-fn leave(due: &mut [u64], jobs: &[Job], passed: usize, from: u32) -> usize
-    requires ordered { IsNonDecreasingBy (λ (j : Job). j.est) jobs.now }
-    requires start { IsStart jobs.now from passed }
+/// The number of jobs at the front that start by `from`.
+fn count_started(jobs: &[Job], from: u32) -> usize
+    ensures count { result ≡ prefix_len (λ (j : Job). nat_le j.est from) jobs.now }
+    ensures within { result ≤ length jobs.now }
+{
+    jobs.iter()
+        .take_while(|job| job.est <= u64::from(from))
+        .count()
+}
+
+/// Takes these jobs of the first cycle out of the table.
+fn take_out(due: &mut [u64], jobs: &[Job])
     requires within { All (λ (j : Job). j.dl < length due.old) jobs.now }
     requires counted { (b : ℕ)
         → b < length due.old
-        → ending_at first_end (drop passed jobs.now) b ≤ slice_index due.old b }
-    ensures start { IsStart jobs.now (from + 1) result }
-    ensures taken { (b : ℕ)
-        → slice_index due.new b + ending_at first_end (drop passed jobs.now) b
-        ≡ slice_index due.old b + ending_at first_end (drop result jobs.now) b }
+        → ending_at first_end jobs.now b ≤ slice_index due.old b }
+    ensures { (b : ℕ)
+        → slice_index due.new b + ending_at first_end jobs.now b ≡ slice_index due.old b }
 {
-    let mut next = passed;
-    while next < jobs.len() && jobs[next].est <= u64::from(from) {
-        let job = jobs[next];
+    for job in jobs {
         due[job.dl as usize] -= u64::from(job.declared);
-        next += 1;
     }
-    next
 }
 
 /// The sum of the numbers.
@@ -80,8 +84,9 @@ fn failing_from(due: &[u64], arrivals: &[u64], from: usize) -> Option<Window>
     requires same { length arrivals.now ≡ length due.now }
     requires few { sum due.now < 2 ^ 63 }
     requires small { All (λ n. n < 2 ^ 63) arrivals.now }
-    ensures { result
-        ≡ first_some (failing_in due.now arrivals.now from) (range_with_len (from + 1) (length due.now - 1 - from)) }
+    ensures { result ≡ first_some
+        (failing_in due.now arrivals.now from)
+        (range_with_len (from + 1) (length due.now - 1 - from)) }
 {
     let mut sum = sum_of(&due[..from + 1]);
     for until in from + 1..due.len() {
@@ -99,7 +104,8 @@ fn failing_from(due: &[u64], arrivals: &[u64], from: usize) -> Option<Window>
     None
 }
 
-/// The failing window of least start, and then of least end, or none. The jobs are in the order of their starts.
+/// The failing window of least start, and then of least end, or none. The jobs are in the order of
+/// their starts.
 pub fn first_failing(
     alloc: Global,
     jobs: &[Job],
@@ -107,23 +113,25 @@ pub fn first_failing(
     cycle: u32,
 ) -> Result<Option<Window>, Memory>
     requires positive { 0 < cycle }
-    requires cycle { cycle ≤ 4096 }
+    requires cycle { cycle ≤ SLOT_LIMIT }
     requires within { All (λ (j : Job). j.dl ≤ cycle) jobs.now }
     requires few { sum_by (λ (j : Job). j.declared) jobs.now ≤ cycle }
     requires ordered { IsNonDecreasingBy (λ (j : Job). j.est) jobs.now }
-    ensures { IfOk result
-        (λ w. w ≡ first_some (first_failing_from jobs.now sporadics.now cycle) (range_with_len 0 cycle)) }
+    ensures { IfOk result (λ w. w ≡ first_some
+        (first_failing_from jobs.now sporadics.now cycle) (range_with_len 0 cycle)) }
 {
     let mut due = due_table(alloc, jobs, cycle)?;
     let needed = needed_table(alloc, sporadics, 2 * cycle)?;
     let arrivals = needed.items();
-    let mut passed = 0;
+    let mut rest = jobs;
     for from in 0..cycle {
         let failing = failing_from(due.as_slice(), arrivals, from as usize);
         if failing.is_some() {
             return Ok(failing);
         }
-        passed = leave(&mut due, jobs, passed, from);
+        let (started, later) = rest.split_at(count_started(rest, from));
+        take_out(&mut due, started);
+        rest = later;
     }
     Ok(None)
 }

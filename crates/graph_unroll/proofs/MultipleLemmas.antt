@@ -11,7 +11,7 @@ use Rattle.std.proofs.Math.Nat.{le-mul_of_pos_right}
 use Rattle.slot_core.specs.declared.TheConstants.{SLOT_LIMIT}
 use Rattle.slot_core.specs.Cycles.{least_common_multiple, first_multiple_above}
 use Rattle.slot_core.specs.Ranges.{is_between}
-use Rattle.slot_core.proofs.RangeFacts.{bounds}
+use Rattle.slot_facts.proofs.Sets.Ranges.{bounds}
 use Rattle.graph_unroll.proofs.RangeLemmas.{list_all_get_or}
 use Rattle.graph_unroll.specs.Multiples.{multiple_along, times_to_common, is_common, within_limit}
 

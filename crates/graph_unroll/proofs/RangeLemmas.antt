@@ -11,7 +11,7 @@ use Rattle.slot_core.specs.declared.tasks.Sporadic.{Sporadic}
 use Rattle.slot_core.specs.declared.tasks.TaskSet.{TaskSet}
 use Rattle.slot_core.specs.Cycles.{cycle_lengths}
 use Rattle.slot_core.specs.Ranges.{is_between, is_in_range, graph_in_range, sporadic_in_range}
-use Rattle.slot_core.proofs.RangeFacts.{GraphRanges-from_test, SporadicRanges-from_test, SetRanges-from_test}
+use Rattle.slot_facts.proofs.Sets.Ranges.{GraphRanges-from_test, SporadicRanges-from_test, SetRanges-from_test}
 use Rattle.graph_unroll.specs.Multiples.{periods_of, separations_of}
 
 -- a test that holds along a list holds at each item

@@ -18,14 +18,15 @@ is_common multiple length times = (multiple * times) % length == 0
 
 -- the least such number of times
 abbrev pub times_to_common : ℕ → ℕ → ℕ
-times_to_common multiple length = unwrap_or (find (is_common multiple length) (range_with_len 1 length)) length
+times_to_common multiple length =
+    unwrap_or (find (is_common multiple length) (range_with_len 1 length)) length
 
 -- the multiple, where it is within the limit
 abbrev pub within_limit : ℕ → Result ℕ ℕ
 within_limit multiple = if nat_lt SLOT_LIMIT multiple then Err multiple else Ok multiple
 
--- the least multiple of the first number and all lengths, or the running multiple at the first place where
--- it is above the limit
+-- the least multiple of the first number and all lengths, or the running multiple at the first
+-- place where it is above the limit
 abbrev pub multiple_along : ℕ → List ℕ → Result ℕ ℕ
 multiple_along multiple [] = Ok multiple
 multiple_along multiple (n ∷ ns) =

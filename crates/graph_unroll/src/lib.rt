@@ -14,13 +14,15 @@ mod tests;
 use slot_core::{Graph, Key, Memory, RawJob, SLOT_LIMIT, Sporadic, TaskSet};
 use std::alloc::Global;
 
-/// The cycle in slots: the least common multiple of all periods and separations. Where it is above 4096,
-/// the error is the running multiple (graphs in order, then sporadic tasks) at the first place where it is.
+/// The cycle in slots: the least common multiple of all periods and separations. Where it is above
+/// `SLOT_LIMIT`, the error is the running multiple (graphs in order, then sporadic tasks) at the
+/// first place where it is.
 pub fn cycle_of(tasks: &TaskSet) -> Result<u32, u64>
     requires { list_all (is_between 1 SLOT_LIMIT) (cycle_lengths tasks.now) ≡ true }
     ensures cycle { IfOk result (λ n. n ≡ cycle_of tasks.now) }
     ensures exact { IsOk result ↔ (cycle_of tasks.now ≤ SLOT_LIMIT) }
-    ensures multiple { IfErr result (λ n. first_multiple_above SLOT_LIMIT 1 (cycle_lengths tasks.now) ≡ Some n) }
+    ensures multiple { IfErr result (λ n.
+        first_multiple_above SLOT_LIMIT 1 (cycle_lengths tasks.now) ≡ Some n) }
 {
     let cycle = multiple_of_lengths(tasks)?;
     Ok(cycle as u32)
@@ -60,7 +62,7 @@ fn multiple_with_separations(first: u64, sporadics: &[Sporadic]) -> Result<u64, 
     Ok(multiple)
 }
 
-/// The least common multiple, where it is at most 4096.
+/// The least common multiple, where it is at most `SLOT_LIMIT`.
 fn common_multiple(multiple: u64, length: u32) -> Result<u64, u64>
     requires multiple { is_between 1 SLOT_LIMIT multiple ≡ true }
     requires length { is_between 1 SLOT_LIMIT length ≡ true }
@@ -106,7 +108,8 @@ pub fn unroll(alloc: Global, tasks: &TaskSet) -> Result<Vec<RawJob>, Memory>
 fn push_graph(jobs: &mut Vec<RawJob>, index: u16, graph: &Graph, cycle: u32) -> Result<(), Memory>
     requires cycle { cycle ≤ SLOT_LIMIT }
     requires graph { graph_in_range graph.now ≡ true }
-    ensures { OnOk result (jobs.new.items ≡ jobs.old.items ++ graph_jobs cycle 0 (index, graph.now)) }
+    ensures { OnOk result
+        (jobs.new.items ≡ jobs.old.items ++ graph_jobs cycle 0 (index, graph.now)) }
 {
     for instance in 0..cycle / graph.period {
         push_instance(jobs, index, graph, u64::from(instance))?;
@@ -123,7 +126,8 @@ fn push_instance(
 ) -> Result<(), Memory>
     requires instance { instance ≤ SLOT_LIMIT }
     requires graph { graph_in_range graph.now ≡ true }
-    ensures { OnOk result (jobs.new.items ≡ jobs.old.items ++ instance_jobs index graph.now instance) }
+    ensures { OnOk result
+        (jobs.new.items ≡ jobs.old.items ++ instance_jobs index graph.now instance) }
 {
     let release = instance * u64::from(graph.period) + u64::from(graph.offset);
     let deadline = release + u64::from(graph.deadline);

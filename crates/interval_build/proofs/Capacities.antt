@@ -29,7 +29,7 @@ work_splits (j ∷ jobs) s e x l m =
     let first : work_of_first s x j ≡ work_of_first s e j + work_of_first e x j = first_splits j.left j.dl s e x l m in
     omega (arith, work_between-cons s x j jobs, work_between-cons s e j jobs, work_between-cons e x j jobs)
 
-no_work : (jobs : List Job) (e x next : ℕ) → x < next → NoneBetween jobs e next → work_between jobs e x ≡ 0
+pub no_work : (jobs : List Job) (e x next : ℕ) → x < next → NoneBetween jobs e next → work_between jobs e x ≡ 0
 no_work [] e x next l h = refl
 no_work (j ∷ jobs) e x next l h =
     let more : work_between jobs e x ≡ 0 = no_work jobs e x next l h.1 in
@@ -37,7 +37,7 @@ no_work (j ∷ jobs) e x next l h =
     omega (arith, work_between-cons e x j jobs)
 
 -- so is the slack
-slack_splits : (jobs : List Job) (s e x : ℕ) → s ≤ e → e ≤ x → slack jobs s x ≡ slack jobs s e +ℤ slack jobs e x
+pub slack_splits : (jobs : List Job) (s e x : ℕ) → s ≤ e → e ≤ x → slack jobs s x ≡ slack jobs s e +ℤ slack jobs e x
 slack_splits jobs s e x l m =
     let work : work_between jobs s x ≡ work_between jobs s e + work_between jobs e x = work_splits jobs s e x l m in
     omega (arith, ints)

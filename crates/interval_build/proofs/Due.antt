@@ -1,15 +1,13 @@
 -- In deadline order the jobs due by an end stand at the front.
 use Rattle.std.proofs.Common.{◌≡◌, ℕ, zero, suc, ◌+◌, ◌<◌, ◌≤◌, Bool, true, ◌&&◌, cond, List, [], ◌∷◌, take, drop, filter, sum_by, nat_le, nat_lt, refl, sym, ◌∙◌, ap, ⊎_elim, zero-add, arith}
 use Rattle.std.specs.List.{AllByRecursion, prefix_len}
-use Rattle.std.specs.Ordering.{nat_cmp, ordering_then, is_lt}
-use Rattle.std.specs.declared.cmp.Ordering.{Ordering}
 use Rattle.std.proofs.lemmas.Bool.{cases_lt, cond_both, le-leb, lt-leb, lt-ltb, le-ltb}
-use Rattle.std.proofs.lemmas.Bool.Decides.{nat_tests}
 use Rattle.std.proofs.lemmas.List.Sums.{sum_by-cons, sum_by-le-sum_by}
 use Rattle.slot_core.specs.declared.jobs.Job.{Job}
 use Rattle.slot_core.specs.Keys.{is_earlier}
 use Rattle.slot_core.specs.Plans.{AreInDeadlineOrder}
 use Rattle.slot_core.specs.Demand.{work_between}
+use Rattle.slot_facts.proofs.Plans.DeadlineOrder.{is_earlier-le}
 
 abbrev pub is_due_by : ℕ → Job → Bool
 is_due_by e job = nat_le job.dl e
@@ -19,13 +17,6 @@ is_due_after s job = nat_lt s job.dl
 
 abbrev pub left_of : Job → ℕ
 left_of job = job.left
-
-first_le : (x y : ℕ) (o : Ordering) → is_lt (ordering_then (nat_cmp x y) o) ≡ true → x ≤ y
-first_le x y o h = grind (arith, nat_tests)
-
--- a job that goes before another is due no later
-pub is_earlier-le : (a b : Job) → is_earlier a b ≡ true → a.dl ≤ b.dl
-is_earlier-le a b h = first_le a.dl b.dl _ h
 
 -- jobs that are due after e
 abbrev pub AreDueAfter : ℕ → List Job → Type 0

@@ -8,9 +8,9 @@ use Rattle.slot_core.specs.declared.jobs.Job.{Job}
 use Rattle.slot_core.specs.declared.jobs.Span.{Span}
 use Rattle.slot_core.specs.Demand.{work_between}
 use Rattle.slot_core.specs.Spans.{slack, spans_between}
-use Rattle.slot_core.proofs.ListMembers.{Has, Has-from_Contains}
+use Rattle.slot_facts.proofs.Lists.Members.{Has, Has-from_Contains}
 use Rattle.spare_capacity.specs.Recurrence.{filled, first_spare, FollowOn, AreConsecutive}
-use Rattle.interval_build.specs.Ends.{AreRising, last_end}
+use Rattle.slot_core.specs.Rising.{AreRising, last_point}
 use Rattle.interval_build.specs.Rows.{rows_between}
 use Rattle.interval_build.proofs.Due.{left_of, work_between-le}
 use Rattle.interval_build.proofs.Capacities.{NoneBetween, capacity_before, capacity_of_last}
@@ -33,10 +33,10 @@ Has-above s (e ∷ ends) x rising h =
     (λ among. let above : e < x = Has-above e ends x rising.1 among in omega (arith, rising.0))
     h
 
-pub last_end-above : (s : ℕ) (ends : List ℕ) → AreRising s ends → s ≤ last_end s ends
-last_end-above s [] rising = omega arith
-last_end-above s (e ∷ ends) rising =
-    let above : e ≤ last_end e ends = last_end-above e ends rising.1 in
+pub last_point-above : (s : ℕ) (ends : List ℕ) → AreRising s ends → s ≤ last_point s ends
+last_point-above s [] rising = omega arith
+last_point-above s (e ∷ ends) rising =
+    let above : e ≤ last_point e ends = last_point-above e ends rising.1 in
     omega (arith, rising.0)
 
 -- the jobs of the ends are due after the start
@@ -63,26 +63,26 @@ spans_cons : (s e work : ℕ) (y z : ℤ) (xs ys : List Span) → y ≡ z → xs
 spans_cons s e work y z xs ys p q = cc
 
 -- the rows, filled, are the spans
-pub filled-rows_between : (jobs : List Job) (s : ℕ) (ends : List ℕ) → AreRising s ends → AreDueAt jobs s ends → filled (rows_between jobs s ends) ≡ spans_between jobs (last_end s ends) s ends
+pub filled-rows_between : (jobs : List Job) (s : ℕ) (ends : List ℕ) → AreRising s ends → AreDueAt jobs s ends → filled (rows_between jobs s ends) ≡ spans_between jobs (last_point s ends) s ends
 filled-rows_between jobs s [] rising due = refl
 filled-rows_between jobs s (e ∷ []) rising due =
     spans_cons s e (work_between jobs s e) _ _ [] [] (add_zero (slack jobs s e) ∙ sym (capacity_of_last jobs s e)) refl
 filled-rows_between jobs s (e ∷ (next ∷ ends)) rising due =
-    let last = last_end next ends in
+    let last = last_point next ends in
     let due_next = AreDueAt-next jobs s e (next ∷ ends) rising.0 due in
     let rest : filled (rows_between jobs e (next ∷ ends)) ≡ spans_between jobs last e (next ∷ ends) = filled-rows_between jobs e (next ∷ ends) rising.1 due_next in
     let none = NoneBetween-ends jobs e next ends rising.1.1 due_next in
-    let spare = capacity_before jobs s e next last (omega (arith, rising.0)) rising.1.0 (last_end-above next ends rising.1.1) none in
+    let spare = capacity_before jobs s e next last (omega (arith, rising.0)) rising.1.0 (last_point-above next ends rising.1.1) none in
     spans_cons s e (work_between jobs s e) _ _ _ _ (ap (λ xs. slack jobs s e +ℤ int_min (pos 0) (first_spare xs)) rest ∙ sym spare) rest
 
 -- rows between ends that rise are consecutive
-FollowOn-rows_between : (jobs : List Job) (s : ℕ) (ends : List ℕ) → AreRising s ends → last_end s ends ≤ 2 ^ 40 → sum_by left_of jobs ≤ 2 ^ 40 → FollowOn s (rows_between jobs s ends)
+pub FollowOn-rows_between : (jobs : List Job) (s : ℕ) (ends : List ℕ) → AreRising s ends → last_point s ends ≤ 2 ^ 40 → sum_by left_of jobs ≤ 2 ^ 40 → FollowOn s (rows_between jobs s ends)
 FollowOn-rows_between jobs s [] rising near small = tt
 FollowOn-rows_between jobs s (e ∷ ends) rising near small =
-    let above : e ≤ last_end e ends = last_end-above e ends rising.1 in
-    (refl, rising.0, omega arith, omega (arith, work_between-le jobs s e), FollowOn-rows_between jobs e ends rising.1 near small)
+    let above : e ≤ last_point e ends = last_point-above e ends rising.1 in
+    (refl, omega (arith, rising.0), omega arith, omega (arith, work_between-le jobs s e), FollowOn-rows_between jobs e ends rising.1 near small)
 
-pub AreConsecutive-rows_between : (jobs : List Job) (s : ℕ) (ends : List ℕ) → AreRising s ends → last_end s ends ≤ 2 ^ 40 → sum_by left_of jobs ≤ 2 ^ 40 → AreConsecutive (rows_between jobs s ends)
+pub AreConsecutive-rows_between : (jobs : List Job) (s : ℕ) (ends : List ℕ) → AreRising s ends → last_point s ends ≤ 2 ^ 40 → sum_by left_of jobs ≤ 2 ^ 40 → AreConsecutive (rows_between jobs s ends)
 AreConsecutive-rows_between jobs s [] rising near small = tt
 AreConsecutive-rows_between jobs s (e ∷ ends) rising near small = FollowOn-rows_between jobs s (e ∷ ends) rising near small
 

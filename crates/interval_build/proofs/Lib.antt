@@ -1,5 +1,10 @@
 pub mod Capacities
 pub mod Due
 pub mod Filled
+pub mod FirstJobFacts
 pub mod Least
+pub mod OneCycle
+pub mod PlanSpans
+pub mod RisingEnds
 pub mod RowSteps
+pub mod SpansOfCycle

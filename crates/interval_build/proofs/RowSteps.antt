@@ -4,7 +4,7 @@ use Rattle.std.proofs.lemmas.List.{drop_more}
 use Rattle.slot_core.specs.declared.jobs.Job.{Job}
 use Rattle.slot_core.specs.declared.jobs.Span.{Span}
 use Rattle.slot_core.specs.Demand.{work_between}
-use Rattle.interval_build.specs.Ends.{AreRising}
+use Rattle.slot_core.specs.Rising.{AreRising}
 use Rattle.interval_build.specs.Rows.{rows_between}
 
 -- ends that rise from a time on: the next is above it, and the others rise from that one

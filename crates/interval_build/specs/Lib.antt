@@ -1,2 +1,3 @@
-pub mod Ends
+pub mod CycleSpans
+pub mod FirstJobs
 pub mod Rows

@@ -8,4 +8,5 @@ use Rattle.slot_core.specs.Demand.{work_between}
 abbrev pub rows_between : List Job → ℕ → List ℕ → List Span
 rows_between jobs s [] = []
 rows_between jobs s (e ∷ ends) =
-    record { start = s; end = e; work = work_between jobs s e; spare = pos 0 } ∷ rows_between jobs e ends
+    record { start = s; end = e; work = work_between jobs s e; spare = pos 0 }
+    ∷ rows_between jobs e ends

@@ -1,9 +1,9 @@
-//! Spans of a set whose jobs borrow from the spans before them.
+//! Spans of jobs that borrow from the spans before them, and of a cycle with stretches without jobs.
 
 ghost use Rattle.std.specs.Prelude.{◌≡◌};
-ghost use Rattle.slot_core.specs.declared.jobs.Key.TheVariants.{Firm};
+ghost use Rattle.slot_core.specs.declared.jobs.Key.TheVariants.{Firm, Offline};
 
-use crate::spans_until;
+use crate::{build, spans_until};
 use slot_core::{Job, Key};
 use std::test::Fail;
 
@@ -40,6 +40,30 @@ fn job(row: u32, dl: u64, left: u32) -> Job
     Job {
         key: Key::Firm(row),
         est: 0,
+        dl,
+        left,
+        declared: left,
+    }
+}
+
+#[test]
+fn builds_the_spans_of_a_cycle(rt: HostRuntime) -> Result<(), Fail> {
+    let spans = build(rt.alloc(), &[job_within(2, 5, 2)], 6)?;
+    let rows = [(0, 2, 0, 2), (2, 5, 2, 1), (5, 6, 0, 1)];
+    assert_eq!(rt; spans.len(), rows.len());
+    for (span, want) in spans.iter().zip(&rows) {
+        assert_eq!(rt; (span.start, span.end, span.work, span.spare), *want);
+    }
+    Ok(())
+}
+
+/// The first job of the first task.
+fn job_within(est: u64, dl: u64, left: u32) -> Job
+    ensures { result ≡ record { key = Offline 0 0 0; est = est; dl = dl; left = left; declared = left } }
+{
+    Job {
+        key: Key::Offline(0, 0, 0),
+        est,
         dl,
         left,
         declared: left,

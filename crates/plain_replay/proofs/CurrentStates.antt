@@ -14,17 +14,17 @@ use Rattle.slot_core.specs.Keys.{key_order, deadline_order}
 use Rattle.slot_core.specs.Histories.{time_of}
 use Rattle.slot_core.specs.Plans.{PlanParts, IsPlan}
 use Rattle.slot_core.specs.Scenes.{remaining, horizon}
-use Rattle.slot_core.specs.Traces.{ran_entry}
-use Rattle.slot_core.proofs.ListMembers.{Has, AllByRecursion-from_Has}
-use Rattle.slot_core.proofs.ChoiceLemmas.{same_from_order, job_cmp, job_cmp_total}
-use Rattle.slot_core.proofs.KeptHistories.{ran_of, entry-quiet}
+use Rattle.slot_core.specs.Traces.{told_of_slot}
+use Rattle.slot_facts.proofs.Lists.Members.{Has, AllByRecursion-from_Has}
+use Rattle.slot_facts.proofs.Choice.Earliest.{same_from_order, job_cmp, job_cmp_total}
+use Rattle.plain_replay.proofs.QuietHistories.{ran_of, entry-quiet}
 use Rattle.plain_replay.specs.Current.{IsCurrent}
 use Rattle.plain_replay.specs.States.{ReplayState, first_ready}
 use Rattle.plain_replay.specs.Told.{history_at, entry_at}
 use Rattle.plain_replay.proofs.FirstReady.{first-chosen}
-use Rattle.plain_replay.proofs.RunSteps.{AreApart, AreApart-from_order}
-use Rattle.slot_core.proofs.SameItems.{passes-same, all-same, same-sym}
-use Rattle.plain_replay.proofs.SetPoints.{feasible-from_plan, is_plan_point}
+use Rattle.slot_facts.proofs.Choice.Runs.{AreApart, AreApart-from_order}
+use Rattle.slot_facts.proofs.Lists.SameItems.{passes-same, all-same, same-sym}
+use Rattle.slot_facts.proofs.Plans.SetPoints.{feasible-from_plan, is_plan_point}
 use Rattle.plain_replay.proofs.SlotHistories.{IsOffline, time_of-history_at, quiet-history_at, IsWaiting, waiting-remaining, one_due-remaining}
 
 pub offline-from_plan : (plan : PlanParts) → IsPlan plan → plan.tasks.sporadics ≡ [] → IsOffline plan.tasks
@@ -71,9 +71,9 @@ some_left-current set state offline current =
     AllByRecursion-from_Has (λ (j : Job). 1 ≤ j.left) state.jobs (λ job at. (waiting-current set state job offline current at).some)
 
 -- the first job of the list that may run is the one that runs
-pub entry-current : (set : TaskSet) (state : ReplayState) → IsOffline set → IsCurrent set state → entry_at set state.time ≡ ran_entry (first_ready state.time state.jobs)
+pub entry-current : (set : TaskSet) (state : ReplayState) → IsOffline set → IsCurrent set state → entry_at set state.time ≡ told_of_slot (first_ready state.time state.jobs)
 unfolding entry_at
 entry-current set state offline current =
     let h = history_at set state.time in
     let at : time_of h ≡ state.time = time_of-history_at set state.time in
-    entry-quiet set h (quiet-history_at set state.time offline) ∙ ap ran_entry (ap (λ t. ran_of (earliest (ready t (remaining set (cycle_of set) h)))) at ∙ first-chosen state.time (remaining set (cycle_of set) h) state.jobs current.jobs current.ordered)
+    entry-quiet set h (quiet-history_at set state.time) ∙ ap told_of_slot (ap (λ t. ran_of (earliest (ready t (remaining set (cycle_of set) h)))) at ∙ first-chosen state.time (remaining set (cycle_of set) h) state.jobs current.jobs current.ordered)

@@ -2,13 +2,11 @@ pub mod CurrentSpans
 pub mod CurrentStates
 pub mod CycleOrder
 pub mod FirstReady
-pub mod FirstSpans
 pub mod NextStates
-pub mod PlanItems
 pub mod PointSteps
+pub mod QuietHistories
 pub mod ReplayParts
 pub mod RunSteps
-pub mod SetPoints
 pub mod SlotHistories
 pub mod SlotSteps
 pub mod SlotUsed

@@ -1,50 +1,49 @@
 -- The state of a replay is current before the first slot, and every slot keeps it so.
-use Rattle.std.proofs.Common.{◌≡◌, ℕ, suc, ◌+◌, ◌-◌, ◌*◌, ◌/◌, ◌%◌, ◌<◌, ◌≤◌, true, false, cond, List, [], ◌∷◌, ◌++◌, add-one, eq-eqb, ne_eqb, refl, sym, ap, ap₂, subst, ◌∙◌, ◌⊎◌, inl, inr, arith}
+use Rattle.std.proofs.Common.{◌≡◌, ℕ, suc, ◌+◌, ◌-◌, ◌*◌, ◌/◌, ◌%◌, ◌≤◌, true, false, cond, List, [], ◌∷◌, ◌++◌, add-one, eq-eqb, ne_eqb, refl, sym, ap, ap₂, subst, ◌∙◌, arith}
 use Rattle.std.specs.Prelude.{◌==◌}
-use Rattle.std.proofs.lemmas.Bool.{cases_lt}
-use Rattle.std.proofs.lemmas.Nat.{div-add-mod', div-mul-add, mod-mul-add, mod_below}
 use Rattle.slot_core.specs.declared.jobs.Job.{Job}
 use Rattle.slot_core.specs.declared.tasks.TaskSet.{TaskSet}
-use Rattle.slot_core.specs.declared.events.Ran.{Ran}
-use Rattle.slot_core.specs.declared.events.Ran.TheVariants.{Idle as RanIdle, Key as RanKey}
 use Rattle.slot_core.specs.Cycles.{cycle_of}
 use Rattle.slot_core.specs.OfflineJobs.{cycle_jobs, offline_jobs}
 use Rattle.slot_core.specs.Plans.{PlanParts, IsPlan}
 use Rattle.slot_core.specs.Scenes.{unended, remaining, horizon, points_of}
-use Rattle.slot_core.specs.Steps.{after_slot}
-use Rattle.slot_core.proofs.ListMembers.{AllByRecursion-from_Has}
-use Rattle.slot_core.proofs.OfflineJobLemmas.{cycle-positive}
-use Rattle.cycle_plan.proofs.PlanSpans.{remaining-start, points_of-start}
-use Rattle.cycle_plan.proofs.RangeFilters.{filter-parts}
+use Rattle.slot_core.specs.Safety.{after_slot}
+use Rattle.slot_facts.proofs.Lists.Members.{AllByRecursion-from_Has}
+use Rattle.slot_facts.proofs.Offline.Jobs.{cycle-positive}
+use Rattle.slot_facts.proofs.Histories.Unended.{remaining-start, unended-after_slot, unended-append}
+use Rattle.slot_facts.proofs.Plans.SetPoints.{points_of-start, points_from, is_plan_point}
+use Rattle.plain_replay.proofs.QuietHistories.{points_of-quiet}
+use Rattle.slot_facts.proofs.Lists.RangeFilters.{filter-parts}
 use Rattle.slot_core.specs.Matches.{HaveSameItems}
 use Rattle.plain_replay.specs.Current.{IsCurrent}
-use Rattle.plain_replay.specs.States.{ReplayState, first_ready, after_first, ends_after, jobs_in_cycle, ends_in_cycle, with_cycle, first_state, with_next_cycle, state_after, next_state}
+use Rattle.plain_replay.specs.States.{ReplayState, first_ready, after_first, points_after, jobs_in_cycle, points_in_cycle, with_cycle, first_state, with_next_cycle, state_after, next_state}
 use Rattle.plain_replay.specs.Told.{history_at, entry_at}
 use Rattle.plain_replay.proofs.CurrentStates.{waiting-current, apart-current, some_left-current, entry-current, offline-from_plan}
-use Rattle.plain_replay.proofs.CycleOrder.{IsUpTo, with_cycle-ordered, jobs_in_cycle-same}
-use Rattle.plain_replay.proofs.PointSteps.{points_from, ends_after-points}
+use Rattle.slot_facts.proofs.Plans.DeadlineOrder.{IsUpTo}
+use Rattle.plain_replay.proofs.CycleOrder.{with_cycle-ordered, jobs_in_cycle-same}
+use Rattle.plain_replay.proofs.PointSteps.{points_after-slot, points_in_cycle-planned}
 use Rattle.plain_replay.proofs.RunSteps.{after_first-all, after_first-ordered, after_first-run}
-use Rattle.slot_core.proofs.SameItems.{same-append, same-after_run}
-use Rattle.plain_replay.proofs.SetPoints.{is_plan_point, points_of-quiet, ends_in_cycle-points}
-use Rattle.plain_replay.proofs.SlotHistories.{IsOffline, time_of-history_at, quiet-history_at, remaining-history_at, cycles_at, unended-after_slot, unended-next_cycle, unended-append}
+use Rattle.slot_facts.proofs.Lists.SameItems.{same-append, same-after_slot}
+use Rattle.plain_replay.proofs.SlotHistories.{IsOffline, time_of-history_at, quiet-history_at, remaining-history_at, cycles_at, unended-next_cycle}
+use Rattle.slot_facts.proofs.Plans.Horizons.{turn, inside, NextSlot, next_slot, past_now, further_now}
 
--- the points up to the start of cycle n, with the ends of the plan's spans in it
-with_cycle-ends : (plan : PlanParts) (n a m : ℕ) (ends : List ℕ) → IsPlan plan → a + m ≡ 1 + n * cycle_of plan.tasks → ends ≡ points_from (is_plan_point plan.tasks) a m → ends ++ ends_in_cycle plan n ≡ points_from (is_plan_point plan.tasks) a (m + cycle_of plan.tasks)
-with_cycle-ends plan n a m ends is_plan at same =
-    ap₂ (λ xs ys. xs ++ ys) same (ends_in_cycle-points plan n (a + m) is_plan at) ∙ sym (filter-parts (is_plan_point plan.tasks) a (a + m) m (cycle_of plan.tasks) (m + cycle_of plan.tasks) refl refl)
+-- the points up to the start of cycle n, with those of the plan's spans in it
+with_cycle-points : (plan : PlanParts) (n a m : ℕ) (points : List ℕ) → IsPlan plan → a + m ≡ 1 + n * cycle_of plan.tasks → points ≡ points_from (is_plan_point plan.tasks) a m → points ++ points_in_cycle plan n ≡ points_from (is_plan_point plan.tasks) a (m + cycle_of plan.tasks)
+with_cycle-points plan n a m points is_plan at same =
+    ap₂ (λ xs ys. xs ++ ys) same (points_in_cycle-planned plan n (a + m) is_plan at) ∙ sym (filter-parts (is_plan_point plan.tasks) a (a + m) m (cycle_of plan.tasks) (m + cycle_of plan.tasks) refl refl)
 
 -- before the first slot
 three_cycles : (set : TaskSet) → IsOffline set → remaining set (cycle_of set) (history_at set 0) ≡ [] ++ cycle_jobs set (cycle_of set) 0 ++ cycle_jobs set (cycle_of set) 1 ++ cycle_jobs set (cycle_of set) 2
 unfolding history_at
 three_cycles set offline = remaining-start set offline.sound
 
-first_ends : (plan : PlanParts) → IsPlan plan → (first_state plan).ends ≡ points_of plan.tasks (cycle_of plan.tasks) (history_at plan.tasks 0)
+first_points : (plan : PlanParts) → IsPlan plan → (first_state plan).points ≡ points_of plan.tasks (cycle_of plan.tasks) (history_at plan.tasks 0)
 unfolding history_at
-first_ends plan is_plan =
+first_points plan is_plan =
     let cycle = cycle_of plan.tasks in
-    let one = with_cycle-ends plan 0 1 0 [] is_plan (omega arith) refl in
-    let two = with_cycle-ends plan 1 1 (0 + cycle) ([] ++ ends_in_cycle plan 0) is_plan (omega arith) one in
-    let three = with_cycle-ends plan 2 1 (0 + cycle + cycle) ([] ++ ends_in_cycle plan 0 ++ ends_in_cycle plan 1) is_plan (omega arith) two in
+    let one = with_cycle-points plan 0 1 0 [] is_plan (omega arith) refl in
+    let two = with_cycle-points plan 1 1 (0 + cycle) ([] ++ points_in_cycle plan 0) is_plan (omega arith) one in
+    let three = with_cycle-points plan 2 1 (0 + cycle + cycle) ([] ++ points_in_cycle plan 0 ++ points_in_cycle plan 1) is_plan (omega arith) two in
     three ∙ sym (points_of-start plan.tasks (0 + cycle + cycle + cycle) (omega arith))
 
 pub IsCurrent-first : (plan : PlanParts) → IsPlan plan → plan.tasks.sporadics ≡ [] → IsCurrent plan.tasks (first_state plan)
@@ -63,36 +62,8 @@ IsCurrent-first plan is_plan none =
     record {
       jobs = subst (λ js. HaveSameItems js (first_state plan).jobs) (sym (three_cycles plan.tasks (offline-from_plan plan is_plan none))) three;
       ordered = up_to_3.ordered;
-      ends = first_ends plan is_plan;
+      points = first_points plan is_plan;
     }
-
--- the next slot starts a cycle, or lies in the same cycle as this one
-data NextSlot (t cycle : ℕ) : Type 0 where
-  turn : suc t % cycle ≡ 0 → suc t / cycle ≡ suc (t / cycle) → suc t ≡ suc (t / cycle) * cycle → NextSlot t cycle
-  inside : (suc t % cycle ≡ 0 → ⊥) → suc t / cycle ≡ t / cycle → NextSlot t cycle
-
-next_slot : (t cycle : ℕ) → 1 ≤ cycle → NextSlot t cycle
-next_slot t cycle some = by_order (cases_lt (suc (t % cycle)) cycle)
-  where
-    by_order : (suc (t % cycle) < cycle) ⊎ (cycle ≤ suc (t % cycle)) → NextSlot t cycle
-    by_order (inl lt) =
-        let split : suc t ≡ t / cycle * cycle + suc (t % cycle) = omega (arith, div-add-mod' t cycle) in
-        let rest : suc t % cycle ≡ suc (t % cycle) = ap (λ n. n % cycle) split ∙ mod-mul-add (t / cycle) cycle (suc (t % cycle)) lt in
-        inside
-        (λ e. absurd (omega arith))
-        (ap (λ n. n / cycle) split ∙ div-mul-add (t / cycle) cycle (suc (t % cycle)) lt)
-    by_order (inr ge) =
-        let whole : suc t ≡ suc (t / cycle) * cycle = omega (arith, div-add-mod' t cycle, mod_below t cycle some) in
-        let split : suc t ≡ suc (t / cycle) * cycle + 0 = omega arith in
-        turn
-        (ap (λ n. n % cycle) split ∙ mod-mul-add (suc (t / cycle)) cycle 0 some)
-        (ap (λ n. n / cycle) split ∙ div-mul-add (suc (t / cycle)) cycle 0 some)
-        whole
-
--- what is the same up to order stays so in a slot
-same-after_slot : (ran : Ran) (xs ys : List Job) → HaveSameItems xs ys → HaveSameItems (after_slot ran xs) (after_slot ran ys)
-same-after_slot RanIdle xs ys same = same
-same-after_slot (RanKey key) xs ys same = same-after_run key xs ys same
 
 -- the jobs after a slot, of the cycles that counted before it
 slot-jobs : (set : TaskSet) (state : ReplayState) → IsOffline set → IsCurrent set state → HaveSameItems (unended (history_at set (suc state.time)) (offline_jobs set (cycle_of set) (cycles_at set state.time))) (after_first state.time state.jobs)
@@ -121,42 +92,34 @@ slot-ordered set state offline current =
 -- the points after a time, by the test for one
 pub points-history_at : (set : TaskSet) (t : ℕ) → IsOffline set → points_of set (cycle_of set) (history_at set t) ≡ points_from (is_plan_point set) (t + 1) (horizon (cycle_of set) t - t)
 points-history_at set t offline =
-    points_of-quiet set (history_at set t) (quiet-history_at set t offline) ∙ ap (λ n. points_from (is_plan_point set) (n + 1) (horizon (cycle_of set) n - n)) (time_of-history_at set t)
+    points_of-quiet set (history_at set t) (quiet-history_at set t) ∙ ap (λ n. points_from (is_plan_point set) (n + 1) (horizon (cycle_of set) n - n)) (time_of-history_at set t)
 
 -- those after a slot, up to the horizon before it
-pub past_now : (t cycle : ℕ) → 1 ≤ cycle → t < horizon cycle t
-past_now t cycle some = omega (arith, div-add-mod' t cycle, mod_below t cycle some)
-
-slot-ends : (set : TaskSet) (state : ReplayState) → IsOffline set → IsCurrent set state → ends_after (suc state.time) state.ends ≡ points_from (is_plan_point set) (suc state.time + 1) (horizon (cycle_of set) state.time - suc state.time)
-slot-ends set state offline current =
+slot-points : (set : TaskSet) (state : ReplayState) → IsOffline set → IsCurrent set state → points_after (suc state.time) state.points ≡ points_from (is_plan_point set) (suc state.time + 1) (horizon (cycle_of set) state.time - suc state.time)
+slot-points set state offline current =
     let t = state.time in
     let count = horizon (cycle_of set) state.time - suc state.time in
     let later : horizon (cycle_of set) state.time - state.time ≡ suc (horizon (cycle_of set) state.time - suc state.time) = omega (arith, past_now state.time (cycle_of set) (cycle-positive set offline.sound)) in
-    let before : state.ends ≡ points_from (is_plan_point set) (suc state.time) (suc count) = current.ends ∙ (points-history_at set t offline ∙ ap₂ (points_from (is_plan_point set)) (add-one state.time) later) in
-    ap (ends_after (suc t)) before ∙ ends_after-points (is_plan_point set) (suc t) count
+    let before : state.points ≡ points_from (is_plan_point set) (suc state.time) (suc count) = current.points ∙ (points-history_at set t offline ∙ ap₂ (points_from (is_plan_point set)) (add-one state.time) later) in
+    ap (points_after (suc t)) before ∙ points_after-slot (is_plan_point set) (suc t) count
 
 -- the state after a slot is current, where the slot after it lies in the same cycle
-IsCurrent-inside : (plan : PlanParts) (state : ReplayState) → IsOffline plan.tasks → IsCurrent plan.tasks state → suc state.time / cycle_of plan.tasks ≡ state.time / cycle_of plan.tasks → IsCurrent plan.tasks (record { time = suc state.time; jobs = after_first state.time state.jobs; ends = ends_after (suc state.time) state.ends })
+IsCurrent-inside : (plan : PlanParts) (state : ReplayState) → IsOffline plan.tasks → IsCurrent plan.tasks state → suc state.time / cycle_of plan.tasks ≡ state.time / cycle_of plan.tasks → IsCurrent plan.tasks (record { time = suc state.time; jobs = after_first state.time state.jobs; points = points_after (suc state.time) state.points })
 IsCurrent-inside plan state offline current same_cycle =
     let set = plan.tasks in
     let t = state.time in
     let cycle = cycle_of plan.tasks in
     let h = history_at plan.tasks (suc state.time) in
     let jobs : remaining set cycle h ≡ unended h (offline_jobs set cycle (cycles_at set t)) = remaining-history_at set (suc t) offline ∙ ap (λ d. unended h (offline_jobs set cycle (d + 3))) same_cycle in
-    let ends : points_of set cycle h ≡ points_from (is_plan_point set) (suc t + 1) (horizon cycle t - suc t) = points-history_at set (suc t) offline ∙ ap (λ d. points_from (is_plan_point set) (suc t + 1) ((d + 3) * cycle - suc t)) same_cycle in
+    let points : points_of set cycle h ≡ points_from (is_plan_point set) (suc t + 1) (horizon cycle t - suc t) = points-history_at set (suc t) offline ∙ ap (λ d. points_from (is_plan_point set) (suc t + 1) ((d + 3) * cycle - suc t)) same_cycle in
     record {
       jobs = subst (λ js. HaveSameItems js (after_first state.time state.jobs)) (sym jobs) (slot-jobs set state offline current);
       ordered = (slot-ordered set state offline current).ordered;
-      ends = slot-ends set state offline current ∙ sym ends;
+      points = slot-points set state offline current ∙ sym points;
     }
 
 -- and, with the next cycle, where it starts a cycle
-further_now : (t cycle : ℕ) → suc t / cycle ≡ suc (t / cycle) → horizon cycle (suc t) ≡ horizon cycle t + cycle
-further_now t cycle e =
-    let moved : (suc t / cycle + 3) * cycle ≡ (suc (t / cycle) + 3) * cycle = ap (λ d. (d + 3) * cycle) e in
-    omega arith
-
-IsCurrent-turn : (plan : PlanParts) (state : ReplayState) → IsPlan plan → IsOffline plan.tasks → IsCurrent plan.tasks state → suc state.time / cycle_of plan.tasks ≡ suc (state.time / cycle_of plan.tasks) → suc state.time ≡ suc (state.time / cycle_of plan.tasks) * cycle_of plan.tasks → IsCurrent plan.tasks (with_cycle plan (cycles_at plan.tasks state.time) (record { time = suc state.time; jobs = after_first state.time state.jobs; ends = ends_after (suc state.time) state.ends }))
+IsCurrent-turn : (plan : PlanParts) (state : ReplayState) → IsPlan plan → IsOffline plan.tasks → IsCurrent plan.tasks state → suc state.time / cycle_of plan.tasks ≡ suc (state.time / cycle_of plan.tasks) → suc state.time ≡ suc (state.time / cycle_of plan.tasks) * cycle_of plan.tasks → IsCurrent plan.tasks (with_cycle plan (cycles_at plan.tasks state.time) (record { time = suc state.time; jobs = after_first state.time state.jobs; points = points_after (suc state.time) state.points }))
 IsCurrent-turn plan state is_plan offline current next_cycle start =
     let set = plan.tasks in
     let t = state.time in
@@ -170,13 +133,13 @@ IsCurrent-turn plan state is_plan offline current next_cycle start =
     let same = same-append (unended h (offline_jobs set cycle n)) old (cycle_jobs set cycle n) (jobs_in_cycle plan n) (slot-jobs set state offline current) (jobs_in_cycle-same plan n is_plan) in
     let count = horizon cycle t - suc t in
     let past = past_now t cycle (cycle-positive set offline.sound) in
-    let ends = with_cycle-ends plan n (suc t + 1) count (ends_after (suc t) state.ends) is_plan (omega arith) (slot-ends set state offline current) in
+    let points = with_cycle-points plan n (suc t + 1) count (points_after (suc t) state.points) is_plan (omega arith) (slot-points set state offline current) in
     let further : horizon cycle (suc t) ≡ horizon cycle t + cycle = further_now t cycle next_cycle in
     let reach : horizon cycle t - suc t + cycle ≡ horizon cycle (suc t) - suc t = omega arith in
     record {
       jobs = subst (λ js. HaveSameItems js (old ++ jobs_in_cycle plan n)) (sym jobs) same;
       ordered = (with_cycle-ordered plan n old is_plan (slot-ordered set state offline current)).ordered;
-      ends = ends ∙ (ap (points_from (is_plan_point set) (suc t + 1)) reach ∙ sym (points-history_at set (suc t) offline));
+      points = points ∙ (ap (points_from (is_plan_point set) (suc t + 1)) reach ∙ sym (points-history_at set (suc t) offline));
     }
 
 -- the third cycle from a time on comes in where the time is the start of a cycle
@@ -200,7 +163,7 @@ IsCurrent-next plan state is_plan none current =
     (by_slot (next_slot state.time (cycle_of plan.tasks) (cycle-positive plan.tasks is_plan.sound)))
   where
     after : ReplayState
-    after = record { time = suc state.time; jobs = after_first state.time state.jobs; ends = ends_after (suc state.time) state.ends }
+    after = record { time = suc state.time; jobs = after_first state.time state.jobs; points = points_after (suc state.time) state.points }
 
     by_slot : NextSlot state.time (cycle_of plan.tasks) → IsCurrent plan.tasks (state_after plan (suc state.time) state)
     by_slot (inside odd same_cycle) =

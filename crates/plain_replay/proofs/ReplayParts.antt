@@ -5,7 +5,7 @@ use Rattle.std.proofs.KnownBytes.{Appends-nil, Appends-trans}
 use Rattle.slot_core.specs.declared.tasks.TaskSet.{TaskSet}
 use Rattle.slot_core.specs.Texts.{trace_text}
 use Rattle.slot_core.specs.Traces.{trace}
-use Rattle.slot_io.specs.Faults.{Rose}
+use Rattle.slot_core.specs.Counts.{Rose}
 use Rattle.slot_io.specs.Sinks.{AppendsPart}
 use Rattle.slot_io.proofs.SinkParts.{AppendsPart-more}
 use Rattle.plain_replay.specs.Told.{slot_line, told, end_line}

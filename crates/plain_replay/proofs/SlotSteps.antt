@@ -1,50 +1,36 @@
 -- What a slot of a current state tells.
-use Rattle.std.proofs.Common.{◌≡◌, ℕ, suc, ◌+◌, ◌≤◌, true, List, [], length, Option, Some, None, lt-ltb, add-one, refl, ap, subst, ◌∙◌}
-use Rattle.std.specs.Prelude.{All, find, nat_le, nat_lt}
+use Rattle.std.proofs.Common.{◌≡◌, ℕ, suc, ◌+◌, ◌≤◌, true, List, Option, Some, None, add-one, refl, ap, subst, ◌∙◌}
+use Rattle.std.specs.Prelude.{All, find, nat_le}
 use Rattle.std.specs.Option.{option_map_or}
-use Rattle.std.proofs.lemmas.Bool.{and_from}
 use Rattle.std.proofs.lemmas.List.Elements.{All-from_recursion}
-use Rattle.std.proofs.lemmas.Option.{slice_get_within}
-use Rattle.slot_core.specs.declared.jobs.Key.TheVariants.{Offline}
 use Rattle.slot_core.specs.declared.jobs.Job.{Job}
-use Rattle.slot_core.specs.declared.tasks.Graph.{Graph}
 use Rattle.slot_core.specs.declared.tasks.TaskSet.{TaskSet}
 use Rattle.slot_core.specs.declared.events.Ran.TheVariants.{Idle as RanIdle, Key as RanKey}
 use Rattle.slot_core.specs.declared.events.What.{What}
 use Rattle.slot_core.specs.declared.events.What.TheVariants.{Start}
 use Rattle.slot_core.specs.Arrivals.{key_in_set, what_in_set}
 use Rattle.slot_core.specs.Cycles.{cycle_of}
-use Rattle.slot_core.specs.OfflineJobs.{tasks_of, offline_jobs}
+use Rattle.slot_core.specs.OfflineJobs.{offline_jobs}
 use Rattle.slot_core.specs.Scenes.{remaining}
 use Rattle.slot_core.specs.Texts.{entry_line}
-use Rattle.slot_core.specs.Traces.{ran_entry, shown_entry}
-use Rattle.slot_core.proofs.ListMembers.{Has, Contains-from_Has}
-use Rattle.slot_core.proofs.HistoryLemmas.{unended_own}
-use Rattle.slot_core.proofs.OfflineJobLemmas.{IsOfflineJob, offline_from_cycles}
+use Rattle.slot_core.specs.Traces.{told_of_slot, shown_entry}
+use Rattle.slot_facts.proofs.Lists.Members.{Has, Contains-from_Has}
+use Rattle.slot_facts.proofs.Histories.Unended.{unended_own}
+use Rattle.slot_facts.proofs.Offline.Jobs.{offline_from_cycles, offline-named}
 use Rattle.plain_replay.specs.Current.{IsCurrent}
 use Rattle.plain_replay.specs.Shown.{told_line}
 use Rattle.plain_replay.specs.States.{ReplayState, first_ready}
 use Rattle.plain_replay.specs.Told.{history_at, entry_at, slot_line, told}
 use Rattle.plain_replay.proofs.CurrentSpans.{shown-current}
 use Rattle.plain_replay.proofs.CurrentStates.{some_left-current, entry-current}
-use Rattle.slot_core.proofs.ListTests.{find-Some}
-use Rattle.slot_core.proofs.SameItems.{all-same}
+use Rattle.slot_facts.proofs.Lists.Tests.{find-Some}
+use Rattle.slot_facts.proofs.Lists.SameItems.{all-same}
 use Rattle.plain_replay.proofs.SlotHistories.{IsOffline, cycles_at, remaining-history_at}
 
 -- each job has a slot left
 pub all_left-current : (set : TaskSet) (state : ReplayState) → IsOffline set → IsCurrent set state → All (λ (j : Job). 1 ≤ j.left) state.jobs
 all_left-current set state offline current =
     All-from_recursion (λ (j : Job). 1 ≤ j.left) state.jobs (some_left-current set state offline current)
-
--- the key of an offline job lies in the set
-offline-named : (set : TaskSet) (cycles : ℕ) (job : Job) → IsOfflineJob set (cycle_of set) 0 cycles job → key_in_set set job.key ≡ true
-offline-named set cycles job offline =
-    let key : job.key ≡ Offline offline.g offline.t offline.k = ap (λ (j : Job). j.key) offline.instance_of.derived in
-    let tasks : tasks_of set offline.g ≡ offline.graph.tasks = ap (λ o. option_map_or (λ (g : Graph). g.tasks) o []) offline.instance_of.graph_at in
-    let graph = lt-ltb offline.g (length set.graphs) (slice_get_within set.graphs offline.g offline.graph offline.instance_of.graph_at) in
-    let task = lt-ltb offline.t (length offline.graph.tasks) (slice_get_within offline.graph.tasks offline.t offline.task offline.instance_of.task_at) in
-    let both : key_in_set set (Offline offline.g offline.t offline.k) ≡ true = and_from (nat_lt offline.g (length set.graphs)) (nat_lt offline.t (length (tasks_of set offline.g))) graph (rw tasks task) in
-    ap (key_in_set set) key ∙ both
 
 remaining-named : (set : TaskSet) (n : ℕ) (job : Job) → IsOffline set → Has (remaining set (cycle_of set) (history_at set n)) job → key_in_set set job.key ≡ true
 remaining-named set n job offline at =
@@ -56,10 +42,10 @@ remaining-named set n job offline at =
     ap (λ (j : Job). key_in_set set j.key) own.1.same ∙ offline-named set cycles own.0 planned
 
 -- so what happens in a slot names what the set has
-ready-named : (set : TaskSet) (t : ℕ) (jobs : List Job) → ((job : Job) → Has jobs job → key_in_set set job.key ≡ true) → what_in_set set (ran_entry (first_ready t jobs)) ≡ true
+ready-named : (set : TaskSet) (t : ℕ) (jobs : List Job) → ((job : Job) → Has jobs job → key_in_set set job.key ≡ true) → what_in_set set (told_of_slot (first_ready t jobs)) ≡ true
 ready-named set t jobs named = go (find (λ (j : Job). nat_le j.est t) jobs) refl
   where
-    go : (found : Option Job) → find (λ (j : Job). nat_le j.est t) jobs ≡ found → what_in_set set (ran_entry (option_map_or (λ (j : Job). RanKey j.key) found RanIdle)) ≡ true
+    go : (found : Option Job) → find (λ (j : Job). nat_le j.est t) jobs ≡ found → what_in_set set (told_of_slot (option_map_or (λ (j : Job). RanKey j.key) found RanIdle)) ≡ true
     go None e = refl
     go (Some job) e = named job (find-Some (λ (j : Job). nat_le j.est t) jobs job e).0
 

@@ -8,7 +8,7 @@ use Rattle.std.proofs.lemmas.List.Sums.{fails_before_first}
 use Rattle.slot_core.specs.declared.jobs.Key.TheVariants.{Soft}
 use Rattle.slot_core.specs.declared.jobs.Job.{Job}
 use Rattle.slot_core.specs.declared.events.Ran.TheVariants.{Key as RanKey, Idle as RanIdle}
-use Rattle.slot_core.proofs.FaultLemmas.{cond-None}
+use Rattle.slot_facts.proofs.Sets.Faults.{cond-None}
 use Rattle.plain_replay.specs.States.{first_ready, slot_used, after_first}
 
 -- the job with one slot less, or without it where it had one

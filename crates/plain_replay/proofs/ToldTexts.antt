@@ -6,14 +6,14 @@ use Rattle.slot_core.specs.declared.tasks.TaskSet.{TaskSet}
 use Rattle.slot_core.specs.declared.events.Entry.{Entry}
 use Rattle.slot_core.specs.Cycles.{cycle_of}
 use Rattle.slot_core.specs.Texts.{entry_line, trace_text}
-use Rattle.slot_core.specs.Traces.{entries, slot_steps, end_entry, shown_entry, trace}
+use Rattle.slot_core.specs.Traces.{entries, occurrences_in, end_entry, shown_entry, trace}
 use Rattle.plain_replay.specs.Told.{history_at, entry_at, slot_line, told, end_line}
 use Rattle.plain_replay.proofs.SlotHistories.{time_of-history_at}
 
 -- the lines of further slots, and then of other entries
 abbrev lines_after : TaskSet → ℕ → ℕ → ℕ → List Entry → List ℕ
 lines_after set m a n rest =
-    flat_map (entry_line set) (entries set (cycle_of set) (history_at set m) (flat_map (slot_steps []) (range_with_len a n)) ++ rest)
+    flat_map (entry_line set) (entries set (cycle_of set) (history_at set m) (flat_map (occurrences_in []) (range_with_len a n)) ++ rest)
 
 lines_after-slot : (set : TaskSet) (m a n : ℕ) (rest : List Entry) → lines_after set m a (suc n) rest ≡ slot_line set m ++ lines_after set (suc m) (a + 1) n rest
 unfolding history_at entry_at slot_line
@@ -28,8 +28,8 @@ told-entries set m a zero rest =
     let same : m ≡ m + 0 = omega arith in
     ap (λ k. told set k ++ flat_map (entry_line set) rest) same
 told-entries set m a (suc n) rest =
-    let moved : suc m + n ≡ m + suc n = omega arith in
-    ap (λ xs. told set m ++ xs) (lines_after-slot set m a n rest) ∙ (sym (append_assoc (told set m) (slot_line set m) (lines_after set (suc m) (a + 1) n rest)) ∙ (told-entries set (suc m) (a + 1) n rest ∙ ap (λ k. told set k ++ flat_map (entry_line set) rest) moved))
+    let same : suc m + n ≡ m + suc n = omega arith in
+    ap (λ xs. told set m ++ xs) (lines_after-slot set m a n rest) ∙ (sym (append_assoc (told set m) (slot_line set m) (lines_after set (suc m) (a + 1) n rest)) ∙ (told-entries set (suc m) (a + 1) n rest ∙ ap (λ k. told set k ++ flat_map (entry_line set) rest) same))
 
 -- the whole text
 pub told-whole : (set : TaskSet) (n : ℕ) → trace_text set (trace set [] n) ≡ told set n ++ end_line set n

@@ -8,8 +8,8 @@ use Rattle.slot_core.specs.Scenes.{remaining, points_of}
 use Rattle.plain_replay.specs.States.{ReplayState}
 use Rattle.plain_replay.specs.Told.{history_at}
 
--- the jobs are the remaining ones, in deadline order, and the ends are the points after the time
+-- the jobs are the remaining ones, in deadline order, and the points are those after the time
 pub record IsCurrent (set : TaskSet) (state : ReplayState) : Type 0 where
   pub jobs : HaveSameItems (remaining set (cycle_of set) (history_at set state.time)) state.jobs
   pub ordered : AreInDeadlineOrder state.jobs
-  pub ends : state.ends ≡ points_of set (cycle_of set) (history_at set state.time)
+  pub points : state.points ≡ points_of set (cycle_of set) (history_at set state.time)

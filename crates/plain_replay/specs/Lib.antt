@@ -1,4 +1,5 @@
 pub mod Current
+pub mod FaultTexts
 pub mod Shown
 pub mod States
 pub mod Told

@@ -3,9 +3,10 @@
 
 ghost use Rattle.std.specs.Prelude.{◌≡◌, ◌≤◌, [], OnOk, OnErr};
 ghost use Rattle.std.specs.Io.KnownBytes.{Appends};
+ghost use Rattle.slot_core.specs.declared.TheConstants.{REPLAY_LIMIT};
 ghost use Rattle.slot_core.specs.Texts.{trace_text};
 ghost use Rattle.slot_core.specs.Traces.{trace};
-ghost use Rattle.slot_io.specs.Faults.{Rose};
+ghost use Rattle.slot_core.specs.Counts.{Rose};
 ghost use Rattle.slot_io.specs.Sinks.{AppendsPart};
 ghost use Rattle.plain_replay.specs.declared.ReplayFault.TheVariants.{Memory as MemoryFault, Failed as FailedFault};
 
@@ -20,6 +21,8 @@ use cycle_plan::Plan;
 use slot_core::{Failed, Memory, What};
 use slot_io::Sink;
 use std::alloc::Global;
+use std::error::Error;
+use std::fmt;
 
 /// Why a replay ends early.
 #[derive(Clone, Copy, PartialEq, Eq, Debug)]
@@ -29,6 +32,22 @@ pub enum ReplayFault {
     /// The sink takes no more.
     Failed,
 }
+
+impl fmt::Display for ReplayFault {
+    ghost use Rattle.std.specs.Prelude.{Some};
+    ghost use Rattle.plain_replay.specs.FaultTexts.{replay_fault_text};
+
+    ghost output = { λ fault. Some (replay_fault_text fault) };
+
+    fn fmt<W: fmt::Write>(&self, f: &mut fmt::Formatter<W>) -> fmt::Result {
+        match self {
+            ReplayFault::Memory => write!(f, "out of memory"),
+            ReplayFault::Failed => write!(f, "failed"),
+        }
+    }
+}
+
+impl Error for ReplayFault {}
 
 impl From<Memory> for ReplayFault {
     ghost from_gives = { λ _ fault. fault ≡ MemoryFault };
@@ -46,18 +65,21 @@ impl From<Failed> for ReplayFault {
     }
 }
 
-/// Writes the trace of so many slots without arrivals, one put a line: the start, each slot with what runs in
-/// it and the first spans after it, and the end. After a fault a part of the text from its front is written.
+/// Writes the trace of so many slots without arrivals, one put a line: the start, each slot with
+/// what runs in it and the first spans after it, and the end. After a fault a part of the text from
+/// its front is written.
 pub fn replay<K: Sink>(
     alloc: Global,
     plan: &Plan,
     slots: u32,
     out: &mut K,
 ) -> Result<(), ReplayFault>
-    requires few { slots ≤ 100000 }
+    requires few { slots ≤ REPLAY_LIMIT }
     requires offline { plan.now.tasks.sporadics ≡ [] }
-    ensures ok { OnOk result (Appends (K.written out.old) (K.written out.new) (trace_text plan.now.tasks (trace plan.now.tasks [] slots))) }
-    ensures part { OnErr result (AppendsPart (K.written out.old) (K.written out.new) (trace_text plan.now.tasks (trace plan.now.tasks [] slots))) }
+    ensures ok { OnOk result (Appends (K.written out.old) (K.written out.new)
+        (trace_text plan.now.tasks (trace plan.now.tasks [] slots))) }
+    ensures part { OnErr result (AppendsPart (K.written out.old) (K.written out.new)
+        (trace_text plan.now.tasks (trace plan.now.tasks [] slots))) }
     ensures counted { K.faults out.old ≤ K.faults out.new }
     ensures failed { result ≡ Err ReplayFault.Failed → Rose (K.faults out.old) (K.faults out.new) }
 {

@@ -3,15 +3,17 @@
 ghost use Rattle.std.specs.Prelude.{◌≡◌, ◌<◌, ◌≤◌, ◌+◌, ◌-◌, ◌++◌, true, [], length, nat_le, All, IfOk, OnOk, OnErr};
 ghost use Rattle.std.specs.Io.KnownBytes.{Appends};
 ghost use Rattle.std.specs.List.{position};
+ghost use Rattle.slot_core.specs.declared.TheConstants.{CYCLES_LIMIT, REPLAY_LIMIT};
 ghost use Rattle.slot_core.specs.declared.jobs.Job.{Job};
 ghost use Rattle.slot_core.specs.Arrivals.{what_in_set};
-ghost use Rattle.slot_core.specs.Traces.{ran_entry};
-ghost use Rattle.slot_io.specs.Faults.{Rose};
+ghost use Rattle.slot_core.specs.Traces.{told_of_slot, told_of_slot};
+ghost use Rattle.slot_core.specs.Counts.{Rose};
+ghost use Rattle.slot_core.specs.Plans.{IsPlan};
 ghost use Rattle.slot_io.specs.Sinks.{AppendsPart};
 ghost use Rattle.plain_replay.specs.Current.{IsCurrent};
 ghost use Rattle.plain_replay.specs.Shown.{HasSpans, shown_after, told_line};
 ghost use Rattle.plain_replay.specs.Told.{entry_at, slot_line};
-ghost use Rattle.plain_replay.specs.States.{first_ready, slot_used, after_first, ends_after, first_state, with_cycle, with_next_cycle, jobs_in_cycle, ends_in_cycle};
+ghost use Rattle.plain_replay.specs.States.{first_ready, slot_used, after_first, points_after, first_state, with_cycle, with_next_cycle, jobs_in_cycle, points_in_cycle};
 
 use crate::ReplayFault;
 use crate::lines::{first_spans, put_line};
@@ -22,12 +24,12 @@ use slot_io::Sink;
 use std::alloc::Global;
 use std::marker::Model;
 
-/// The time, the remaining jobs in deadline order, and the ends of the spans after the time.
+/// The time, the remaining jobs in deadline order, and the points of the spans after the time.
 #[derive(Drop)]
 pub(crate) struct State {
     time: u64,
     jobs: Vec<Job>,
-    ends: Vec<u64>,
+    points: Vec<u64>,
 }
 
 impl Model for State {
@@ -35,18 +37,18 @@ impl Model for State {
 
     ghost Value = { ReplayState };
 
-    ghost view = { λ s. record { time = s.time; jobs = s.jobs.items; ends = s.ends.items } };
+    ghost view = { λ s. record { time = s.time; jobs = s.jobs.items; points = s.points.items } };
 }
 
 impl State {
-    /// The state before the first slot, with the jobs and ends of three cycles.
+    /// The state before the first slot, with the jobs and points of three cycles.
     pub(crate) fn start(alloc: Global, plan: &Plan) -> Result<State, Memory>
         ensures { IfOk result (λ state. state ≡ first_state plan.now) }
     {
         let mut state = State {
             time: 0,
             jobs: Vec::new(alloc),
-            ends: Vec::new(alloc),
+            points: Vec::new(alloc),
         };
         state.add_cycle(plan, 0)?;
         state.add_cycle(plan, 1)?;
@@ -54,18 +56,18 @@ impl State {
         Ok(state)
     }
 
-    /// Appends the jobs and ends of the cycle of this number.
+    /// Appends the jobs and points of the cycle of this number.
     fn add_cycle(&mut self, plan: &Plan, cycles: u64) -> Result<(), Memory>
-        requires { cycles ≤ 1048576 }
+        requires { cycles ≤ CYCLES_LIMIT }
         ensures { OnOk result (self.new ≡ with_cycle plan.now cycles self.old) }
     {
         push_jobs(&mut self.jobs, plan, cycles)?;
-        push_ends(&mut self.ends, plan, cycles)
+        push_points(&mut self.points, plan, cycles)
     }
 
     /// Appends the third cycle from the time on, where a cycle starts at the time.
     fn add_next_cycle(&mut self, plan: &Plan) -> Result<(), Memory>
-        requires { self.old.time ≤ 100000 }
+        requires { self.old.time ≤ REPLAY_LIMIT }
         ensures { OnOk result (self.new ≡ with_next_cycle plan.now self.old) }
     {
         let cycle = u64::from(plan.cycle());
@@ -78,8 +80,9 @@ impl State {
     /// Runs the first job of the list that may run, if there is one, for one slot.
     fn run(&mut self) -> What
         requires { All (λ (j : Job). 1 ≤ j.left) self.old.jobs }
-        ensures what { result ≡ ran_entry (first_ready self.old.time self.old.jobs) }
-        ensures state { self.new ≡ record self.old { jobs = after_first self.old.time self.old.jobs } }
+        ensures what { result ≡ told_of_slot (first_ready self.old.time self.old.jobs) }
+        ensures state { self.new
+            ≡ record self.old { jobs = after_first self.old.time self.old.jobs } }
     {
         match first_ready(&self.jobs, self.time) {
             Some(i) => {
@@ -91,14 +94,17 @@ impl State {
         }
     }
 
-    /// Lets the slot pass, and with it the end at the new time, where there is one.
+    /// Lets the slot pass, and with it the point at the new time, where there is one.
     fn pass(&mut self)
-        requires { self.old.time ≤ 100000 }
-        ensures { self.new ≡ record self.old { time = self.old.time + 1; ends = ends_after (self.old.time + 1) self.old.ends } }
+        requires { self.old.time ≤ REPLAY_LIMIT }
+        ensures { self.new ≡ record self.old {
+          time = self.old.time + 1;
+          points = points_after (self.old.time + 1) self.old.points;
+        } }
     {
         self.time += 1;
-        if self.ends.first() == Some(&self.time) {
-            self.ends.remove(0);
+        if self.points.first() == Some(&self.time) {
+            self.points.remove(0);
         }
     }
 
@@ -107,21 +113,20 @@ impl State {
         requires { HasSpans self.now }
         ensures { IfOk result (λ shown. shown ≡ shown_after self.now) }
     {
-        let spans = spans_until(alloc, self.time, &self.ends, &self.jobs)?;
+        let spans = spans_until(alloc, self.time, &self.points, &self.jobs)?;
         Ok(first_spans(&spans))
     }
 
     /// Lets the slot at the time pass, and answers what happened in it.
     fn step(&mut self, plan: &Plan) -> Result<What, Memory>
+        requires plan { IsPlan plan.now }
         requires offline { plan.now.tasks.sporadics ≡ [] }
         requires current { IsCurrent plan.now.tasks self.old }
-        requires early { self.old.time < 100000 }
+        requires early { self.old.time < REPLAY_LIMIT }
         ensures what { IfOk result (λ what. what ≡ entry_at plan.now.tasks self.old.time) }
         ensures current { OnOk result (IsCurrent plan.now.tasks self.new) }
         ensures time { OnOk result (self.new.time ≡ self.old.time + 1) }
     {
-        // What a plan keeps is known from its cycle.
-        let _cycle = plan.cycle();
         let what = self.run();
         self.pass();
         self.add_next_cycle(plan)?;
@@ -137,17 +142,21 @@ impl State {
     ) -> Result<(), ReplayFault>
         requires offline { plan.now.tasks.sporadics ≡ [] }
         requires current { IsCurrent plan.now.tasks self.old }
-        requires early { self.old.time < 100000 }
+        requires early { self.old.time < REPLAY_LIMIT }
         ensures current { OnOk result (IsCurrent plan.now.tasks self.new) }
         ensures time { OnOk result (self.new.time ≡ self.old.time + 1) }
-        ensures ok { OnOk result (Appends (K.written out.old) (K.written out.new) (slot_line plan.now.tasks self.old.time)) }
-        ensures part { OnErr result (AppendsPart (K.written out.old) (K.written out.new) (slot_line plan.now.tasks self.old.time)) }
+        ensures ok { OnOk result (Appends (K.written out.old) (K.written out.new)
+            (slot_line plan.now.tasks self.old.time)) }
+        ensures part { OnErr result (AppendsPart (K.written out.old) (K.written out.new)
+            (slot_line plan.now.tasks self.old.time)) }
         ensures counted { K.faults out.old ≤ K.faults out.new }
-        ensures failed { result ≡ Err ReplayFault.Failed → Rose (K.faults out.old) (K.faults out.new) }
+        ensures failed { result ≡ Err ReplayFault.Failed
+            → Rose (K.faults out.old) (K.faults out.new) }
     {
+        let tasks = plan.tasks();
         let time = self.time;
         let what = self.step(plan)?;
-        self.tell(alloc, time, what, plan.tasks(), out)
+        self.tell(alloc, time, what, tasks, out)
     }
 
     /// Writes the line of what happened at this time, with the first spans after the state.
@@ -162,10 +171,13 @@ impl State {
     ) -> Result<(), ReplayFault>
         requires spans { HasSpans self.now }
         requires named { what_in_set tasks.now what ≡ true }
-        ensures ok { OnOk result (Appends (K.written out.old) (K.written out.new) (told_line tasks.now time what self.now)) }
-        ensures part { OnErr result (AppendsPart (K.written out.old) (K.written out.new) (told_line tasks.now time what self.now)) }
+        ensures ok { OnOk result (Appends (K.written out.old) (K.written out.new)
+            (told_line tasks.now time what self.now)) }
+        ensures part { OnErr result (AppendsPart (K.written out.old) (K.written out.new)
+            (told_line tasks.now time what self.now)) }
         ensures counted { K.faults out.old ≤ K.faults out.new }
-        ensures failed { result ≡ Err ReplayFault.Failed → Rose (K.faults out.old) (K.faults out.new) }
+        ensures failed { result ≡ Err ReplayFault.Failed
+            → Rose (K.faults out.old) (K.faults out.new) }
     {
         let entry = Entry {
             time,
@@ -199,7 +211,7 @@ fn use_slot(jobs: &mut Vec<Job>, i: usize)
 
 /// Appends the plan's jobs, so many cycles later.
 fn push_jobs(jobs: &mut Vec<Job>, plan: &Plan, cycles: u64) -> Result<(), Memory>
-    requires { cycles ≤ 1048576 }
+    requires { cycles ≤ CYCLES_LIMIT }
     ensures { OnOk result (jobs.new.items ≡ jobs.old.items ++ jobs_in_cycle plan.now cycles) }
 {
     for i in 0..plan.jobs().len() {
@@ -208,14 +220,14 @@ fn push_jobs(jobs: &mut Vec<Job>, plan: &Plan, cycles: u64) -> Result<(), Memory
     Ok(())
 }
 
-/// Appends the ends of the plan's spans, so many cycles later.
-fn push_ends(ends: &mut Vec<u64>, plan: &Plan, cycles: u64) -> Result<(), Memory>
-    requires { cycles ≤ 1048576 }
-    ensures { OnOk result (ends.new.items ≡ ends.old.items ++ ends_in_cycle plan.now cycles) }
+/// Appends the points of the plan's spans, so many cycles later.
+fn push_points(points: &mut Vec<u64>, plan: &Plan, cycles: u64) -> Result<(), Memory>
+    requires { cycles ≤ CYCLES_LIMIT }
+    ensures { OnOk result (points.new.items ≡ points.old.items ++ points_in_cycle plan.now cycles) }
 {
     let by = cycles * u64::from(plan.cycle());
     for span in plan.spans() {
-        ends.push(span.end + by)?;
+        points.push(span.end + by)?;
     }
     Ok(())
 }

@@ -1,107 +1,21 @@
 //! Traces of small sets, and a sink that fails.
 
-ghost use Rattle.std.specs.Prelude.{◌≡◌, ◌≤◌, [], ◌∷◌, true, codes, IfOk};
-ghost use Rattle.slot_core.specs.ExampleSets.{borrowing_set, lone_task, offset_set, pair_set, task};
-ghost use Rattle.slot_core.specs.Names.{is_name};
+ghost use Rattle.std.specs.Prelude.{◌≡◌, ◌≤◌, [], true};
+ghost use Rattle.slot_core.specs.declared.TheConstants.{REPLAY_LIMIT};
 ghost use Rattle.slot_core.specs.Ranges.{is_sound};
 
 use crate::{ReplayFault, replay};
 use cycle_plan::make_plan;
-use slot_core::{Afters, Graph, Graphs, Memory, Name, Sporadics, Task, TaskSet, Tasks};
+use slot_core::TaskSet;
+use slot_examples::{borrowing_set, offset_set, pair_set};
 use slot_io::MemorySink;
 use std::alloc::Global;
 use std::test::Fail;
 
-/// A task without predecessors.
-fn first_task(alloc: Global, name: &[u8], wcet: u32) -> Task
-    requires { is_name name.now ≡ true }
-    ensures { result ≡ task name.now wcet [] }
-{
-    Task {
-        name: Name::of(name).unwrap(),
-        wcet,
-        after: Afters::new(alloc),
-    }
-}
-
-/// A graph of one task.
-fn lone_graph(
-    alloc: Global,
-    name: &[u8],
-    period: u32,
-    offset: u32,
-    deadline: u32,
-    wcet: u32,
-) -> Result<Graph, Memory>
-    requires { is_name name.now ≡ true }
-    ensures { IfOk result (λ g. g ≡ lone_task name.now period offset deadline wcet) }
-{
-    let mut tasks = Tasks::new(alloc);
-    tasks.push(first_task(alloc, b"w", wcet))?;
-    Ok(Graph {
-        name: Name::of(name).unwrap(),
-        period,
-        offset,
-        deadline,
-        tasks,
-    })
-}
-
-/// A short deadline beside long work.
-fn borrowing(alloc: Global) -> Result<TaskSet, Memory>
-    ensures { IfOk result (λ set. set ≡ borrowing_set) }
-{
-    let mut graphs = Graphs::new(alloc);
-    graphs.push(lone_graph(alloc, b"p", 10, 0, 4, 1)?)?;
-    graphs.push(lone_graph(alloc, b"q", 10, 0, 10, 8)?)?;
-    Ok(TaskSet {
-        soft_limit: 64,
-        graphs,
-        sporadics: Sporadics::new(alloc),
-    })
-}
-
-/// A task with an offset.
-fn offset(alloc: Global) -> Result<TaskSet, Memory>
-    ensures { IfOk result (λ set. set ≡ offset_set) }
-{
-    let mut graphs = Graphs::new(alloc);
-    graphs.push(lone_graph(alloc, b"h", 6, 2, 3, 2)?)?;
-    Ok(TaskSet {
-        soft_limit: 64,
-        graphs,
-        sporadics: Sporadics::new(alloc),
-    })
-}
-
-/// Two tasks in a row.
-fn pair(alloc: Global) -> Result<TaskSet, Memory>
-    ensures { IfOk result (λ set. set ≡ pair_set) }
-{
-    let mut second = first_task(alloc, b"b", 1);
-    second.after.push(0)?;
-    let mut tasks = Tasks::new(alloc);
-    tasks.push(first_task(alloc, b"a", 2))?;
-    tasks.push(second)?;
-    let mut graphs = Graphs::new(alloc);
-    graphs.push(Graph {
-        name: Name::of(b"g").unwrap(),
-        period: 8,
-        offset: 0,
-        deadline: 8,
-        tasks,
-    })?;
-    Ok(TaskSet {
-        soft_limit: 64,
-        graphs,
-        sporadics: Sporadics::new(alloc),
-    })
-}
-
 /// Replays so many slots of the set's plan, with room for 4096 bytes.
 fn replayed(alloc: Global, tasks: TaskSet, slots: u32) -> Result<MemorySink, Fail>
     requires sound { is_sound tasks ≡ true }
-    requires few { slots ≤ 100000 }
+    requires few { slots ≤ REPLAY_LIMIT }
     requires offline { tasks.sporadics ≡ [] }
 {
     let mut sink = MemorySink::with_room(alloc, 4096)?;
@@ -115,14 +29,14 @@ fn replayed(alloc: Global, tasks: TaskSet, slots: u32) -> Result<MemorySink, Fai
 #[test]
 fn replays_small_sets(rt: HostRuntime) -> Result<(), Fail> {
     let alloc = rt.alloc();
-    let sink = replayed(alloc, borrowing(alloc)?, 2)?;
+    let sink = replayed(alloc, borrowing_set(alloc)?, 2)?;
     let told = "0 start | 0-4:1 4-10:-2 10-14:1 14-20:-2 20-24:1 24-30:-2\n\
         0 run p.w#0 | 1-4:1 4-10:-2 10-14:1 14-20:-2 20-24:1 24-30:-2\n\
         1 run q.w#0 | 2-4:1 4-10:-1 10-14:1 14-20:-2 20-24:1 24-30:-2\n\
         2 end\n";
     assert_eq!(rt; sink.bytes(), told.as_bytes());
 
-    let sink = replayed(alloc, offset(alloc)?, 1)?;
+    let sink = replayed(alloc, offset_set(alloc)?, 1)?;
     let told = "0 start | 0-2:2 2-5:1 5-6:1 6-8:2 8-11:1 11-12:1 12-14:2 14-17:1 +1\n\
         0 idle | 1-2:1 2-5:1 5-6:1 6-8:2 8-11:1 11-12:1 12-14:2 14-17:1 +1\n\
         1 end\n";
@@ -133,7 +47,7 @@ fn replays_small_sets(rt: HostRuntime) -> Result<(), Fail> {
 #[test]
 fn replays_two_cycles(rt: HostRuntime) -> Result<(), Fail> {
     let alloc = rt.alloc();
-    let sink = replayed(alloc, pair(alloc)?, 17)?;
+    let sink = replayed(alloc, pair_set(alloc)?, 17)?;
     let told = "0 start | 0-7:5 7-8:0 8-15:5 15-16:0 16-23:5 23-24:0\n\
         0 run g.a#0 | 1-7:5 7-8:0 8-15:5 15-16:0 16-23:5 23-24:0\n\
         1 run g.a#0 | 2-7:5 7-8:0 8-15:5 15-16:0 16-23:5 23-24:0\n\
@@ -160,9 +74,11 @@ fn replays_two_cycles(rt: HostRuntime) -> Result<(), Fail> {
 #[test]
 fn ends_where_a_put_fails(rt: HostRuntime) -> Result<(), Fail> {
     let alloc = rt.alloc();
-    let plan = make_plan(alloc, borrowing(alloc)?).ok().ok_or("no plan")?;
     let mut sink = MemorySink::with_room(alloc, 4096)?;
     sink.fail_put(3)?;
+    let plan = make_plan(alloc, borrowing_set(alloc)?)
+        .ok()
+        .ok_or("no plan")?;
     let answer = replay(alloc, &plan, 2, &mut sink);
     assert_eq!(rt; answer, Err(ReplayFault::Failed));
     let told = "0 start | 0-4:1 4-10:-2 10-14:1 14-20:-2 20-24:1 24-30:-2\n\

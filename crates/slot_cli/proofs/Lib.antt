@@ -1,8 +1,9 @@
+pub mod InfeasibleRuns
 pub mod NumberLemmas
-pub mod Appended
-pub mod Plannings
-pub mod StepLemmas
-pub mod PlaceLemmas
-pub mod EndLemmas
-pub mod StatusLemmas
+pub mod PlannedSets
 pub mod ServedRuns
+pub mod StageLemmas
+pub mod StatusLemmas
+pub mod StepLemmas
+pub mod VerdictLemmas
+pub mod WorkLemmas

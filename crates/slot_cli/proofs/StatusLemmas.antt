@@ -1,33 +1,62 @@
 -- What a status says of the files.
-use Rattle.std.proofs.Common.{◌≡◌, ◌⊎◌, ℕ, Bool, true, false, List, Option, None, Some, IfSome, Ok, Err, refl, sym, ap, subst, ◌∙◌, inl, inr}
-use Rattle.std.specs.Io.KnownBytes.{Appends}
+use Rattle.std.proofs.Common.{◌≡◌, ◌⊎◌, ℕ, true, false, List, Option, None, Some, IfSome, Err, refl, sym, ap, subst, ◌∙◌, inl, inr}
 use Rattle.slot_core.specs.declared.faults.TaskFault.{TaskFault}
 use Rattle.slot_core.specs.declared.jobs.Window.{Window}
 use Rattle.slot_io.specs.Files.{Held}
-use Rattle.slot_cli.specs.declared.status.Status.{Status}
+use Rattle.run_outcome.specs.declared.status.Status.{Status}
+use Rattle.run_outcome.specs.declared.file.File.{File}
+use Rattle.run_outcome.specs.declared.refusal.Refusal.{Refusal}
+use Rattle.run_outcome.specs.declared.refusal.Refusal.TheVariants.{Usage, Unreadable, TooLarge, BadTasks, Infeasible, BadArrivals, WriteFault, Memory}
+use Rattle.run_outcome.specs.Refusals.{Outcome, refusal_status, has_fixed_line, is_found}
 use Rattle.slot_cli.specs.declared.command.Command.{Command}
 use Rattle.slot_cli.specs.declared.command.Command.TheVariants.{Check, Replay}
-use Rattle.slot_cli.specs.declared.outcome.File.{File}
-use Rattle.slot_cli.specs.declared.outcome.Outcome.{Outcome}
-use Rattle.slot_cli.specs.declared.outcome.Outcome.TheVariants.{Done, Usage, Unreadable, TooLarge, BadTasks, Infeasible, BadArrivals, WriteFault, Memory}
-use Rattle.slot_cli.specs.Commands.{command_of}
-use Rattle.slot_cli.specs.Outcomes.{status_of, has_fixed_line}
-use Rattle.slot_cli.specs.Runs.{Stage, expected, outcome_of, IsHostFault}
-use Rattle.slot_cli.specs.Works.{Ends}
-use Rattle.slot_cli.proofs.PlaceLemmas.{expected-done}
+use Rattle.slot_cli.specs.Runs.{IsHostFault, IsAnswerTo}
 
--- the outcome is found in the bytes of the files
-abbrev pub is_found : Outcome → Bool
-is_found (TooLarge file) = true
-is_found (BadTasks fault) = true
-is_found (Infeasible window) = true
-is_found BadArrivals = true
-is_found _ = false
+-- what a status tells of its refusal
+abbrev pub Tells : Status → Refusal → Type 0
+Tells Status.Usage e = e ≡ Usage
+Tells Status.FileFault e = (file : File) × (e ≡ Unreadable file)
+Tells Status.TooLarge e = (file : File) × (e ≡ TooLarge file)
+Tells Status.BadTasks e = (fault : TaskFault) × (e ≡ BadTasks fault)
+Tells Status.Infeasible e = (window : Window) × (e ≡ Infeasible window)
+Tells Status.BadArrivals e = e ≡ BadArrivals
+Tells Status.WriteFault e = e ≡ WriteFault
+Tells Status.Memory e = e ≡ Memory
+Tells Status.Done e = ⊥
+Tells Status.BadTable e = ⊥
 
-not_memory : (outcome : Outcome) → is_found outcome ≡ true → outcome ≡ Memory → ⊥
-not_memory outcome found is = let P : Outcome → Type 0 = λ o. is_found o ≡ true in let h : false ≡ true = subst P is found in cc
+tells : (e : Refusal) → Tells (refusal_status e) e
+tells Usage = refl
+tells (Unreadable file) = (file, refl)
+tells (TooLarge file) = (file, refl)
+tells (BadTasks fault) = (fault, refl)
+tells (Infeasible window) = (window, refl)
+tells BadArrivals = refl
+tells WriteFault = refl
+tells Memory = refl
 
-not_host : (command : Option Command) (outcome : Outcome) → is_found outcome ≡ true → IsHostFault command outcome → ⊥
+pub status-tells : (status other : Status) (e : Refusal) → status ≡ refusal_status e → status ≡ other → Tells other e
+status-tells status other e is same =
+    let P : Status → Type 0 = λ s. Tells s e in subst P (sym is ∙ same) (tells e)
+
+-- how a refusal is kept in its report
+abbrev pub IsKept : Refusal → Refusal → Type 0
+IsKept e reported = (reported ≡ e) ⊎ ((reported ≡ Memory) × (has_fixed_line e ≡ false))
+
+-- a reported refusal other than want of memory is that of the work
+pub reported-same : (e reported other : Refusal) → (other ≡ Memory → ⊥) → IsKept e reported → reported ≡ other → e ≡ other
+reported-same e reported other apart (inl same) is = sym same ∙ is
+reported-same e reported other apart (inr (memory, line)) is = absurd (apart (sym is ∙ memory))
+
+-- one without values is reported as it is
+pub fixed-reported : (e reported : Refusal) → has_fixed_line e ≡ true → IsKept e reported → reported ≡ e
+fixed-reported e reported fixed (inl same) = same
+fixed-reported e reported fixed (inr (memory, line)) = cc
+
+not_memory : (e : Refusal) → is_found e ≡ true → e ≡ Memory → ⊥
+not_memory e found is = let same : is_found e ≡ false = ap is_found is in cc
+
+not_host : (command : Option Command) (e : Refusal) → is_found e ≡ true → IsHostFault command e → ⊥
 not_host None (TooLarge file) found host = host
 not_host None (BadTasks fault) found host = host
 not_host None (Infeasible window) found host = host
@@ -40,132 +69,35 @@ not_host (Some (Replay slots)) (TooLarge file) found host = host
 not_host (Some (Replay slots)) (BadTasks fault) found host = host
 not_host (Some (Replay slots)) (Infeasible window) found host = host
 not_host (Some (Replay slots)) BadArrivals found host = host
-not_host command Done found host = cc
 not_host command Usage found host = cc
 not_host command (Unreadable file) found host = cc
 not_host command WriteFault found host = cc
 not_host command Memory found host = cc
 
-due-found : (due : Stage (List ℕ)) (outcome : Outcome) → is_found outcome ≡ true → outcome ≡ outcome_of due → due ≡ Err outcome
-due-found (Ok text) outcome found is =
-    let P : Outcome → Type 0 = λ o. is_found o ≡ true in let h : false ≡ true = subst P is found in cc
-due-found (Err e) outcome found is = ap Err (sym is)
-
--- an outcome that is found in the files is due
-due-ended : (command : Option Command) (due : Stage (List ℕ)) (outcome : Outcome) (before after : Option (List ℕ)) → is_found outcome ≡ true → Ends command due outcome before after → due ≡ Err outcome
-due-ended command due outcome before after found ends =
-    elim ends.answers [
-      | inl is ↦ due-found due outcome found is
-      | inr (inl memory) ↦ absurd (not_memory outcome found memory)
-      | inr (inr (host, place)) ↦ absurd (not_host command outcome found host)
-    ]
-
--- the outcome that is reported is that of the work, or want of memory
-reported_found : (outcome reported : Outcome) → is_found reported ≡ true → (reported ≡ outcome) ⊎ ((reported ≡ Memory) × (has_fixed_line outcome ≡ false)) → reported ≡ outcome
-reported_found outcome reported found (inl same) = same
-reported_found outcome reported found (inr (memory, line)) = absurd (not_memory reported found memory)
+-- a refusal that is found in the files is due
+found-due : (command : Option Command) (due : Outcome (List ℕ)) (e : Refusal) → is_found e ≡ true → IsAnswerTo {X = Unit {0}} command due (Err e) → due ≡ Err e
+found-due command due e found (inl is) = is
+found-due command due e found (inr (inl memory)) = absurd (not_memory e found memory)
+found-due command due e found (inr (inr (host, stage))) = absurd (not_host command e found host)
 
 pub IfSome-from_each : {X : Type 0} (o : Option X) (P : X → Type 0) → ((x : X) → o ≡ Some x → P x) → IfSome o P
 IfSome-from_each None P h = tt
 IfSome-from_each (Some x) P h = h x refl
 
 -- so is one that is reported
-pub due-reported : (o : Option Held) (words : List (List ℕ)) (outcome reported : Outcome) (before after : Option (List ℕ)) → is_found reported ≡ true → (reported ≡ outcome) ⊎ ((reported ≡ Memory) × (has_fixed_line outcome ≡ false)) → ((held : Held) → o ≡ Some held → Ends (command_of words) (expected held words) outcome before after) → IfSome o (λ held. expected held words ≡ Err reported)
-due-reported o words outcome reported before after found kept ends =
-    let same = reported_found outcome reported found kept in
-    let P : Outcome → Type 0 = λ e. is_found e ≡ true in
-    IfSome-from_each o (λ held. expected held words ≡ Err reported) (λ held told. due-ended (command_of words) (expected held words) outcome before after (subst P same found) (ends held told) ∙ ap Err (sym same))
+pub reported-due : (held : Option Held) (command : Option Command) (due : Held → Outcome (List ℕ)) (e reported : Refusal) → is_found reported ≡ true → IsKept e reported → ((files : Held) → held ≡ Some files → IsAnswerTo {X = Unit {0}} command (due files) (Err e)) → IfSome held (λ files. due files ≡ Err reported)
+reported-due held command due e reported found kept answers =
+    let same = reported-same e reported reported (not_memory reported found) kept refl in
+    let P : Refusal → Type 0 = λ r. is_found r ≡ true in
+    IfSome-from_each held (λ files. due files ≡ Err reported) (λ files told. found-due command (due files) e (subst P (sym same) found) (answers files told) ∙ ap Err same)
 
--- what the statuses tell of their outcomes
-pub unreadable-status : (outcome : Outcome) → status_of outcome ≡ Status.FileFault → (file : File) × (outcome ≡ Unreadable file)
-unreadable-status (Unreadable file) is = (file, refl)
-unreadable-status Done is = cc
-unreadable-status Usage is = cc
-unreadable-status (TooLarge file) is = cc
-unreadable-status (BadTasks fault) is = cc
-unreadable-status (Infeasible window) is = cc
-unreadable-status BadArrivals is = cc
-unreadable-status WriteFault is = cc
-unreadable-status Memory is = cc
+-- what is reported answers as what is refused does
+pub reported-answers : (command : Option Command) (due : Outcome (List ℕ)) (e reported : Refusal) → IsKept e reported → IsAnswerTo {X = Unit {0}} command due (Err e) → IsAnswerTo {X = Unit {0}} command due (Err reported)
+reported-answers command due e reported (inl same) answers =
+    let P : Refusal → Type 0 = λ r. IsAnswerTo {X = Unit {0}} command due (Err r) in subst P (sym same) answers
+reported-answers command due e reported (inr (memory, line)) answers = inr (inl memory)
 
-pub too_large-status : (outcome : Outcome) → status_of outcome ≡ Status.TooLarge → (file : File) × (outcome ≡ TooLarge file)
-too_large-status (TooLarge file) is = (file, refl)
-too_large-status Done is = cc
-too_large-status Usage is = cc
-too_large-status (Unreadable file) is = cc
-too_large-status (BadTasks fault) is = cc
-too_large-status (Infeasible window) is = cc
-too_large-status BadArrivals is = cc
-too_large-status WriteFault is = cc
-too_large-status Memory is = cc
-
-pub bad_tasks-status : (outcome : Outcome) → status_of outcome ≡ Status.BadTasks → (fault : TaskFault) × (outcome ≡ BadTasks fault)
-bad_tasks-status (BadTasks fault) is = (fault, refl)
-bad_tasks-status Done is = cc
-bad_tasks-status Usage is = cc
-bad_tasks-status (Unreadable file) is = cc
-bad_tasks-status (TooLarge file) is = cc
-bad_tasks-status (Infeasible window) is = cc
-bad_tasks-status BadArrivals is = cc
-bad_tasks-status WriteFault is = cc
-bad_tasks-status Memory is = cc
-
-pub infeasible-status : (outcome : Outcome) → status_of outcome ≡ Status.Infeasible → (window : Window) × (outcome ≡ Infeasible window)
-infeasible-status (Infeasible window) is = (window, refl)
-infeasible-status Done is = cc
-infeasible-status Usage is = cc
-infeasible-status (Unreadable file) is = cc
-infeasible-status (TooLarge file) is = cc
-infeasible-status (BadTasks fault) is = cc
-infeasible-status BadArrivals is = cc
-infeasible-status WriteFault is = cc
-infeasible-status Memory is = cc
-
-pub bad_arrivals-status : (outcome : Outcome) → status_of outcome ≡ Status.BadArrivals → outcome ≡ BadArrivals
-bad_arrivals-status BadArrivals is = refl
-bad_arrivals-status Done is = cc
-bad_arrivals-status Usage is = cc
-bad_arrivals-status (Unreadable file) is = cc
-bad_arrivals-status (TooLarge file) is = cc
-bad_arrivals-status (BadTasks fault) is = cc
-bad_arrivals-status (Infeasible window) is = cc
-bad_arrivals-status WriteFault is = cc
-bad_arrivals-status Memory is = cc
-
--- a file that is told to be unreadable is one that the work could not read
-pub reported_unreadable : (outcome reported : Outcome) (file : File) → reported ≡ Unreadable file → (reported ≡ outcome) ⊎ ((reported ≡ Memory) × (has_fixed_line outcome ≡ false)) → outcome ≡ Unreadable file
-reported_unreadable outcome reported file is (inl same) = sym same ∙ is
-reported_unreadable outcome reported file is (inr (memory, line)) = cc
-
-pub done-status : (outcome : Outcome) → status_of outcome ≡ Status.Done → outcome ≡ Done
-done-status Done is = refl
-done-status Usage is = cc
-done-status (Unreadable file) is = cc
-done-status (TooLarge file) is = cc
-done-status (BadTasks fault) is = cc
-done-status (Infeasible window) is = cc
-done-status BadArrivals is = cc
-done-status WriteFault is = cc
-done-status Memory is = cc
-
-reported_done : (outcome reported : Outcome) → reported ≡ Done → (reported ≡ outcome) ⊎ ((reported ≡ Memory) × (has_fixed_line outcome ≡ false)) → outcome ≡ Done
-reported_done outcome reported is (inl same) = sym same ∙ is
-reported_done outcome reported is (inr (memory, line)) = cc
-
-not_host_done : (command : Option Command) → IsHostFault command Done → ⊥
-not_host_done None host = host
-not_host_done (Some Check) host = host
-not_host_done (Some (Replay slots)) host = host
-
-done_is_due : (command : Option Command) (due : Stage (List ℕ)) (before after : Option (List ℕ)) → Ends command due Done before after → outcome_of due ≡ Done
-done_is_due command due before after ends =
-    elim ends.answers [
-      | inl is ↦ sym is
-      | inr (inl memory) ↦ cc
-      | inr (inr (host, place)) ↦ absurd (not_host_done command host)
-    ]
-
--- where the run is told to be done, the text that is due is written
-pub done-reported : (o : Option Held) (words : List (List ℕ)) (outcome reported : Outcome) (before after : Option (List ℕ)) → reported ≡ Done → (reported ≡ outcome) ⊎ ((reported ≡ Memory) × (has_fixed_line outcome ≡ false)) → ((held : Held) → o ≡ Some held → Ends (command_of words) (expected held words) outcome before after) → IfSome o (λ held. (text : List ℕ) × (expected held words ≡ Ok text) × Appends before after text)
-done-reported o words outcome reported before after is kept ends =
-    IfSome-from_each o (λ held. (text : List ℕ) × (expected held words ≡ Ok text) × Appends before after text) (λ held told. let P : Outcome → Type 0 = λ e. Ends (command_of words) (expected held words) e before after in let at = subst P (reported_done outcome reported is kept) (ends held told) in let (text, due) = expected-done held words (done_is_due (command_of words) (expected held words) before after at) in (text, due, at.written text due))
+-- a file that is reported to be unreadable is one that the work could not read
+pub reported-unreadable : (e reported : Refusal) (file : File) → IsKept e reported → (let o : Outcome (Unit {0}) = Err reported in o) ≡ Err (Unreadable file) → e ≡ Unreadable file
+reported-unreadable e reported file kept is =
+    let same : reported ≡ Unreadable file = cc in reported-same e reported (Unreadable file) (λ is_memory. cc) kept same

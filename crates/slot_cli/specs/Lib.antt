@@ -1,5 +1,8 @@
 pub mod Commands
-pub mod Outcomes
+pub mod Due
 pub mod Runs
-pub mod Works
-pub mod Statuses
+pub mod Steps
+pub mod Verdicts
+pub use Rattle.run_outcome.specs.Refusals
+pub use Rattle.run_outcome.specs.Reports
+pub use Rattle.run_outcome.specs.Statuses

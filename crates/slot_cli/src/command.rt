@@ -4,10 +4,9 @@ ghost use Rattle.std.specs.Prelude.{◌≡◌, ◌≤◌, ℕ, true, Some, IfSom
 ghost use Rattle.std.specs.Char.{is_ascii_digit};
 ghost use Rattle.std.specs.List.{list_all};
 ghost use Rattle.std.specs.Str.Parse.{digits_value};
-ghost use Rattle.slot_cli.specs.Commands.{command_of, is_number, number_of};
+ghost use Rattle.slot_cli.specs.Commands.{command_of, is_number, number_up_to};
 
-use crate::REPLAY_LIMIT;
-use slot_core::Words;
+use slot_core::{REPLAY_LIMIT, Words};
 
 /// What the words ask for.
 #[derive(Clone, Copy, PartialEq, Eq, Debug)]
@@ -27,14 +26,14 @@ pub fn command_of(words: &Words) -> Option<Command>
         return Some(Command::Check);
     }
     if words.len() == 4 && words.word(0) == "replay" {
-        return number_of(REPLAY_LIMIT, words.word(3)).map(Command::Replay);
+        return number_up_to(REPLAY_LIMIT, words.word(3)).map(Command::Replay);
     }
     None
 }
 
 /// The number that a word writes, from 1 to the limit: 1 to 6 digits, the first not 0.
-fn number_of(limit: u32, word: &str) -> Option<u32>
-    ensures number { result ≡ number_of limit word.now }
+fn number_up_to(limit: u32, word: &str) -> Option<u32>
+    ensures number { result ≡ number_up_to limit word.now }
     ensures within { IfSome result (λ n. n ≤ limit) }
 {
     if !is_number(word.as_bytes()) {

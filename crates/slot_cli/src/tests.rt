@@ -1,9 +1,9 @@
 //! Runs over files and sinks in memory.
 
 use crate::fault_lines::FAULT_LINES;
-use crate::{ARRIVALS_FILE_LIMIT, Status, TASK_FILE_LIMIT, run};
-use slot_core::Words;
-use slot_io::{MemoryFiles, MemorySink};
+use crate::{Status, run};
+use slot_core::{ARRIVALS_FILE_LIMIT, TASK_FILE_LIMIT, Words};
+use slot_io::{Files, MemoryFiles, MemorySink, ReadFault};
 use std::alloc::Global;
 use std::process::Abort;
 use std::test::Fail;
@@ -63,78 +63,134 @@ period = 40
 task = [{ name = 'recv', wcet = 2 }, { name = 'plan', wcet = 3, after = ['recv'] }, { name = 'send', wcet = 1, after = ['plan'] }]
 ";
 
+/// One job that takes the whole of the longest cycle.
+const LONGEST: &str =
+    "graph = [{ name = 'g', period = 4096, task = [{ name = 'a', wcet = 4096 }] }]";
+
+/// Two windows that meet.
+const SPLIT: &str =
+    "graph = [{ name = 'c', period = 10, offset = 5, deadline = 2, task = [{ name = 'a', wcet = 2 }] }, { name = 'd', period = 10, offset = 6, deadline = 1, task = [{ name = 'a', wcet = 1 }] }]";
+
+/// A window with more work than slots, in a cycle with room enough.
+const CAMERA: &str =
+    "graph = [{ name = 'camera', period = 20, offset = 5, deadline = 4, task = [{ name = 'a', wcet = 3 }] }, { name = 'lidar', period = 20, offset = 6, deadline = 3, task = [{ name = 'a', wcet = 2 }] }, { name = 'log', period = 20, task = [{ name = 'a', wcet = 3 }] }]";
+
+/// Three tasks in a row that come too late.
+const CHAIN: &str =
+    "graph = [{ name = 'g', period = 10, deadline = 3, task = [{ name = 'a', wcet = 2 }, { name = 'b', wcet = 2, after = ['a'] }, { name = 'c', wcet = 2, after = ['b'] }] }]";
+
+/// More work than slots.
+const OVERLOAD: &str = "graph = [{ name = 'g', period = 2, task = [{ name = 'a', wcet = 3 }] }]";
+
+const CHECK: &str = "check a.toml";
+
+const REPLAY: &str = "replay a.toml none.csv 1";
+
 const USAGE: &str =
     "usage: slotshift check T, table T, show B, replay T A N, replay-table B A N, gantt T A N, selfrun N\n";
 
-/// The trace of two slots of the borrowing set.
-const BORROWING_TRACE: &str = "0 start | 0-4:1 4-10:-2 10-14:1 14-20:-2 20-24:1 24-30:-2
+/// Words that are no command, a line each; the first has no word.
+const NO_COMMANDS: &str = "
+check
+check a.toml none.csv
+Check a.toml
+table a.toml
+selfrun 33
+replay a.toml none.csv
+replay a.toml none.csv 0
+replay a.toml none.csv 07
+replay a.toml none.csv +7
+replay a.toml none.csv 100001
+replay a.toml none.csv 1000000";
+
+/// Names of 32 graphs.
+const NAMES: &str = "a b c d e f g h i j k l m n o p q r s t u v w x y z A B C D E F";
+
+const BORROWING_2: &str = "0 start | 0-4:1 4-10:-2 10-14:1 14-20:-2 20-24:1 24-30:-2
 0 run p.w#0 | 1-4:1 4-10:-2 10-14:1 14-20:-2 20-24:1 24-30:-2
 1 run q.w#0 | 2-4:1 4-10:-1 10-14:1 14-20:-2 20-24:1 24-30:-2
 2 end
 ";
 
-/// Its first two lines.
-const BORROWING_BEGINS: &str = "0 start | 0-4:1 4-10:-2 10-14:1 14-20:-2 20-24:1 24-30:-2
-0 run p.w#0 | 1-4:1 4-10:-2 10-14:1 14-20:-2 20-24:1 24-30:-2
+const OFFSET_1: &str = "0 start | 0-2:2 2-5:1 5-6:1 6-8:2 8-11:1 11-12:1 12-14:2 14-17:1 +1
+0 idle | 1-2:1 2-5:1 5-6:1 6-8:2 8-11:1 11-12:1 12-14:2 14-17:1 +1
+1 end
+";
+
+const OFFSET_1_CUT: &str = "0 start | 0-2:2 2-5:1 5-6:1 6-8:2 8-11:1 11-12:1 12-14:2 14-17:1 +1
+0 idle | 1-2:1 2-5:1 5-6:1 6-8:2 8-11:1 11-12:1 12-14:2 14-17:1 +1
+";
+
+const PAIR_17: &str = "0 start | 0-7:5 7-8:0 8-15:5 15-16:0 16-23:5 23-24:0
+0 run g.a#0 | 1-7:5 7-8:0 8-15:5 15-16:0 16-23:5 23-24:0
+1 run g.a#0 | 2-7:5 7-8:0 8-15:5 15-16:0 16-23:5 23-24:0
+2 run g.b#0 | 3-7:4 7-8:1 8-15:5 15-16:0 16-23:5 23-24:0
+3 idle | 4-7:3 7-8:1 8-15:5 15-16:0 16-23:5 23-24:0
+4 idle | 5-7:2 7-8:1 8-15:5 15-16:0 16-23:5 23-24:0
+5 idle | 6-7:1 7-8:1 8-15:5 15-16:0 16-23:5 23-24:0
+6 idle | 7-8:1 8-15:5 15-16:0 16-23:5 23-24:0
+7 idle | 8-15:5 15-16:0 16-23:5 23-24:0 24-31:5 31-32:0
+8 run g.a#1 | 9-15:5 15-16:0 16-23:5 23-24:0 24-31:5 31-32:0
+9 run g.a#1 | 10-15:5 15-16:0 16-23:5 23-24:0 24-31:5 31-32:0
+10 run g.b#1 | 11-15:4 15-16:1 16-23:5 23-24:0 24-31:5 31-32:0
+11 idle | 12-15:3 15-16:1 16-23:5 23-24:0 24-31:5 31-32:0
+12 idle | 13-15:2 15-16:1 16-23:5 23-24:0 24-31:5 31-32:0
+13 idle | 14-15:1 15-16:1 16-23:5 23-24:0 24-31:5 31-32:0
+14 idle | 15-16:1 16-23:5 23-24:0 24-31:5 31-32:0
+15 idle | 16-23:5 23-24:0 24-31:5 31-32:0 32-39:5 39-40:0
+16 run g.a#2 | 17-23:5 23-24:0 24-31:5 31-32:0 32-39:5 39-40:0
+17 end
 ";
 
 /// A run over `a.toml` and `none.csv`, and what comes of it.
-#[derive(Drop)]
-struct Case {
+#[derive(Clone, Copy)]
+struct Case<'t> {
     /// The words, with a space between each two.
-    words: &'static str,
-    tasks: &'static str,
-    arrivals: &'static str,
+    words: &'t str,
+    tasks: &'t str,
+    arrivals: &'t str,
+    /// The read and the put that fail, counted from 1; none where it is 0.
+    failing: (u32, u32),
     status: Status,
-    out: &'static str,
-    err: &'static str,
+    /// How many reads are made.
+    reads: u32,
+    out: &'t str,
+    err: &'t str,
 }
 
-/// A check of a set that fits.
-fn fits(tasks: &'static str, out: &'static str) -> Case {
-    Case {
-        words: "check a.toml",
-        tasks,
-        arrivals: "",
-        status: Status::Done,
-        out,
-        err: "",
-    }
-}
-
-/// A replay of the set without arrivals.
-fn replays(words: &'static str, tasks: &'static str, out: &'static str) -> Case {
+/// A run of these words that is done.
+fn done<'t>(words: &'t str, reads: u32, tasks: &'t str, out: &'t str) -> Case<'t> {
     Case {
         words,
         tasks,
         arrivals: "",
+        failing: (0, 0),
         status: Status::Done,
+        reads,
         out,
         err: "",
     }
 }
 
-/// A check of a set that does not fit.
-fn refuses(tasks: &'static str, err: &'static str) -> Case {
-    Case {
-        words: "check a.toml",
-        tasks,
-        arrivals: "",
-        status: Status::Infeasible,
-        out: "",
-        err,
-    }
-}
-
-/// Words over the offset set that are refused.
-fn stops(words: &'static str, arrivals: &'static str, status: Status, err: &'static str) -> Case {
+/// A run of these words over the offset set that is refused.
+fn refused<'t>(words: &'t str, status: Status, reads: u32, err: &'t str) -> Case<'t> {
     Case {
         words,
         tasks: OFFSET,
-        arrivals,
+        arrivals: "",
+        failing: (0, 0),
         status,
+        reads,
         out: "",
         err,
+    }
+}
+
+/// A run over a set that does not fit.
+fn infeasible<'t>(words: &'t str, tasks: &'t str, err: &'t str) -> Case<'t> {
+    Case {
+        tasks,
+        ..refused(words, Status::Infeasible, 1, err)
     }
 }
 
@@ -158,176 +214,119 @@ fn files_of(alloc: Global, tasks: &[u8], arrivals: &[u8]) -> Result<MemoryFiles,
     Ok(files)
 }
 
-/// Runs the case and compares what comes of it.
+/// Runs the case and compares what comes of it. Standard error takes one put, and the read after
+/// those of the run is the one of the next number.
 fn expect(rt: &impl Abort, alloc: Global, case: &Case) -> Result<(), Fail> {
+    let (read, put) = case.failing;
     let mut files = files_of(alloc, case.tasks.as_bytes(), case.arrivals.as_bytes())?;
+    files.fail_read(read)?;
     let words = words_of(alloc, case.words)?;
     let mut out = MemorySink::with_room(alloc, 4096)?;
-    let mut err = MemorySink::with_room(alloc, 4096)?;
+    out.fail_put(put)?;
+    let mut err = MemorySink::with_room(alloc, 256)?;
+    err.fail_put(2)?;
     let status = run(alloc, &words, &mut files, &mut out, &mut err);
     let told = std::str::from_utf8(err.bytes())?;
     assert_eq!(rt; told, case.err, "at {}: {}", case.words, case.tasks);
     let written = std::str::from_utf8(out.bytes())?;
     assert_eq!(rt; written, case.out, "at {}: {}", case.words, case.tasks);
     assert_eq!(rt; status, case.status, "at {}: {}", case.words, case.tasks);
+    files.fail_read(case.reads.saturating_add(1))?;
+    let next = files.read(alloc, "a.toml", 0);
+    assert!(rt;
+        matches!(next, Err(ReadFault::Failed)),
+        "at {}: reads",
+        case.words
+    );
     Ok(())
 }
 
 #[test]
-fn writes_what_is_due(rt: HostRuntime) -> Result<(), Fail> {
-    let cases = [
-        fits(OFFSET, "feasible cycle 6 jobs 1 spans 3\n"),
-        fits(BORROWING, "feasible cycle 10 jobs 2 spans 2\n"),
-        fits(
-            "graph = [{ name = 'g', period = 4096, task = [{ name = 'a', wcet = 4096 }] }]",
-            "feasible cycle 4096 jobs 1 spans 1\n",
-        ),
-        fits(PAIR, "feasible cycle 8 jobs 2 spans 2\n"),
-        fits(FLIGHT, "feasible cycle 40 jobs 21 spans 15\n"),
-        replays("replay a.toml none.csv 2", BORROWING, BORROWING_TRACE),
-        replays(
-            "replay a.toml none.csv 1",
-            PAIR,
-            "0 start | 0-7:5 7-8:0 8-15:5 15-16:0 16-23:5 23-24:0\n0 run g.a#0 | 1-7:5 7-8:0 8-15:5 15-16:0 16-23:5 23-24:0\n1 end\n",
-        ),
-        replays(
-            "replay a.toml none.csv 1",
-            OFFSET,
-            "0 start | 0-2:2 2-5:1 5-6:1 6-8:2 8-11:1 11-12:1 12-14:2 14-17:1 +1\n0 idle | 1-2:1 2-5:1 5-6:1 6-8:2 8-11:1 11-12:1 12-14:2 14-17:1 +1\n1 end\n",
-        ),
-    ];
-    for case in &cases {
-        expect(&rt, rt.alloc(), case)?;
-    }
-    Ok(())
-}
-
-#[test]
-fn refuses_infeasible_sets(rt: HostRuntime) -> Result<(), Fail> {
-    let cases = [
-        refuses(
-            "graph = [{ name = 'c', period = 10, offset = 5, deadline = 2, task = [{ name = 'a', wcet = 2 }] }, { name = 'd', period = 10, offset = 6, deadline = 1, task = [{ name = 'a', wcet = 1 }] }]",
-            "infeasible 5 7 3\n",
-        ),
-        refuses(
-            "graph = [{ name = 'g', period = 2, task = [{ name = 'a', wcet = 3 }] }]",
-            "infeasible 0 2 3\n",
-        ),
-        refuses(
-            "graph = [{ name = 'camera', period = 20, offset = 5, deadline = 4, task = [{ name = 'a', wcet = 3 }] }, { name = 'lidar', period = 20, offset = 6, deadline = 3, task = [{ name = 'a', wcet = 2 }] }, { name = 'log', period = 20, task = [{ name = 'a', wcet = 3 }] }]",
-            "infeasible 5 9 5\n",
-        ),
-        refuses(
-            "graph = [{ name = 'g', period = 10, deadline = 3, task = [{ name = 'a', wcet = 2 }, { name = 'b', wcet = 2, after = ['a'] }, { name = 'c', wcet = 2, after = ['b'] }] }]",
-            "infeasible 0 1 4\n",
-        ),
-    ];
-    for case in &cases {
-        expect(&rt, rt.alloc(), case)?;
-    }
-    Ok(())
-}
-
-/// Words that are no command, a line each; the first has no word.
-const NO_COMMANDS: &str = "
-check
-check a.toml none.csv
-Check a.toml
-table a.toml
-selfrun 33
-replay a.toml none.csv
-replay a.toml none.csv 0
-replay a.toml none.csv 07
-replay a.toml none.csv +7
-replay a.toml none.csv 100001
-replay a.toml none.csv 1000000";
-
-#[test]
-fn stops_at_words_that_are_no_command(rt: HostRuntime) -> Result<(), Fail> {
-    for words in NO_COMMANDS.lines() {
-        expect(&rt, rt.alloc(), &stops(words, "", Status::Usage, USAGE))?;
-    }
-    Ok(())
-}
-
-#[test]
-fn stops_at_files(rt: HostRuntime) -> Result<(), Fail> {
+fn runs_as_the_files_call_for(rt: HostRuntime) -> Result<(), Fail> {
     let unread = "cannot read b.toml\n";
     let cases = [
-        stops("check b.toml", "", Status::FileFault, unread),
-        stops("replay b.toml b.csv 1", "", Status::FileFault, unread),
-        stops(
+        done(CHECK, 1, OFFSET, "feasible cycle 6 jobs 1 spans 3\n"),
+        done(CHECK, 1, BORROWING, "feasible cycle 10 jobs 2 spans 2\n"),
+        done(CHECK, 1, LONGEST, "feasible cycle 4096 jobs 1 spans 1\n"),
+        done(CHECK, 1, PAIR, "feasible cycle 8 jobs 2 spans 2\n"),
+        done(CHECK, 1, FLIGHT, "feasible cycle 40 jobs 21 spans 15\n"),
+        done("replay a.toml none.csv 2", 2, BORROWING, BORROWING_2),
+        done("replay a.toml none.csv 17", 2, PAIR, PAIR_17),
+        done(REPLAY, 2, OFFSET, OFFSET_1),
+        infeasible(CHECK, SPLIT, "infeasible 5 7 3\n"),
+        infeasible(CHECK, CAMERA, "infeasible 5 9 5\n"),
+        infeasible(CHECK, CHAIN, "infeasible 0 1 4\n"),
+        infeasible(CHECK, OVERLOAD, "infeasible 0 2 3\n"),
+        infeasible(REPLAY, OVERLOAD, "infeasible 0 2 3\n"),
+        refused("check b.toml", Status::FileFault, 1, unread),
+        refused("replay b.toml b.csv 1", Status::FileFault, 1, unread),
+        refused(
             "replay a.toml b.csv 1",
-            "",
             Status::FileFault,
+            2,
             "cannot read b.csv\n",
         ),
-        stops(
-            "replay a.toml none.csv 1",
-            "\n",
-            Status::BadArrivals,
-            "arrivals too many\n",
-        ),
+        Case {
+            arrivals: "\n",
+            ..refused(REPLAY, Status::BadArrivals, 2, "arrivals too many\n")
+        },
+        Case {
+            failing: (1, 0),
+            ..refused(CHECK, Status::FileFault, 1, "cannot read a.toml\n")
+        },
+        Case {
+            failing: (2, 0),
+            ..refused(REPLAY, Status::FileFault, 2, "cannot read none.csv\n")
+        },
+        Case {
+            failing: (0, 1),
+            ..refused(CHECK, Status::WriteFault, 1, "cannot write\n")
+        },
+        Case {
+            failing: (0, 3),
+            out: OFFSET_1_CUT,
+            ..refused(REPLAY, Status::WriteFault, 2, "cannot write\n")
+        },
     ];
     for case in &cases {
         expect(&rt, rt.alloc(), case)?;
     }
-    Ok(())
-}
-
-#[test]
-fn replays_later_cycles(rt: HostRuntime) -> Result<(), Fail> {
-    let alloc = rt.alloc();
-    let mut files = files_of(alloc, PAIR.as_bytes(), b"")?;
-    let words = words_of(alloc, "replay a.toml none.csv 17")?;
-    let mut out = MemorySink::with_room(alloc, 4096)?;
-    let mut err = MemorySink::with_room(alloc, 4096)?;
-    let status = run(alloc, &words, &mut files, &mut out, &mut err);
-    assert_eq!(rt; status, Status::Done);
-    let rows = [
-        (
-            3,
-            "2 run g.b#0 | 3-7:4 7-8:1 8-15:5 15-16:0 16-23:5 23-24:0",
-        ),
-        (8, "7 idle | 8-15:5 15-16:0 16-23:5 23-24:0 24-31:5 31-32:0"),
-        (
-            9,
-            "8 run g.a#1 | 9-15:5 15-16:0 16-23:5 23-24:0 24-31:5 31-32:0",
-        ),
-        (
-            17,
-            "16 run g.a#2 | 17-23:5 23-24:0 24-31:5 31-32:0 32-39:5 39-40:0",
-        ),
-        (18, "17 end"),
-    ];
-    let text = std::str::from_utf8(out.bytes())?;
-    for (at, want) in rows {
-        assert_eq!(rt; text.lines().nth(at).ok_or("too few lines")?, want);
+    for words in NO_COMMANDS.lines() {
+        expect(&rt, rt.alloc(), &refused(words, Status::Usage, 0, USAGE))?;
     }
-    assert_eq!(rt; text.lines().count(), 19);
     Ok(())
 }
 
 #[test]
-fn tells_faults_of_the_host(rt: HostRuntime) -> Result<(), Fail> {
-    let alloc = rt.alloc();
-    let words = words_of(alloc, "replay a.toml none.csv 2")?;
-    let mut files = files_of(alloc, BORROWING.as_bytes(), b"")?;
-    files.fail_read(2)?;
-    let mut out = MemorySink::with_room(alloc, 4096)?;
-    out.fail_put(3)?;
-    let mut err = MemorySink::with_room(alloc, 4096)?;
-    let unread = run(alloc, &words, &mut files, &mut out, &mut err);
-    assert_eq!(rt; unread, Status::FileFault);
-    assert_eq!(rt; out.bytes(), b"".as_slice());
-    assert_eq!(rt; err.bytes(), b"cannot read none.csv\n".as_slice());
+fn takes_as_many_graphs_as_may_be(rt: HostRuntime) -> Result<(), Fail> {
+    let mut tasks = String::from_str(rt.alloc(), "graph = [")?;
+    for name in NAMES.split(' ') {
+        tasks.push_str("{ name = '")?;
+        tasks.push_str(name)?;
+        tasks.push_str("', period = 64, task = [{ name = 'w', wcet = 2 }] },")?;
+    }
+    tasks.push_str("]")?;
+    let case = done(
+        CHECK,
+        1,
+        tasks.as_str(),
+        "feasible cycle 64 jobs 32 spans 1\n",
+    );
+    expect(&rt, rt.alloc(), &case)
+}
 
-    let mut told = MemorySink::with_room(alloc, 6)?;
-    let unwritten = run(alloc, &words, &mut files, &mut out, &mut told);
-    assert_eq!(rt; unwritten, Status::WriteFault);
-    let lines = std::str::from_utf8(out.bytes())?;
-    assert_eq!(rt; lines, BORROWING_BEGINS);
-    assert_eq!(rt; told.bytes(), b"cannot".as_slice());
+#[test]
+fn tells_the_first_fault(rt: HostRuntime) -> Result<(), Fail> {
+    for row in FAULT_LINES.lines() {
+        let (tasks, line) = row.split_once(" => ").ok_or("no arrow")?;
+        let mut err = String::from_str(rt.alloc(), line)?;
+        err.push_str("\n")?;
+        let case = Case {
+            tasks,
+            ..refused(CHECK, Status::BadTasks, 1, err.as_str())
+        };
+        expect(&rt, rt.alloc(), &case)?;
+    }
     Ok(())
 }
 
@@ -335,71 +334,28 @@ fn tells_faults_of_the_host(rt: HostRuntime) -> Result<(), Fail> {
 fn refuses_large_files(rt: HostRuntime) -> Result<(), Fail> {
     let alloc = rt.alloc();
     let rows = [
+        (CHECK, TASK_FILE_LIMIT, "tasks missing top graph\n"),
+        (CHECK, TASK_FILE_LIMIT + 1, "too large a.toml 1048576\n"),
+        (REPLAY, ARRIVALS_FILE_LIMIT, "arrivals too many\n"),
         (
-            TASK_FILE_LIMIT,
-            Status::BadTasks,
-            "tasks missing top graph\n",
-        ),
-        (
-            TASK_FILE_LIMIT + 1,
-            Status::TooLarge,
-            "too large a.toml 1048576\n",
-        ),
-    ];
-    for (size, want, line) in rows {
-        let remark = vec![in alloc; b'#'; size]?;
-        let mut files = files_of(alloc, remark.as_slice(), b"")?;
-        let words = words_of(alloc, "check a.toml")?;
-        let mut out = MemorySink::with_room(alloc, 4096)?;
-        let mut err = MemorySink::with_room(alloc, 4096)?;
-        let status = run(alloc, &words, &mut files, &mut out, &mut err);
-        assert_eq!(rt; status, want);
-        assert_eq!(rt; err.bytes(), line.as_bytes());
-    }
-    Ok(())
-}
-
-#[test]
-fn refuses_a_large_arrivals_file(rt: HostRuntime) -> Result<(), Fail> {
-    let alloc = rt.alloc();
-    let rows = [
-        (
-            ARRIVALS_FILE_LIMIT,
-            Status::BadArrivals,
-            "arrivals too many\n",
-        ),
-        (
+            REPLAY,
             ARRIVALS_FILE_LIMIT + 1,
-            Status::TooLarge,
             "too large none.csv 4194304\n",
         ),
     ];
-    for (size, want, line) in rows {
-        let arrivals = vec![in alloc; b'0'; size]?;
-        let mut files = files_of(alloc, OFFSET.as_bytes(), arrivals.as_slice())?;
-        let words = words_of(alloc, "replay a.toml none.csv 1")?;
-        let mut out = MemorySink::with_room(alloc, 4096)?;
-        let mut err = MemorySink::with_room(alloc, 4096)?;
-        let status = run(alloc, &words, &mut files, &mut out, &mut err);
-        assert_eq!(rt; status, want);
-        assert_eq!(rt; err.bytes(), line.as_bytes());
-    }
-    Ok(())
-}
-
-#[test]
-fn tells_the_first_fault(rt: HostRuntime) -> Result<(), Fail> {
-    let alloc = rt.alloc();
-    let words = words_of(alloc, "check a.toml")?;
-    for case in FAULT_LINES.lines() {
-        let (tasks, line) = case.split_once(" => ").ok_or("no arrow")?;
-        let mut files = files_of(alloc, tasks.as_bytes(), b"")?;
+    for (line, size, want) in rows {
+        let large = vec![in alloc; b'#'; size]?;
+        let tasks = if line == CHECK {
+            large.as_slice()
+        } else {
+            OFFSET.as_bytes()
+        };
+        let mut files = files_of(alloc, tasks, large.as_slice())?;
+        let words = words_of(alloc, line)?;
         let mut out = MemorySink::with_room(alloc, 0)?;
-        let mut err = MemorySink::with_room(alloc, 256)?;
-        let status = run(alloc, &words, &mut files, &mut out, &mut err);
-        let told = std::str::from_utf8(err.bytes())?;
-        assert_eq!(rt; told.trim_end(), line, "at {tasks}");
-        assert_eq!(rt; status, Status::BadTasks, "at {tasks}");
+        let mut err = MemorySink::with_room(alloc, 64)?;
+        let _status = run(alloc, &words, &mut files, &mut out, &mut err);
+        assert_eq!(rt; err.bytes(), want.as_bytes());
     }
     Ok(())
 }

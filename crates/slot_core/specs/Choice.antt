@@ -8,7 +8,8 @@ use Rattle.slot_core.specs.declared.tasks.Sporadic.{Sporadic}
 use Rattle.slot_core.specs.declared.events.Ran.{Ran}
 use Rattle.slot_core.specs.declared.events.Ran.TheVariants.{Idle, Key}
 use Rattle.slot_core.specs.Keys.{is_earlier}
-use Rattle.slot_core.specs.Scenes.{Scene, SoftJob, horizon}
+use Rattle.slot_core.specs.declared.jobs.SoftJob.{SoftJob}
+use Rattle.slot_core.specs.Scenes.{Scene, horizon}
 use Rattle.slot_core.specs.Demand.{is_overloaded}
 
 -- of two candidates, the one that goes before the other; the first where they are level
@@ -42,13 +43,15 @@ soft_may_run sporadics cycle scene =
 
 -- the guaranteed job that is ready and earliest, or idle
 abbrev pub earliest_ready : Scene → Ran
-earliest_ready scene = option_map_or (λ (j : Job). Key j.key) (earliest (ready scene.time scene.jobs)) Idle
+earliest_ready scene =
+    option_map_or (λ (j : Job). Key j.key) (earliest (ready scene.time scene.jobs)) Idle
 
 -- the choice of the slot: the first soft job where soft work may take the slot, else the earliest
 -- guaranteed job that is ready, else idle
 abbrev pub choice : List Sporadic → ℕ → Scene → Ran
 choice sporadics cycle scene =
+    let other = earliest_ready scene in
     option_map_or
-    (λ (s : SoftJob). if soft_may_run sporadics cycle scene then Key (Soft s.row) else earliest_ready scene)
+    (λ (s : SoftJob). if soft_may_run sporadics cycle scene then Key (Soft s.row) else other)
     (first_soft scene.soft)
-    (earliest_ready scene)
+    other

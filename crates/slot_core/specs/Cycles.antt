@@ -11,7 +11,9 @@ least_common_multiple a b = a * unwrap_or (find (λ n. (a * n) % b == 0) (range_
 
 -- the periods in the order of the file, then the separations
 abbrev pub cycle_lengths : TaskSet → List ℕ
-cycle_lengths set = map (λ (g : Graph). g.period) set.graphs ++ map (λ (s : Sporadic). s.separation) set.sporadics
+cycle_lengths set =
+    map (λ (g : Graph). g.period) set.graphs
+    ++ map (λ (s : Sporadic). s.separation) set.sporadics
 
 -- the cycle: the least common multiple of all periods and separations
 abbrev pub cycle_of : TaskSet → ℕ

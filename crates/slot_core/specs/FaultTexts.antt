@@ -43,14 +43,17 @@ task_fault_text NotToml = codes "not toml"
 task_fault_text (UnknownKey part) = codes "unknown key in " ++ part_text part
 task_fault_text (Missing place) = codes "missing " ++ place_text place
 task_fault_text (WrongKind place) = codes "wrong kind " ++ place_text place
-task_fault_text (OutOfRange place value) = codes "out of range " ++ place_text place ++ codes " " ++ signed_decimal value
+task_fault_text (OutOfRange place value) =
+    codes "out of range " ++ place_text place ++ codes " " ++ signed_decimal value
 task_fault_text (BadName place) = codes "bad name " ++ place_text place
 task_fault_text (Doubled place) = codes "doubled " ++ place_text place
 task_fault_text (NoSuchTask place) = codes "no such task " ++ place_text place
-task_fault_text (Loop graph task) = codes "loop " ++ worded (codes "graph") graph ++ codes " " ++ worded (codes "task") task
-task_fault_text (TooMany place count) = codes "too many " ++ place_text place ++ codes " " ++ decimal count
+task_fault_text (Loop graph task) =
+    codes "loop " ++ worded (codes "graph") graph ++ codes " " ++ worded (codes "task") task
+task_fault_text (TooMany place count) =
+    codes "too many " ++ place_text place ++ codes " " ++ decimal count
 task_fault_text (CycleTooLong multiple) = worded (codes "cycle too long") multiple
 
--- the window that fails, as a line
+-- the window that fails
 abbrev pub infeasible_text : Window → List ℕ
 infeasible_text w = worded (worded (worded (codes "infeasible") w.from) w.until) w.demand

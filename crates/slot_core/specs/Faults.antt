@@ -1,4 +1,5 @@
--- The first fault of a task set whose numbers are in range: names, `after` entries, loops, the cycle.
+-- The first fault of a task set whose numbers are in range: names, `after` entries, loops, and the
+-- cycle.
 use Rattle.std.specs.Prelude.{ℕ, ◌+◌, ◌==◌, Bool, List, [], ◌∷◌, length, find, map, Option, Some, None, option_map, nat_le, if◌then◌else◌}
 use Rattle.std.specs.Option.{option_or}
 use Rattle.std.specs.List.{list_any, range_with_len}
@@ -39,12 +40,15 @@ abbrev pub graph_names_fault : List (List ℕ) → ℕ → List Graph → Option
 graph_names_fault earlier g [] = None
 graph_names_fault earlier g (graph ∷ graphs) =
     option_or
-    (fault_if (list_any (bytes_eq graph.name) earlier) (Doubled (record { part = GraphPart g; field = Name })))
+    (fault_if
+    (list_any (bytes_eq graph.name) earlier)
+    (Doubled (record { part = GraphPart g; field = Name })))
     (option_or
     (names_fault (TaskPart g) [] 0 (map (λ (t : Task). t.name) graph.tasks))
     (graph_names_fault (graph.name ∷ earlier) (g + 1) graphs))
 
--- the first entry of an `after` list that names no task of the graph, or stands among those before it
+-- the first entry of an `after` list that names no task of the graph, or stands among those before
+-- it
 abbrev pub entries_fault : Place → ℕ → List ℕ → List ℕ → Option TaskFault
 entries_fault place count earlier [] = None
 entries_fault place count earlier (a ∷ more) =
@@ -54,19 +58,22 @@ entries_fault place count earlier (a ∷ more) =
     (fault_if (list_any (λ e. a == e) earlier) (Doubled place))
     (entries_fault place count (a ∷ earlier) more))
 
+-- the first wrong entry of a task, where its graph has so many
+abbrev pub task_fault : ℕ → ℕ → ℕ → Task → Option TaskFault
+task_fault g count t task =
+    entries_fault (record { part = TaskPart g t; field = After }) count [] task.after
+
+-- the first wrong entry of a graph
 abbrev pub after_fault : ℕ → Graph → Option TaskFault
-after_fault g graph =
-    first_fault
-    (λ t (task : Task). entries_fault (record { part = TaskPart g t; field = After }) (length graph.tasks) [] task.after)
-    0
-    graph.tasks
+after_fault g graph = first_fault (task_fault g (length graph.tasks)) 0 graph.tasks
 
 -- the least task of a graph that stands on a loop
 abbrev pub loop_fault : ℕ → Graph → Option TaskFault
-loop_fault g graph = option_map (Loop g) (find (is_on_loop graph.tasks) (range_with_len 0 (length graph.tasks)))
+loop_fault g graph =
+    option_map (Loop g) (find (is_on_loop graph.tasks) (range_with_len 0 (length graph.tasks)))
 
--- the first fault of a set in range: a doubled name, then a wrong `after` entry, then a loop, then a cycle
--- above its limit
+-- the first fault of a set in range: a doubled name, then a wrong `after` entry, then a loop,
+-- then a cycle above its limit
 abbrev pub set_fault : TaskSet → Option TaskFault
 set_fault set =
     option_or

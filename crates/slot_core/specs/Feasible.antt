@@ -9,16 +9,20 @@ use Rattle.slot_core.specs.declared.tasks.TaskSet.{TaskSet}
 use Rattle.slot_core.specs.OfflineJobs.{cycle_jobs}
 use Rattle.slot_core.specs.Sporadics.{sporadic_demand}
 
--- the declared slots of the jobs that start at or after a and are due by b, with their windows moved
+-- the declared slots of the jobs that start at or after a and are due by b, their windows shifted
 abbrev pub declared_within : List Job → ℕ → ℕ → ℕ → ℕ
-declared_within jobs moved a b =
-    sum_by (λ (j : Job). if nat_le a (j.est + moved) && nat_le (j.dl + moved) b then j.declared else 0) jobs
+declared_within jobs shift a b =
+    sum_by
+    (λ (j : Job). if nat_le a (j.est + shift) && nat_le (j.dl + shift) b then j.declared else 0)
+    jobs
 
 -- the demand of the window [a, b): the jobs of the first cycle, and of the next where b is past the
 -- first, with window inside it, and the densest sporadic arrivals from a that are due by b
 abbrev pub window_demand : List Job → List Sporadic → ℕ → ℕ → ℕ → ℕ
 window_demand jobs sporadics cycle a b =
-    declared_within jobs 0 a b + (if nat_lt cycle b then declared_within jobs cycle a b else 0) + sporadic_demand sporadics [] a b
+    declared_within jobs 0 a b
+    + (if nat_lt cycle b then declared_within jobs cycle a b else 0)
+    + sporadic_demand sporadics [] a b
 
 abbrev pub demand : TaskSet → ℕ → ℕ → ℕ → ℕ
 demand set cycle a b = window_demand (cycle_jobs set cycle 0) set.sporadics cycle a b
@@ -43,8 +47,8 @@ abbrev pub first_failing_from : List Job → List Sporadic → ℕ → ℕ → O
 first_failing_from jobs sporadics cycle a =
     first_some (failing_window jobs sporadics cycle a) (range_with_len (a + 1) (2 * cycle - a))
 
--- the counterexample to feasibility: the whole cycle where it fails, else the failing window of least
--- start and then of least end; none where no window fails
+-- the counterexample to feasibility: the whole cycle where it fails, else the failing window of
+-- least start and then of least end; none where no window fails
 abbrev pub counterexample_in : List Job → List Sporadic → ℕ → Option Window
 counterexample_in jobs sporadics cycle =
     option_or

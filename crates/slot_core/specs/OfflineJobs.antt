@@ -26,7 +26,12 @@ deadline_of graph instance = release_of graph instance + graph.deadline
 -- the raw job of a task of graph g in one instance
 abbrev pub raw_job : ℕ → Graph → ℕ → ℕ × Task → RawJob
 raw_job g graph instance t =
-    record { key = Offline g t.0 instance; release = release_of graph instance; deadline = deadline_of graph instance; wcet = t.1.wcet }
+    record {
+      key = Offline g t.0 instance;
+      release = release_of graph instance;
+      deadline = deadline_of graph instance;
+      wcet = t.1.wcet;
+    }
 
 -- the raw jobs of one instance of graph g, one a task
 abbrev pub instance_jobs : ℕ → Graph → ℕ → List RawJob
@@ -35,7 +40,9 @@ instance_jobs g graph instance = map (raw_job g graph instance) (enumerate_from 
 -- the raw jobs of graph g that are released in cycle n
 abbrev pub graph_jobs : ℕ → ℕ → ℕ × Graph → List RawJob
 graph_jobs cycle n (g, graph) =
-    flat_map (instance_jobs g graph) (range_with_len (n * (cycle / graph.period)) (cycle / graph.period))
+    flat_map
+    (instance_jobs g graph)
+    (range_with_len (n * (cycle / graph.period)) (cycle / graph.period))
 
 -- the raw jobs of cycle n, by graph, instance and task
 abbrev pub raw_jobs : TaskSet → ℕ → ℕ → List RawJob
@@ -50,11 +57,18 @@ abbrev pub chain_after : TaskSet → Key → ℕ
 chain_after set (Offline graph task instance) = longest_after (tasks_of set graph) task
 chain_after set _ = 0
 
--- the job with its derived window: it starts when its longest chain of predecessors may have run, and
--- is due in time for its longest chain of successors (0 where that chain is longer than the deadline)
+-- the job with its derived window: it starts when its longest chain of predecessors may have run,
+-- and is due in time for its longest chain of successors (0 where that chain is longer than the
+-- deadline)
 abbrev pub derived_job : TaskSet → RawJob → Job
 derived_job set raw =
-    record { key = raw.key; est = raw.release + chain_before set raw.key; dl = raw.deadline - chain_after set raw.key; left = raw.wcet; declared = raw.wcet }
+    record {
+      key = raw.key;
+      est = raw.release + chain_before set raw.key;
+      dl = raw.deadline - chain_after set raw.key;
+      left = raw.wcet;
+      declared = raw.wcet;
+    }
 
 -- the offline jobs of cycle n
 abbrev pub cycle_jobs : TaskSet → ℕ → ℕ → List Job
@@ -65,13 +79,22 @@ abbrev pub offline_jobs : TaskSet → ℕ → ℕ → List Job
 offline_jobs set cycle zero = []
 offline_jobs set cycle (suc n) = offline_jobs set cycle n ++ cycle_jobs set cycle n
 
--- the key of the same task n cycles later
-abbrev pub moved_key : TaskSet → ℕ → ℕ → Key → Key
-moved_key set cycle n (Offline graph task instance) =
-    Offline graph task (instance + n * option_map_or (λ (g : Graph). cycle / g.period) (slice_get set.graphs graph) 0)
-moved_key set cycle n key = key
+-- how many instances of this graph a cycle has
+abbrev pub instances_of : TaskSet → ℕ → ℕ → ℕ
+instances_of set cycle graph =
+    option_map_or (λ (g : Graph). cycle / g.period) (slice_get set.graphs graph) 0
 
--- the job of the same task n cycles later
-abbrev pub moved_job : TaskSet → ℕ → ℕ → Job → Job
-moved_job set cycle n job =
-    record job { key = moved_key set cycle n job.key; est = job.est + n * cycle; dl = job.dl + n * cycle }
+-- the key of the same task n cycles later
+abbrev pub later_key : TaskSet → ℕ → ℕ → Key → Key
+later_key set cycle n (Offline graph task instance) =
+    Offline graph task (instance + n * instances_of set cycle graph)
+later_key set cycle n key = key
+
+-- the job of the same task n cycles later, where its deadline was not cut to 0
+abbrev pub later_job : TaskSet → ℕ → ℕ → Job → Job
+later_job set cycle n job =
+    record job {
+      key = later_key set cycle n job.key;
+      est = job.est + n * cycle;
+      dl = job.dl + n * cycle;
+    }

@@ -15,7 +15,8 @@ use Rattle.slot_core.specs.Feasible.{IsFeasible}
 -- each job goes before all that stand after it, by deadline and then by key
 abbrev pub AreInDeadlineOrder : List Job → Type 0
 AreInDeadlineOrder [] = ⊤
-AreInDeadlineOrder (job ∷ jobs) = AllByRecursion (λ other. is_earlier job other ≡ true) jobs × AreInDeadlineOrder jobs
+AreInDeadlineOrder (job ∷ jobs) =
+    AllByRecursion (λ other. is_earlier job other ≡ true) jobs × AreInDeadlineOrder jobs
 
 -- what contracts see of a plan
 pub record PlanParts : Type 0 where
@@ -26,10 +27,11 @@ pub record PlanParts : Type 0 where
 
 -- the spans of the first cycle before the first slot
 abbrev pub plan_spans : TaskSet → ℕ → List Span
-plan_spans set cycle = filter (λ (s : Span). nat_le s.end cycle) (spans_of cycle (scene_of set cycle []))
+plan_spans set cycle =
+    filter (λ (s : Span). nat_le s.end cycle) (spans_of cycle (scene_of set cycle []))
 
--- a plan is a sound and feasible set with its cycle, the offline jobs of the first cycle in deadline
--- order, and the spans of the first cycle
+-- a plan is a sound and feasible set with its cycle, the offline jobs of the first cycle in
+-- deadline order, and the spans of the first cycle
 pub record IsPlan (plan : PlanParts) : Type 0 where
   pub sound : is_sound plan.tasks ≡ true
   pub cycle : plan.cycle ≡ cycle_of plan.tasks

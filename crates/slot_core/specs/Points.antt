@@ -5,14 +5,16 @@ use Rattle.slot_core.specs.declared.jobs.Job.{Job}
 
 -- the latest deadline of a job before this one, or 0
 abbrev pub end_before : List Job → ℕ → ℕ
-end_before jobs end = fold max 0 (map (λ (j : Job). j.dl) (filter (λ (j : Job). nat_lt j.dl end) jobs))
+end_before jobs end =
+    fold max 0 (map (λ (j : Job). j.dl) (filter (λ (j : Job). nat_lt j.dl end) jobs))
 
 -- the least derived start of the jobs with this deadline, at most `most`
 abbrev pub least_start : List Job → ℕ → ℕ → ℕ
-least_start jobs most end = fold min most (map (λ (j : Job). j.est) (filter (λ (j : Job). j.dl == end) jobs))
+least_start jobs most end =
+    fold min most (map (λ (j : Job). j.est) (filter (λ (j : Job). j.dl == end) jobs))
 
--- where the interval of the job's deadline starts: at the least start of the jobs with that deadline,
--- or at the end of the interval before it where that is later
+-- where the interval of the job's deadline starts: at the least start of the jobs with that
+-- deadline, or at the end of the interval before it where that is later
 abbrev pub interval_start : List Job → Job → ℕ
 interval_start jobs job = max (least_start jobs job.est job.dl) (end_before jobs job.dl)
 

@@ -15,22 +15,36 @@ is_between low high n = nat_le low n && nat_le n high
 
 abbrev pub task_in_range : Task → Bool
 task_in_range task =
-    is_name task.name && is_between 1 SLOT_LIMIT task.wcet && nat_le (length task.after) AFTER_LIMIT
+    is_name task.name
+    && is_between 1 SLOT_LIMIT task.wcet
+    && nat_le (length task.after) AFTER_LIMIT
 
 abbrev pub graph_in_range : Graph → Bool
 graph_in_range graph =
-    is_name graph.name && is_between 1 SLOT_LIMIT graph.period && is_between 0 (graph.period - 1) graph.offset && is_between 1 (graph.period - graph.offset) graph.deadline && is_between 1 TASK_LIMIT (length graph.tasks) && list_all task_in_range graph.tasks
+    is_name graph.name
+    && is_between 1 SLOT_LIMIT graph.period
+    && is_between 0 (graph.period - 1) graph.offset
+    && is_between 1 (graph.period - graph.offset) graph.deadline
+    && is_between 1 TASK_LIMIT (length graph.tasks)
+    && list_all task_in_range graph.tasks
 
 abbrev pub sporadic_in_range : Sporadic → Bool
 sporadic_in_range s =
-    is_name s.name && is_between 1 SLOT_LIMIT s.wcet && is_between 1 SLOT_LIMIT s.separation && is_between 1 s.separation s.deadline
+    is_name s.name
+    && is_between 1 SLOT_LIMIT s.wcet
+    && is_between 1 SLOT_LIMIT s.separation
+    && is_between 1 s.separation s.deadline
 
 -- every number is in its range, every count within its limit, and every name well formed
 abbrev pub is_in_range : TaskSet → Bool
 is_in_range set =
-    is_between 1 SOFT_LIMIT set.soft_limit && is_between 1 GRAPH_LIMIT (length set.graphs) && list_all graph_in_range set.graphs && nat_le (length set.sporadics) SPORADIC_LIMIT && list_all sporadic_in_range set.sporadics
+    is_between 1 SOFT_LIMIT set.soft_limit
+    && is_between 1 GRAPH_LIMIT (length set.graphs)
+    && list_all graph_in_range set.graphs
+    && nat_le (length set.sporadics) SPORADIC_LIMIT
+    && list_all sporadic_in_range set.sporadics
 
--- a sound set: in range, with distinct names, `after` entries that each name a task of the graph once, no
--- task on a loop, and a cycle within its limit
+-- a sound set: in range, with distinct names, `after` entries that each name a task of the graph
+-- once, no task on a loop, and a cycle within its limit
 abbrev pub is_sound : TaskSet → Bool
 is_sound set = is_in_range set && is_none (set_fault set)

@@ -1,5 +1,5 @@
--- The texts of keys, spans and entries. All are ASCII, numbers are plain decimals, and a line ends with
--- one line feed.
+-- The texts of keys, spans and entries. All are ASCII, numbers are plain decimals, and a line ends
+-- with one line feed.
 use Rattle.std.specs.Prelude.{ℕ, List, [], ◌∷◌, ◌++◌, codes, decimal, flat_map, slice_get, nat_lt, if◌then◌else◌}
 use Rattle.std.specs.Fmt.{signed_decimal}
 use Rattle.std.specs.Option.{option_map_or}
@@ -12,7 +12,7 @@ use Rattle.slot_core.specs.declared.tasks.Sporadic.{Sporadic}
 use Rattle.slot_core.specs.declared.tasks.TaskSet.{TaskSet}
 use Rattle.slot_core.specs.declared.events.Entry.{Entry}
 use Rattle.slot_core.specs.declared.events.What.{What}
-use Rattle.slot_core.specs.declared.events.What.TheVariants.{Start, Soft, Firm, Sporadic as SporadicEntry, Done, Run, Idle, End}
+use Rattle.slot_core.specs.declared.events.What.TheVariants.{Start, Soft, Firm, Sporadic as SporadicEntry, Done, Withdraw, Run, Idle, End}
 use Rattle.slot_core.specs.declared.events.Soft.{Soft as SoftAnswer}
 use Rattle.slot_core.specs.declared.events.Soft.TheVariants.{Taken as SoftTaken, Full}
 use Rattle.slot_core.specs.declared.events.Firm.{Firm as FirmAnswer}
@@ -21,6 +21,8 @@ use Rattle.slot_core.specs.declared.events.Spo.{Spo}
 use Rattle.slot_core.specs.declared.events.Spo.TheVariants.{Taken as SporadicTaken, Soon}
 use Rattle.slot_core.specs.declared.events.Done.{Done as DoneAnswer}
 use Rattle.slot_core.specs.declared.events.Done.TheVariants.{Freed, NotRunning}
+use Rattle.slot_core.specs.declared.events.Gone.{Gone}
+use Rattle.slot_core.specs.declared.events.Gone.TheVariants.{Freed as GoneFreed, NoJob}
 use Rattle.slot_core.specs.ShownSpans.{ShownSpans}
 use Rattle.slot_core.specs.OfflineJobs.{tasks_of}
 
@@ -63,6 +65,10 @@ abbrev pub done_text : DoneAnswer → List ℕ
 done_text (Freed n) = worded (codes "freed") n
 done_text NotRunning = codes "notrunning"
 
+abbrev pub gone_text : Gone → List ℕ
+gone_text (GoneFreed n) = worded (codes "freed") n
+gone_text NoJob = codes "nojob"
+
 -- the words of an entry
 abbrev pub what_text : TaskSet → What → List ℕ
 what_text set Start = codes "start"
@@ -71,21 +77,27 @@ what_text set (Firm row slots within a) =
     worded (worded (worded (codes "firm") row) slots) within ++ 32 ∷ firm_text a
 what_text set (SporadicEntry row index a) =
     worded (codes "sporadic") row ++ 32 ∷ sporadic_name set index ++ 32 ∷ sporadic_text a
-what_text set (Done row key a) = worded (codes "done") row ++ 32 ∷ key_text set key ++ 32 ∷ done_text a
+what_text set (Done row key a) =
+    worded (codes "done") row ++ 32 ∷ key_text set key ++ 32 ∷ done_text a
+what_text set (Withdraw row firm a) =
+    worded (codes "withdraw") row ++ 32 ∷ key_text set (FirmKey firm) ++ 32 ∷ gone_text a
 what_text set (Run key) = codes "run " ++ key_text set key
 what_text set Idle = codes "idle"
 what_text set End = codes "end"
 
 -- start-end:spare
 abbrev pub span_text : Span → List ℕ
-span_text span = decimal span.start ++ codes "-" ++ decimal span.end ++ codes ":" ++ signed_decimal span.spare
+span_text span =
+    decimal span.start ++ codes "-" ++ decimal span.end ++ codes ":" ++ signed_decimal span.spare
 
 -- the spans, a space before each, and how many more there are
 abbrev pub shown_text : ShownSpans → List ℕ
 shown_text shown =
-    flat_map (λ (s : Span). 32 ∷ span_text s) shown.spans ++ (if nat_lt 0 shown.more then codes " +" ++ decimal shown.more else [])
+    flat_map (λ (s : Span). 32 ∷ span_text s) shown.spans
+    ++ (if nat_lt 0 shown.more then codes " +" ++ decimal shown.more else [])
 
--- what stands between the words and the end of a line: nothing at the end of the trace, else the spans
+-- what stands between the words and the end of a line: nothing at the end of the trace, else the
+-- spans, of which there is at least one
 abbrev pub spans_text : What → ShownSpans → List ℕ
 spans_text End shown = []
 spans_text _ shown = codes " |" ++ shown_text shown
@@ -93,7 +105,10 @@ spans_text _ shown = codes " |" ++ shown_text shown
 -- the line of an entry, and the text of a trace
 abbrev pub entry_line : TaskSet → Entry → List ℕ
 entry_line set entry =
-    decimal entry.time ++ 32 ∷ what_text set entry.what ++ spans_text entry.what entry.shown ++ 10 ∷ []
+    decimal entry.time
+    ++ 32 ∷ what_text set entry.what
+    ++ spans_text entry.what entry.shown
+    ++ 10 ∷ []
 
 abbrev pub trace_text : TaskSet → List Entry → List ℕ
 trace_text set trace = flat_map (entry_line set) trace

@@ -1,4 +1,4 @@
--- The trace of a task set and its arrivals.
+-- The trace of a task set and its arrivals, and the histories that the definitions allow.
 use Rattle.std.specs.Prelude.{◌≡◌, ◌<◌, true, ℕ, ◌==◌, List, [], ◌∷◌, ◌++◌, map, filter, flat_map, reverse, ⊤}
 use Rattle.std.specs.List.{range_with_len}
 use Rattle.slot_core.specs.declared.tasks.TaskSet.{TaskSet}
@@ -11,51 +11,60 @@ use Rattle.slot_core.specs.declared.events.What.{What}
 use Rattle.slot_core.specs.declared.events.What.TheVariants.{Start, Run, Idle, End}
 use Rattle.slot_core.specs.Cycles.{cycle_of}
 use Rattle.slot_core.specs.Histories.{History, time_of, last_row}
-use Rattle.slot_core.specs.Arrivals.{event_fits}
+use Rattle.slot_core.specs.Arrivals.{event_may_come}
 use Rattle.slot_core.specs.Scenes.{scene_of}
 use Rattle.slot_core.specs.Choice.{choice}
 use Rattle.slot_core.specs.Answers.{answer}
 use Rattle.slot_core.specs.Spans.{shown_of}
 
--- what happens next: an arrival of this row, or a slot that passes
-pub data Step : Type 0 where
-  arrive : ℕ → Event → Step
-  slot : Step
+-- what happens next: an arrival in this row, or a slot that passes
+pub data Occurrence : Type 0 where
+  arrive : ℕ → Event → Occurrence
+  slot : Occurrence
 
--- the entry of what ran in a slot
-abbrev pub ran_entry : Ran → What
-ran_entry RanIdle = Idle
-ran_entry (Key key) = Run key
+-- what an entry tells of the slot that passed
+abbrev pub told_of_slot : Ran → What
+told_of_slot RanIdle = Idle
+told_of_slot (Key key) = Run key
 
--- the entry that a step adds to a history
-abbrev pub entry_of : TaskSet → ℕ → History → Step → What
-entry_of set cycle h (arrive row event) = answer set cycle (scene_of set cycle h) row event
-entry_of set cycle h slot = ran_entry (choice set.sporadics cycle (scene_of set cycle h))
+-- what is told of an occurrence after a history: the answer, or what runs
+abbrev pub told_of : TaskSet → ℕ → History → Occurrence → What
+told_of set cycle h (arrive row event) = answer set cycle (scene_of set cycle h) row event
+told_of set cycle h slot = told_of_slot (choice set.sporadics cycle (scene_of set cycle h))
 
 -- the entry at this time, with the spans after it
 abbrev pub shown_entry : TaskSet → ℕ → ℕ → What → History → Entry
-shown_entry set cycle time what h = record { time = time; what = what; shown = shown_of cycle (scene_of set cycle h) }
+shown_entry set cycle time what h =
+    record { time = time; what = what; shown = shown_of cycle (scene_of set cycle h) }
 
--- the history after the steps
-abbrev pub history_after : TaskSet → ℕ → History → List Step → History
+-- the history after these occurrences
+abbrev pub history_after : TaskSet → ℕ → History → List Occurrence → History
 history_after set cycle h [] = h
-history_after set cycle h (step ∷ steps) = history_after set cycle (entry_of set cycle h step ∷ h) steps
+history_after set cycle h (next ∷ later) =
+    history_after set cycle (told_of set cycle h next ∷ h) later
 
--- the entries of the steps from a history on
-abbrev pub entries : TaskSet → ℕ → History → List Step → List Entry
+-- the entries of these occurrences from a history on
+abbrev pub entries : TaskSet → ℕ → History → List Occurrence → List Entry
 entries set cycle h [] = []
-entries set cycle h (step ∷ steps) =
-    let what = entry_of set cycle h step in
-    shown_entry set cycle (time_of h) what (what ∷ h) ∷ entries set cycle (what ∷ h) steps
+entries set cycle h (next ∷ later) =
+    let what = told_of set cycle h next in
+    shown_entry set cycle (time_of h) what (what ∷ h) ∷ entries set cycle (what ∷ h) later
 
 -- the arrivals of this slot in their order, and then the slot
-abbrev pub slot_steps : List Arrival → ℕ → List Step
-slot_steps arrivals time =
-    map (λ (a : Arrival). arrive a.row a.event) (filter (λ (a : Arrival). a.slot == time) arrivals) ++ slot ∷ []
+abbrev pub occurrences_in : List Arrival → ℕ → List Occurrence
+occurrences_in arrivals time =
+    map
+    (λ (a : Arrival). arrive a.row a.event)
+    (filter (λ (a : Arrival). a.slot == time) arrivals)
+    ++ slot ∷ []
 
--- the steps of the first n slots
-abbrev pub steps_of : List Arrival → ℕ → List Step
-steps_of arrivals n = flat_map (slot_steps arrivals) (range_with_len 0 n)
+-- what happens in the first n slots
+abbrev pub occurrences_of : List Arrival → ℕ → List Occurrence
+occurrences_of arrivals n = flat_map (occurrences_in arrivals) (range_with_len 0 n)
+
+-- the history that holds the start entry alone
+abbrev pub started : History
+started = Start ∷ []
 
 -- the last entry, which shows nothing
 abbrev pub end_entry : ℕ → Entry
@@ -64,7 +73,8 @@ end_entry n = record { time = n; what = End; shown = record { spans = []; more =
 -- the trace of n slots: the start, the entries of each slot, and the end
 abbrev pub trace_in : TaskSet → ℕ → List Arrival → ℕ → List Entry
 trace_in set cycle arrivals n =
-    shown_entry set cycle 0 Start [] ∷ (entries set cycle [] (steps_of arrivals n) ++ end_entry n ∷ [])
+    shown_entry set cycle 0 Start started
+    ∷ (entries set cycle started (occurrences_of arrivals n) ++ end_entry n ∷ [])
 
 abbrev pub trace : TaskSet → List Arrival → ℕ → List Entry
 trace set arrivals n = trace_in set (cycle_of set) arrivals n
@@ -73,13 +83,20 @@ trace set arrivals n = trace_in set (cycle_of set) arrivals n
 abbrev pub history_of : List Entry → History
 history_of trace = reverse (map (λ (e : Entry). e.what) trace)
 
--- an arrival has a row above those before it, and its event fits the set
-abbrev pub StepFits : TaskSet → History → Step → Type 0
-StepFits set h (arrive row event) = (last_row h < row) × (event_fits set event ≡ true)
-StepFits set h slot = ⊤
+-- an occurrence may come: an arrival has a row above those before it, and its event may come
+abbrev pub MayCome : TaskSet → History → Occurrence → Type 0
+MayCome set h (arrive row event) = (last_row h < row) × (event_may_come set event ≡ true)
+MayCome set h slot = ⊤
 
--- each entry of the history is the one that the definitions give, for a step that fits, at those before it
+-- what an entry tells is what the definitions tell, at the history before it, of an occurrence that
+-- may come
+abbrev pub IsDue : TaskSet → ℕ → History → What → Type 0
+IsDue set cycle h what =
+    (next : Occurrence) × MayCome set h next × (what ≡ told_of set cycle h next)
+
+-- each entry of the history but starts and ends is due at those before it
 abbrev pub IsLegal : TaskSet → ℕ → History → Type 0
 IsLegal set cycle [] = ⊤
-IsLegal set cycle (what ∷ h) =
-    (step : Step) × StepFits set h step × (what ≡ entry_of set cycle h step) × IsLegal set cycle h
+IsLegal set cycle (Start ∷ h) = IsLegal set cycle h
+IsLegal set cycle (End ∷ h) = IsLegal set cycle h
+IsLegal set cycle (what ∷ h) = IsDue set cycle h what × IsLegal set cycle h

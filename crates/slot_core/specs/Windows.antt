@@ -28,7 +28,8 @@ raw_release set job = release_or set job.key job.est
 abbrev pub raw_deadline : TaskSet → Job → ℕ
 raw_deadline set job = deadline_or set job.key job.dl
 
--- the first job is a direct predecessor of the second: of the same graph and instance, and listed by it
+-- the first job is a direct predecessor of the second: of the same graph and instance, and listed
+-- by it
 abbrev pub precedes : TaskSet → Key → Key → Bool
 precedes set (Offline g p i) (Offline h t j) = g == h && i == j && comes_after (tasks_of set h) t p
 precedes set _ _ = false

@@ -14,6 +14,8 @@ pub enum Event {
     Sporadic(u8),
     /// The job of this key has ended.
     Done(Key),
+    /// The firm job of this row of the arrivals is taken back.
+    Withdraw(u32),
 }
 
 /// One row of the arrivals file.
@@ -50,7 +52,7 @@ pub enum Firm {
 pub enum Spo {
     /// The job is taken, with this deadline.
     Taken(u64),
-    /// It comes before its separation is over, at this slot.
+    /// It comes before its separation is over, which ends at this slot.
     Soon(u64),
 }
 
@@ -61,6 +63,15 @@ pub enum Done {
     Freed(u32),
     /// No unfinished job of that key has run.
     NotRunning,
+}
+
+/// The answer to a withdrawal.
+#[derive(Clone, Copy, PartialEq, Eq, Debug)]
+pub enum Gone {
+    /// The job ends, and so many slots are free.
+    Freed(u32),
+    /// No remaining firm job has that row.
+    NoJob,
 }
 
 /// What ran in a slot.
@@ -79,6 +90,7 @@ pub enum What {
     Firm(u32, u32, u32, Firm),
     Sporadic(u32, u8, Spo),
     Done(u32, Key, Done),
+    Withdraw(u32, u32, Gone),
     Run(Key),
     Idle,
     End,

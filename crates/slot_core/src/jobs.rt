@@ -34,7 +34,17 @@ pub struct Job {
     pub declared: u32,
 }
 
-/// A stretch [start, end) between two neighbouring interval ends.
+/// A soft job that waits.
+#[derive(Clone, Copy, PartialEq, Eq, Default, Debug)]
+pub struct SoftJob {
+    /// Row of its arrival.
+    pub row: u32,
+    /// Slots that it has still to run.
+    pub left: u32,
+    pub declared: u32,
+}
+
+/// A stretch [start, end) between two neighbouring points.
 #[derive(Clone, Copy, PartialEq, Eq, Default, Debug)]
 pub struct Span {
     pub start: u64,

@@ -9,19 +9,26 @@ pub mod jobs;
 pub mod list;
 pub mod name;
 pub mod shown;
+pub mod steps;
+pub mod taker;
 pub mod tasks;
 #[cfg(test)]
 mod tests;
 pub mod words;
 
-pub use events::{Arrival, Done, Entry, Event, Firm, Ran, Soft, Spo, What};
+pub use events::{Arrival, Done, Entry, Event, Firm, Gone, Ran, Soft, Spo, What};
 pub use faults::{Failed, Field, Memory, Part, Place, TaskFault};
-pub use jobs::{Evidence, Job, Key, RawJob, Span, Window};
+pub use jobs::{Evidence, Job, Key, RawJob, SoftJob, Span, Window};
 pub use list::List;
 pub use name::Name;
 pub use shown::Shown;
+pub use steps::Steps;
+pub use taker::Taker;
 pub use tasks::{Afters, Graph, Graphs, Jobs, Spans, Sporadic, Sporadics, Task, TaskSet, Tasks};
 pub use words::Words;
+
+/// Most bytes of a name.
+pub const NAME_LIMIT: usize = 24;
 
 /// Most graphs in a task set.
 pub const GRAPH_LIMIT: usize = 32;
@@ -43,3 +50,39 @@ pub const SOFT_LIMIT: u32 = 1024;
 
 /// That limit where the task file tells none.
 pub const SOFT_DEFAULT: u32 = 64;
+
+/// Most arrivals, and the greatest row of one.
+pub const ARRIVAL_LIMIT: u32 = 65_535;
+
+/// Most slots of a soft or firm arrival, and the furthest deadline that an offer may name.
+pub const OFFER_LIMIT: u32 = 65_535;
+
+/// The greatest number of an arrivals file.
+pub const NUMBER_LIMIT: u32 = 4_294_967_295;
+
+/// Most slots of a replay.
+pub const REPLAY_LIMIT: u32 = 100_000;
+
+/// Most cycles by which a job or a span is moved.
+pub const CYCLES_LIMIT: u64 = 8_589_934_592;
+
+/// Most spans that an entry shows.
+pub const SHOWN_LIMIT: usize = 8;
+
+/// Most slots of a chart.
+pub const CHART_LIMIT: u32 = 200;
+
+/// Most graphs of a generated load.
+pub const LOAD_LIMIT: u32 = 32;
+
+/// Most bytes of a task file.
+pub const TASK_FILE_LIMIT: usize = 1_048_576;
+
+/// Most bytes of an arrivals file.
+pub const ARRIVALS_FILE_LIMIT: usize = 4_194_304;
+
+/// Most bytes of a table file.
+pub const TABLE_FILE_LIMIT: usize = 4_194_304;
+
+/// Most bytes that a read may be asked for.
+pub const READ_LIMIT: usize = 67_108_864;

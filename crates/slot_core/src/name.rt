@@ -4,13 +4,15 @@ ghost use Rattle.std.specs.Prelude.{◌≡◌, IsTrue, Some, None, if◌then◌e
 ghost use Rattle.std.specs.List.{list_all};
 ghost use Rattle.slot_core.specs.Names.{is_name, is_name_byte};
 
+use crate::NAME_LIMIT;
 use arrayvec::ArrayVec;
 use std::marker::Model;
 
-/// A name of 1 to 24 bytes: first an ASCII letter, then ASCII letters, digits, `_` or `-`.
+/// A name of 1 to `NAME_LIMIT` bytes: first an ASCII letter, then ASCII letters, digits, `_` or
+/// `-`.
 #[derive(Drop)]
 pub struct Name {
-    text: ArrayVec<u8, 24>,
+    text: ArrayVec<u8, NAME_LIMIT>,
 }
 
 impl Model for Name {
@@ -55,7 +57,7 @@ fn is_name(bytes: &[u8]) -> bool
     match bytes {
         [] => false,
         [first, rest @ ..] => {
-            first.is_ascii_alphabetic() && rest.len() < 24 && are_name_bytes(rest)
+            first.is_ascii_alphabetic() && rest.len() < NAME_LIMIT && are_name_bytes(rest)
         }
     }
 }

@@ -1,15 +1,17 @@
 //! The first spans after an entry.
 
 ghost use Rattle.std.specs.Prelude.{◌≡◌, ◌<◌, ◌≤◌, [], ◌∷◌, ◌++◌, length};
+ghost use Rattle.slot_core.specs.declared.TheConstants.{SHOWN_LIMIT};
 
+use crate::SHOWN_LIMIT;
 use crate::jobs::Span;
 use arrayvec::ArrayVec;
 use std::marker::Model;
 
-/// At most eight spans, and the number of the spans that are not shown.
+/// At most `SHOWN_LIMIT` spans, and the number of the spans that are not shown.
 #[derive(Drop)]
 pub struct Shown {
-    first: ArrayVec<Span, 8>,
+    first: ArrayVec<Span, SHOWN_LIMIT>,
     others: u32,
 }
 
@@ -34,7 +36,7 @@ impl Shown {
 
     /// Appends a span.
     pub fn push(&mut self, span: Span)
-        requires { length self.old.spans < 8 }
+        requires { length self.old.spans < SHOWN_LIMIT }
         ensures { self.new ≡ record self.old { spans = self.old.spans ++ span ∷ [] } }
     {
         self.first.push(span);
@@ -43,7 +45,7 @@ impl Shown {
     /// The spans that are shown.
     pub fn spans(&self) -> &[Span]
         ensures spans { result.now ≡ self.now.spans }
-        ensures few { length self.now.spans ≤ 8 }
+        ensures few { length self.now.spans ≤ SHOWN_LIMIT }
     {
         self.first.as_slice()
     }

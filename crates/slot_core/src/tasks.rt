@@ -26,7 +26,7 @@ pub type Spans = List<Span>;
 #[derive(Drop)]
 pub struct Task {
     pub name: Name,
-    /// Worst-case execution time: 1 to 4096.
+    /// Worst-case execution time: 1 to `SLOT_LIMIT`.
     pub wcet: u32,
     /// Its direct predecessors in the graph.
     pub after: Afters,
@@ -36,7 +36,7 @@ pub struct Task {
 #[derive(Drop)]
 pub struct Graph {
     pub name: Name,
-    /// 1 to 4096.
+    /// 1 to `SLOT_LIMIT`.
     pub period: u32,
     /// Below the period.
     pub offset: u32,
@@ -49,9 +49,9 @@ pub struct Graph {
 #[derive(Drop)]
 pub struct Sporadic {
     pub name: Name,
-    /// Worst-case execution time: 1 to 4096.
+    /// Worst-case execution time: 1 to `SLOT_LIMIT`.
     pub wcet: u32,
-    /// 1 to 4096.
+    /// 1 to `SLOT_LIMIT`.
     pub separation: u32,
     /// 1 to `separation`, from the arrival.
     pub deadline: u32,
@@ -60,7 +60,7 @@ pub struct Sporadic {
 /// What a task file says.
 #[derive(Drop)]
 pub struct TaskSet {
-    /// Most soft jobs that wait at one time: 1 to 1024.
+    /// Most soft jobs that wait at one time: 1 to `SOFT_LIMIT`.
     pub soft_limit: u32,
     pub graphs: Graphs,
     pub sporadics: Sporadics,

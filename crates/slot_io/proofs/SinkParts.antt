@@ -1,9 +1,9 @@
 -- What is written in pieces: a whole piece and then a part of the next is a part of all.
-use Rattle.std.proofs.Common.{◌≡◌, ℕ, ◌+◌, min, List, ◌++◌, length, take, Option, sym, ap, subst, ◌∙◌, arith}
-use Rattle.std.proofs.Math.Seq.{take-append-add}
-use Rattle.std.proofs.lemmas.List.{take-append-le, take_min}
-use Rattle.std.proofs.KnownBytes.{Appends-nil, Appends-trans}
-use Rattle.std.specs.Io.KnownBytes.{Appends}
+use Rattle.std.proofs.Common.{◌≡◌, ℕ, ◌+◌, ◌-◌, min, List, [], ◌++◌, append-nil, append_assoc, length, take, drop, Option, sym, ap, subst, ◌∙◌, arith}
+use Rattle.std.proofs.Math.Seq.{take-append-add, take-length}
+use Rattle.std.proofs.lemmas.List.{take-append-le, take_min, take-append-drop, length-drop}
+use Rattle.std.proofs.KnownBytes.{Appends-nil, Appends-trans, Appends-kept}
+use Rattle.std.specs.Io.KnownBytes.{Appends, Keeps}
 use Rattle.slot_io.specs.Sinks.{AppendsPart}
 
 -- a part of a piece between others is what the front and so many bytes more are of all
@@ -17,6 +17,23 @@ AppendsPart-more a b c front middle rest whole is before part =
     let n = part.0 in
     let same : front ++ take n middle ≡ take (length front + min n (length middle)) whole = sym (take-between front middle rest n) ∙ ap (take (length front + min n (length middle))) (sym is) in
     (length front + min n (length middle), subst (Appends a c) same (Appends-trans a b c front (take n middle) before part.1))
+
+-- a front is written, and then a part of the rest
+pub AppendsPart-on : (a b c : Option (List ℕ)) (front rest whole : List ℕ) → whole ≡ front ++ rest → Appends a b front → AppendsPart b c rest → AppendsPart a c whole
+AppendsPart-on a b c front rest whole is before part =
+    AppendsPart-more a b c front rest [] whole (is ∙ ap (λ xs. front ++ xs) (sym (append-nil rest))) before part
+
+-- a front is written, and no more
+pub AppendsPart-kept : (a b c : Option (List ℕ)) (front rest whole : List ℕ) → whole ≡ front ++ rest → Appends a b front → Keeps b c → AppendsPart a c whole
+AppendsPart-kept a b c front rest whole is before same =
+    AppendsPart-on a b c front rest whole is before (0, Appends-kept b b c [] (Appends-nil b) same)
+
+-- the bytes after a front are so many more of the front, and the rest as a slice gives it
+pub take_rest : (front rest : List ℕ) (n : ℕ) → front ++ rest ≡ (front ++ take n rest) ++ take (length rest - n) (drop n rest)
+take_rest front rest n =
+    ap (λ xs. front ++ xs) (sym (take-append-drop n rest))
+    ∙ sym (append_assoc front (take n rest) (drop n rest))
+    ∙ ap (λ xs. (front ++ take n rest) ++ xs) (sym (subst (λ k. take k (drop n rest) ≡ drop n rest) (length-drop n rest) (take-length (drop n rest))))
 
 -- where nothing is written, it is a part from the front
 pub AppendsPart-none : (a : Option (List ℕ)) (whole : List ℕ) → AppendsPart a a whole

@@ -26,7 +26,23 @@ pub record FilesInMemory : Type 0 where
 -- these files are stored as the tuple of their fields
 abbrev pub files_code : Coded FilesInMemory
 files_code =
-    code_by (Held × (List ℕ × (ℕ × (ℕ × Option (List ℕ))))) (coded× (code (coded_list coded_ℕ) (coded_list coded_ℕ)) (coded× (coded_list coded_ℕ) (coded× coded_ℕ (coded× coded_ℕ (coded_option (coded_list coded_ℕ)))))) (λ f. (f.held, (f.failing, (f.calls, (f.faults, f.blamed))))) (λ p. record { held = p.0; failing = p.1.0; calls = p.1.1.0; faults = p.1.1.1.0; blamed = p.1.1.1.1 }) (λ _. refl)
+    code_by
+    (Held × (List ℕ × (ℕ × (ℕ × Option (List ℕ)))))
+    (coded×
+    (code (coded_list coded_ℕ) (coded_list coded_ℕ))
+    (coded×
+    (coded_list coded_ℕ)
+    (coded× coded_ℕ (coded× coded_ℕ (coded_option (coded_list coded_ℕ))))))
+    (λ f. (f.held, (f.failing, (f.calls, (f.faults, f.blamed)))))
+    (λ p.
+    record {
+      held = p.0;
+      failing = p.1.0;
+      calls = p.1.1.0;
+      faults = p.1.1.1.0;
+      blamed = p.1.1.1.1;
+    })
+    (λ _. refl)
 
 -- whether the next read of a name fails: its call is made to fail, or no file has the name
 abbrev pub read_fails : FilesInMemory → List ℕ → Bool

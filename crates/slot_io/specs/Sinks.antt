@@ -19,10 +19,14 @@ pub record SinkInMemory : Type 0 where
 -- whether the next put of these bytes fails: there are some, and its call is made to fail or they
 -- do not fit
 abbrev pub put_fails : SinkInMemory → List ℕ → Bool
-put_fails sink bytes = nat_lt 0 (length bytes) && (is_next_call sink.failing sink.calls || nat_lt sink.room (length sink.written + length bytes))
+put_fails sink bytes =
+    nat_lt 0 (length bytes)
+    && (is_next_call sink.failing sink.calls
+    || nat_lt sink.room (length sink.written + length bytes))
 
--- what is written after a put of these bytes: nothing more where its call is made to fail, else what
--- fits of them
+-- what is written after a put of these bytes: nothing more where its call is made to fail, else
+-- what fits of them
 abbrev pub written_after : SinkInMemory → List ℕ → List ℕ
 written_after sink bytes =
-    if is_next_call sink.failing sink.calls then sink.written else sink.written ++ take (sink.room - length sink.written) bytes
+    if is_next_call sink.failing sink.calls then sink.written
+    else sink.written ++ take (sink.room - length sink.written) bytes

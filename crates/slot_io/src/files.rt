@@ -1,11 +1,14 @@
 //! Files that are read whole up to a limit.
 
 ghost use Rattle.std.specs.Prelude.{◌≡◌, ◌≢◌, ℕ, ◌+◌, ◌≤◌, List, Option, Some, IfSome, IfOk, vec_len};
-ghost use Rattle.slot_io.specs.Faults.{Rose};
+ghost use Rattle.slot_core.specs.Counts.{Rose};
 ghost use Rattle.slot_io.specs.Files.{Held, first_bytes};
 ghost use Rattle.slot_io.specs.declared.files.ReadFault.TheVariants.{Memory as MemoryFault};
 
+use slot_core::READ_LIMIT;
 use std::alloc::{AllocError, Global};
+use std::error::Error;
+use std::fmt;
 
 /// Why a read gives no bytes.
 #[derive(Clone, Copy, PartialEq, Eq, Debug)]
@@ -15,6 +18,22 @@ pub enum ReadFault {
     /// The file could not be read.
     Failed,
 }
+
+impl fmt::Display for ReadFault {
+    ghost use Rattle.std.specs.Prelude.{Some};
+    ghost use Rattle.slot_io.specs.FaultTexts.{read_fault_text};
+
+    ghost output = { λ fault. Some (read_fault_text fault) };
+
+    fn fmt<W: fmt::Write>(&self, f: &mut fmt::Formatter<W>) -> fmt::Result {
+        match self {
+            ReadFault::Memory => write!(f, "out of memory"),
+            ReadFault::Failed => write!(f, "failed"),
+        }
+    }
+}
+
+impl Error for ReadFault {}
 
 impl From<AllocError> for ReadFault {
     ghost from_gives = { λ _ fault. fault ≡ MemoryFault };
@@ -38,7 +57,7 @@ pub trait Files {
     /// The first bytes of a file: at most one more than `limit`, so that a caller sees whether the
     /// file is longer.
     fn read(&mut self, alloc: Global, name: &str, limit: usize) -> Result<Vec<u8>, ReadFault>
-        requires { limit ≤ 67108864 }
+        requires { limit ≤ READ_LIMIT }
         ensures short { IfOk result (λ bytes. vec_len bytes ≤ limit + 1) }
         ensures first { IfOk result (λ bytes. IfSome (held self.old)
             (λ files. first_bytes files name.now limit ≡ Some bytes.items)) }

@@ -1,7 +1,10 @@
-//! Files and sinks of the host. They tell nothing of what they hold: the trusted edge.
+//! Files and sinks of the host: the trusted edge. Files tell nothing of what they hold, and a sink
+//! what its writer tells, which for standard output is nothing.
 
-ghost use Rattle.std.specs.Prelude.{◌≡◌, ℕ, ◌+◌, ◌<◌, ◌≤◌, None, IfOk, length, vec_len, option_map, string_bytes};
-ghost use Rattle.std.specs.Io.{ReadsAtMost, WritesAtMost};
+ghost use Rattle.std.specs.Prelude.{◌≡◌, ◌↔◌, ℕ, ◌≤◌, None, IfSome, IfOk, OnOk, OnErr, take, vec_len, option_map, string_bytes};
+ghost use Rattle.std.specs.Io.KnownBytes.{Appends};
+ghost use Rattle.std.specs.IoError.{error_kind};
+ghost use Rattle.slot_io.specs.Sinks.{AppendsPart};
 
 use crate::calls::one_more;
 use crate::files::{Files, ReadFault};
@@ -10,9 +13,6 @@ use slot_core::Failed;
 use std::alloc::Global;
 use std::io::{Error, ErrorKind, Read, Write};
 use std::{fs, rt};
-
-/// The most bytes that one read asks for.
-const PIECE: usize = 65536;
 
 /// The files of a runtime.
 #[derive(Drop)]
@@ -64,63 +64,35 @@ fn read_file<R: rt::Files>(
     name: &str,
     most: usize,
 ) -> Result<Vec<u8>, ReadFault>
-    requires { most ≤ 67108865 }
     ensures { IfOk result (λ bytes. vec_len bytes ≤ most) }
 {
     match fs::open(rt, name) {
-        Ok(mut file) => read_up_to(&mut file, alloc, most),
-        Err(e) => Err(fault_of(&e)),
+        Ok(file) => read_front(file, alloc, most),
+        Err(error) => Err(fault_of(&error)),
     }
 }
 
-/// The first bytes of a reader, at most so many. Each turn but the last takes a byte at least.
-fn read_up_to<F: Read>(file: &mut F, alloc: Global, most: usize) -> Result<Vec<u8>, ReadFault>
-    requires { most ≤ 67108865 }
-    ensures { IfOk result (λ bytes. vec_len bytes ≤ most) }
+/// The first bytes of a reader, at most so many. As the standard library's own loop does, it goes
+/// on after a short read, and tries again where a signal interrupts one.
+fn read_front<F: Read + Drop>(reader: F, alloc: Global, most: usize) -> Result<Vec<u8>, ReadFault>
+    ensures short { IfOk result (λ bytes. vec_len bytes ≤ most) }
+    ensures first { IfOk result (λ bytes. IfSome (F.remaining reader)
+        (λ all. bytes.items ≡ take most all)) }
 {
     let mut bytes = Vec::new(alloc);
-    while bytes.len() < most {
-        let room = most - bytes.len();
-        if read_piece(file, &mut bytes, room)? == 0 {
-            return Ok(bytes);
+    match reader.take(most as u64).read_to_end(&mut bytes) {
+        Ok(_) => {
+            bytes.truncate(most);
+            Ok(bytes)
         }
+        Err(error) => Err(fault_of(&error)),
     }
-    Ok(bytes)
-}
-
-/// Appends what one read gives, at most so many bytes, and answers their number.
-fn read_piece<F: Read>(file: &mut F, bytes: &mut Vec<u8>, room: usize) -> Result<usize, ReadFault>
-    requires { vec_len bytes.old + room ≤ 67108865 }
-    ensures appended { IfOk result (λ count. vec_len bytes.new ≡ vec_len bytes.old + count) }
-    ensures within { IfOk result (λ count. count ≤ room) }
-{
-    let filled = bytes.len();
-    bytes.resize(filled + room.min(PIECE), 0)?;
-    let count = read_once(file, &mut bytes.as_mut_slice()[filled..])?;
-    bytes.truncate(filled + count);
-    Ok(count)
-}
-
-/// One read. As the loops of the standard library do, it tries again where a signal interrupts it,
-/// and gives up after the last value of a `u64`.
-fn read_once<F: Read>(file: &mut F, spare: &mut [u8]) -> Result<usize, ReadFault>
-    ensures { IfOk result (λ count. count ≤ length spare.old) }
-{
-    for _ in 0..u64::MAX {
-        match file.read(spare) {
-            Ok(count) => return Ok(count),
-            Err(e) => {
-                if e.kind() != ErrorKind::Interrupted {
-                    return Err(fault_of(&e));
-                }
-            }
-        }
-    }
-    Err(ReadFault::Failed)
 }
 
 /// Want of memory is told from every other error.
-fn fault_of(error: &Error) -> ReadFault {
+fn fault_of(error: &Error) -> ReadFault
+    ensures { (result ≡ ReadFault.Memory) ↔ (error_kind error.now ≡ ErrorKind.OutOfMemory) }
+{
     if error.kind() == ErrorKind::OutOfMemory {
         ReadFault::Memory
     } else {
@@ -145,7 +117,7 @@ impl<W> HostSink<W> {
 }
 
 impl<W: Write> Sink for HostSink<W> {
-    ghost written = { λ _. None };
+    ghost written = { λ s. W.contents s.writer };
 
     ghost faults = { λ s. s.faults };
 
@@ -164,14 +136,22 @@ impl<W: Write> Sink for HostSink<W> {
 }
 
 /// Writes all the bytes, and then flushes. It fails at any error, and where a write takes nothing.
-fn write_whole<W: Write>(writer: &mut W, bytes: &[u8]) -> Result<(), Failed> {
+fn write_whole<W: Write>(writer: &mut W, bytes: &[u8]) -> Result<(), Failed>
+    ensures whole { OnOk result
+        (Appends (W.contents writer.old) (W.contents writer.new) bytes.now) }
+    ensures part { OnErr result
+        (AppendsPart (W.contents writer.old) (W.contents writer.new) bytes.now) }
+{
     let mut rest = bytes;
     while !rest.is_empty() {
-        match writer.write(rest) {
-            Ok(0) => return Err(Failed),
-            Ok(taken) => rest = &rest[taken..],
+        let taken = match writer.write(rest) {
+            Ok(taken) => taken,
             Err(_) => return Err(Failed),
+        };
+        if taken == 0 {
+            return Err(Failed);
         }
+        rest = &rest[taken..];
     }
     match writer.flush() {
         Ok(()) => Ok(()),

@@ -5,6 +5,8 @@
 #![tactic(auto)]
 
 mod calls;
+#[cfg(test)]
+mod fakes;
 pub mod files;
 pub mod host;
 pub mod memory_files;

@@ -4,12 +4,13 @@ ghost use Rattle.std.specs.Prelude.{◌≡◌, ◌≢◌, ℕ, ◌+◌, ◌≤�
 ghost use Rattle.std.specs.Ordering.{nat_cmp, eq_by_cmp};
 ghost use Rattle.std.specs.Cmp.Lexicographic.{slice_cmp};
 ghost use Rattle.std.specs.FinMap.{insert, empty, get, from_entries};
-ghost use Rattle.slot_io.specs.Faults.{Rose, one_more};
+ghost use Rattle.slot_core.specs.Counts.{Rose};
+ghost use Rattle.slot_io.specs.Faults.{one_more};
 ghost use Rattle.slot_io.specs.Files.{Held, first_bytes, read_fails};
 
 use crate::calls::{is_next_call, one_more};
 use crate::files::{Files, ReadFault};
-use slot_core::Memory;
+use slot_core::{Memory, READ_LIMIT};
 use std::alloc::Global;
 use std::collections::VecDeque;
 use std::marker::Model;
@@ -62,7 +63,13 @@ impl Model for MemoryFiles {
 impl MemoryFiles {
     /// No files, and no read that fails. It takes no memory.
     pub fn empty(alloc: Global) -> MemoryFiles
-        ensures { result ≡ record { held = empty; failing = []; calls = 0; faults = 0; blamed = None } }
+        ensures { result ≡ record {
+          held = empty;
+          failing = [];
+          calls = 0;
+          faults = 0;
+          blamed = None;
+        } }
     {
         MemoryFiles {
             alloc,
@@ -98,7 +105,7 @@ impl MemoryFiles {
 
     /// The bytes that this read gives, or None where it fails.
     fn given(&self, alloc: Global, name: &str, limit: usize) -> Result<Option<Vec<u8>>, Memory>
-        requires { limit ≤ 67108864 }
+        requires { limit ≤ READ_LIMIT }
         ensures fails { IfOk result (λ given. is_none given ≡ read_fails self.now name.now) }
         ensures first { IfOk result (λ given. IfSome given
             (λ bytes. first_bytes self.now.held name.now limit ≡ Some bytes.items)) }
@@ -140,7 +147,7 @@ impl Files for MemoryFiles {
     ghost blamed = { λ f. f.blamed };
 
     fn read(&mut self, alloc: Global, name: &str, limit: usize) -> Result<Vec<u8>, ReadFault>
-        requires { limit ≤ 67108864 }
+        requires { limit ≤ READ_LIMIT }
         ensures short { IfOk result (λ bytes. vec_len bytes ≤ limit + 1) }
         ensures first { IfOk result
             (λ bytes. first_bytes self.old.held name.now limit ≡ Some bytes.items) }
@@ -152,7 +159,8 @@ impl Files for MemoryFiles {
         ensures no_blame { result ≢ Err ReadFault.Failed → self.new.blamed ≡ self.old.blamed }
         ensures cause { result ≡ Err ReadFault.Failed → IsTrue (read_fails self.old name.now) }
         ensures refused { IsTrue (read_fails self.old name.now) → IsErr result }
-        ensures one_fault { result ≡ Err ReadFault.Failed → self.new.faults ≡ one_more self.old.faults }
+        ensures one_fault { result ≡ Err ReadFault.Failed
+            → self.new.faults ≡ one_more self.old.faults }
         ensures calls { self.new.calls ≡ one_more self.old.calls }
         ensures failing { self.new.failing ≡ self.old.failing }
     {
@@ -178,7 +186,9 @@ fn entry_of(alloc: Global, name: &str, bytes: &[u8]) -> Result<Entry, Memory>
 /// The bytes of the first entry of a name.
 fn find<'e>(entries: &'e VecDeque<Entry>, name: &str) -> Option<&'e [u8]>
     ensures { let held : Held = from_entries entries.now.items in
-        MatchOption result (get held name.now ≡ None) (λ bytes. get held name.now ≡ Some bytes.now) }
+        MatchOption result
+        (get held name.now ≡ None)
+        (λ bytes. get held name.now ≡ Some bytes.now) }
 {
     for entry in entries {
         if has_name(entry, name) {
@@ -204,7 +214,7 @@ fn bytes_of(entry: &Entry) -> &[u8]
 
 /// A copy of the first bytes, at most one more than the limit.
 fn first_bytes(alloc: Global, bytes: &[u8], limit: usize) -> Result<Vec<u8>, Memory>
-    requires { limit ≤ 67108864 }
+    requires { limit ≤ READ_LIMIT }
     ensures { IfOk result (λ first. first.items ≡ take (limit + 1) bytes.now) }
 {
     let count = bytes.len().min(limit + 1);

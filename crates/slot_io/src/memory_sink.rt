@@ -2,7 +2,8 @@
 
 ghost use Rattle.std.specs.Prelude.{◌≡◌, ◌+◌, ◌-◌, ◌≤◌, List, [], ◌∷◌, ◌++◌, Some, IsOk, IfOk, OnOk, OnErr, is_err, length, take, vec_len, vec_capacity, min, nat_eq, if◌then◌else◌};
 ghost use Rattle.std.specs.Io.KnownBytes.{Appends};
-ghost use Rattle.slot_io.specs.Faults.{Rose, one_more, is_next_call};
+ghost use Rattle.slot_core.specs.Counts.{Rose};
+ghost use Rattle.slot_io.specs.Faults.{one_more, is_next_call};
 ghost use Rattle.slot_io.specs.Sinks.{AppendsPart, put_fails, written_after};
 
 use crate::calls::{is_next_call, one_more};
@@ -110,7 +111,8 @@ impl Sink for MemorySink {
         ensures written { self.new.written ≡ written_after self.old bytes.now }
         ensures one_fault { OnErr result (self.new.faults ≡ one_more self.old.faults) }
         ensures no_fault { OnOk result (self.new.faults ≡ self.old.faults) }
-        ensures calls { self.new.calls ≡ (if nat_eq (length bytes.now) 0 then self.old.calls else one_more self.old.calls) }
+        ensures calls { self.new.calls
+            ≡ (if nat_eq (length bytes.now) 0 then self.old.calls else one_more self.old.calls) }
         ensures room { self.new.room ≡ self.old.room }
         ensures failing { self.new.failing ≡ self.old.failing }
     {

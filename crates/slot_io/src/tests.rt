@@ -1,12 +1,14 @@
 //! The host adapters over the real host, and the objects in memory over a table.
 
+use crate::fakes::Turn::{self, Fails, Gives, Takes};
+use crate::fakes::{Disk, Script};
 use crate::files::{Files, ReadFault};
 use crate::host::{HostFiles, HostSink};
 use crate::memory_files::MemoryFiles;
 use crate::memory_sink::MemorySink;
 use crate::sink::Sink;
 use slot_core::Failed;
-use std::io::{self, Read};
+use std::io::{self, ErrorKind, Read};
 use std::test::Fail;
 use std::{fs, process};
 
@@ -48,6 +50,95 @@ fn writes_to_sinks_of_the_host(rt: HostRuntime) -> Result<(), Fail> {
     assert_eq!(rt; told, *b"seven, eight");
     drop(reader);
     assert_eq!(rt; sink.put(b"nine"), Err(Failed));
+    Ok(())
+}
+
+#[test]
+fn reads_on_until_the_end(rt: HostRuntime) -> Result<(), Fail> {
+    let alloc = rt.alloc();
+    // What opening gives, and what a read of four bytes and one more answers.
+    let rows: [(
+        Result<&'static [Turn], ErrorKind>,
+        Result<&'static [u8], ReadFault>,
+    ); 11] = [
+        (Ok(&[]), Ok(b"")),
+        (Ok(&[Gives(b"ab"), Gives(b"c"), Gives(b"d")]), Ok(b"abcd")),
+        (
+            Ok(&[Gives(b"ab"), Gives(b"cdef"), Gives(b"gh")]),
+            Ok(b"abcde"),
+        ),
+        (
+            Ok(&[Gives(b"ab"), Fails(ErrorKind::Interrupted), Gives(b"c")]),
+            Ok(b"abc"),
+        ),
+        (
+            Ok(&[
+                Fails(ErrorKind::Interrupted),
+                Fails(ErrorKind::Interrupted),
+                Gives(b"a"),
+            ]),
+            Ok(b"a"),
+        ),
+        (
+            Ok(&[Fails(ErrorKind::PermissionDenied)]),
+            Err(ReadFault::Failed),
+        ),
+        (
+            Ok(&[Gives(b"ab"), Fails(ErrorKind::UnexpectedEof)]),
+            Err(ReadFault::Failed),
+        ),
+        (
+            Ok(&[Gives(b"ab"), Fails(ErrorKind::Other), Gives(b"c")]),
+            Err(ReadFault::Failed),
+        ),
+        (
+            Ok(&[Gives(b"ab"), Fails(ErrorKind::OutOfMemory)]),
+            Err(ReadFault::Memory),
+        ),
+        (Err(ErrorKind::NotFound), Err(ReadFault::Failed)),
+        (Err(ErrorKind::OutOfMemory), Err(ReadFault::Memory)),
+    ];
+    for (opened, answer) in rows {
+        let mut files = HostFiles::new(Disk { alloc, opened });
+        match files.read(alloc, "a", 4) {
+            Ok(bytes) => assert_eq!(rt; Ok(bytes.as_slice()), answer),
+            Err(fault) => assert_eq!(rt; Err(fault), answer),
+        }
+    }
+    Ok(())
+}
+
+#[test]
+fn writes_on_until_all_is_taken(rt: HostRuntime) -> Result<(), Fail> {
+    let alloc = rt.alloc();
+    // The turns, whether the flush fails, what a put of four bytes answers, and what was taken.
+    let rows: [(&'static [Turn], bool, Result<(), Failed>, &'static [u8]); 8] = [
+        (&[Takes(4)], false, Ok(()), b"abcd"),
+        (&[Takes(1), Takes(2), Takes(9)], false, Ok(()), b"abcd"),
+        (
+            &[Takes(1), Fails(ErrorKind::Interrupted), Takes(3)],
+            false,
+            Err(Failed),
+            b"a",
+        ),
+        (&[Takes(4)], true, Err(Failed), b"abcd"),
+        (&[Takes(3)], false, Err(Failed), b"abc"),
+        (&[Takes(3), Takes(0), Takes(1)], false, Err(Failed), b"abc"),
+        (
+            &[Takes(2), Fails(ErrorKind::BrokenPipe), Takes(2)],
+            false,
+            Err(Failed),
+            b"ab",
+        ),
+        (&[Fails(ErrorKind::StorageFull)], false, Err(Failed), b""),
+    ];
+    for (turns, flush_fails, answer, taken) in rows {
+        let mut script = Script::new(turns, Vec::new(alloc));
+        script.flush_fails = flush_fails;
+        let mut sink = HostSink::new(&mut script);
+        assert_eq!(rt; sink.put(b"abcd"), answer);
+        assert_eq!(rt; script.taken.as_slice(), taken);
+    }
     Ok(())
 }
 

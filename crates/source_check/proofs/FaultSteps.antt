@@ -9,7 +9,7 @@ use Rattle.slot_core.specs.declared.tasks.Graph.{Graph}
 use Rattle.slot_core.specs.declared.tasks.Task.{Task}
 use Rattle.slot_core.specs.declared.faults.Part.{Part}
 use Rattle.slot_core.specs.declared.faults.Part.TheVariants.{Graph as GraphPart, Task as TaskPart}
-use Rattle.slot_core.specs.declared.faults.Field.TheVariants.{Name, After}
+use Rattle.slot_core.specs.declared.faults.Field.TheVariants.{Name}
 use Rattle.slot_core.specs.declared.faults.Place.{Place}
 use Rattle.slot_core.specs.declared.faults.TaskFault.{TaskFault}
 use Rattle.slot_core.specs.declared.faults.TaskFault.TheVariants.{Doubled, NoSuchTask}
@@ -102,8 +102,3 @@ entries_step place count entries i within =
     let rest = drop (i + 1) entries in
     let low = fault_if (nat_le count a) (NoSuchTask place) in
     at_drop_more (entries_fault place count before) entries i 0 within ∙ ap (λ test. option_or low (option_or (fault_if test (Doubled place)) (entries_fault place count (a ∷ before) rest))) (any_earlier (λ e. a == e) entries i) ∙ ap (λ es. option_or low (option_or (fault_if (list_any (λ e. a == e) (take i entries)) (Doubled place)) (entries_fault place count es rest))) (sym (earlier_more entries i 0 within))
-
--- the first wrong entry of a task
-abbrev pub task_fault : ℕ → ℕ → ℕ → Task → Option TaskFault
-task_fault g count t task =
-    entries_fault (record { part = TaskPart g t; field = After }) count [] task.after

@@ -2,8 +2,9 @@
 
 ghost use Rattle.std.specs.Prelude.{◌≡◌, ◌≤◌, ◌==◌, [], length};
 ghost use Rattle.std.specs.List.{list_any};
+ghost use Rattle.slot_core.specs.declared.TheConstants.{TASK_LIMIT};
 ghost use Rattle.slot_core.specs.Faults.{after_fault, entries_fault, first_fault};
-ghost use Rattle.source_check.specs.Verdicts.{AreFew, Tells};
+ghost use Rattle.source_check.specs.Checks.{AreFew, Tells};
 
 use slot_core::{Field, Graph, Part, Place, TaskFault};
 
@@ -20,7 +21,7 @@ pub fn check_entries(graphs: &[Graph]) -> Result<(), TaskFault>
 
 /// Whether the `after` entries of each task of a graph name distinct tasks of it.
 fn check_graph_entries(index: u16, graph: &Graph) -> Result<(), TaskFault>
-    requires { length graph.now.tasks ≤ 32 }
+    requires { length graph.now.tasks ≤ TASK_LIMIT }
     ensures { Tells result (after_fault index graph.now) }
 {
     let tasks = graph.tasks.items();

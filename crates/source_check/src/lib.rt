@@ -6,7 +6,7 @@ ghost use Rattle.std.specs.List.{list_all};
 ghost use Rattle.slot_core.specs.Cycles.{cycle_lengths, first_multiple_above};
 ghost use Rattle.slot_core.specs.Faults.{set_fault};
 ghost use Rattle.slot_core.specs.Ranges.{is_between, is_in_range};
-ghost use Rattle.source_check.specs.Verdicts.{Tells};
+ghost use Rattle.source_check.specs.Checks.{Tells};
 
 mod entries;
 mod loops;
@@ -21,8 +21,8 @@ use names::{check_graph_names, check_sporadic_names};
 use slot_core::{SLOT_LIMIT, TaskFault, TaskSet};
 use std::alloc::Global;
 
-/// Ok where the set is sound. Else the first fault: doubled names, wrong `after` entries, loops, the cycle.
-/// An entry that is not below its graph's number of tasks names no task.
+/// Ok where the set is sound. Else the first fault: doubled names, wrong `after` entries, loops,
+/// the cycle. An entry that is not below its graph's number of tasks names no task.
 pub fn check(alloc: Global, tasks: &TaskSet) -> Result<(), TaskFault>
     requires { is_in_range tasks.now ≡ true }
     ensures ok { OnOk result (set_fault tasks.now ≡ None) }
@@ -36,10 +36,11 @@ pub fn check(alloc: Global, tasks: &TaskSet) -> Result<(), TaskFault>
     check_cycle(tasks)
 }
 
-/// Whether the cycle is at most 4096 slots.
+/// Whether the cycle is at most `SLOT_LIMIT` slots.
 fn check_cycle(tasks: &TaskSet) -> Result<(), TaskFault>
     requires { list_all (is_between 1 SLOT_LIMIT) (cycle_lengths tasks.now) ≡ true }
-    ensures { Tells result (option_map TaskFault.CycleTooLong (first_multiple_above SLOT_LIMIT 1 (cycle_lengths tasks.now))) }
+    ensures { Tells result (option_map TaskFault.CycleTooLong
+        (first_multiple_above SLOT_LIMIT 1 (cycle_lengths tasks.now))) }
 {
     match cycle_of(tasks) {
         Ok(_) => Ok(()),

@@ -1,8 +1,9 @@
 //! Tasks that lead back to themselves along `after` entries.
 
 ghost use Rattle.std.specs.Prelude.{◌≡◌, ◌≤◌, ◌<◌, ℕ, true, None, length};
+ghost use Rattle.slot_core.specs.declared.TheConstants.{TASK_LIMIT};
 ghost use Rattle.slot_core.specs.Faults.{after_fault, first_fault, loop_fault};
-ghost use Rattle.source_check.specs.Verdicts.{AreFew, TellsInMemory};
+ghost use Rattle.source_check.specs.Checks.{AreFew, TellsInMemory};
 
 use slot_core::{Graph, TaskFault};
 use std::alloc::Global;
@@ -22,7 +23,7 @@ pub fn check_loops(alloc: Global, graphs: &[Graph]) -> Result<(), TaskFault>
 
 /// Whether no task of a graph stands on a loop.
 fn check_graph_loops(alloc: Global, index: u16, graph: &Graph) -> Result<(), TaskFault>
-    requires count { length graph.now.tasks ≤ 32 }
+    requires count { length graph.now.tasks ≤ TASK_LIMIT }
     requires named { after_fault index graph.now ≡ None }
     ensures { TellsInMemory result (loop_fault index graph.now) }
 {

@@ -3,8 +3,9 @@
 ghost use Rattle.std.specs.Prelude.{◌≡◌, ◌≤◌, [], length, map};
 ghost use Rattle.std.specs.List.{list_any};
 ghost use Rattle.std.specs.Str.{bytes_eq};
+ghost use Rattle.slot_core.specs.declared.TheConstants.{TASK_LIMIT};
 ghost use Rattle.slot_core.specs.Faults.{graph_names_fault, names_fault};
-ghost use Rattle.source_check.specs.Verdicts.{AreFew, Tells};
+ghost use Rattle.source_check.specs.Checks.{AreFew, Tells};
 
 use slot_core::{Field, Graph, Name, Part, Place, Sporadic, Task, TaskFault};
 
@@ -24,7 +25,7 @@ pub fn check_graph_names(graphs: &[Graph]) -> Result<(), TaskFault>
 
 /// Whether the tasks of a graph have distinct names.
 fn check_task_names(graph: u16, tasks: &[Task]) -> Result<(), TaskFault>
-    requires { length tasks.now ≤ 32 }
+    requires { length tasks.now ≤ TASK_LIMIT }
     ensures { Tells result (names_fault (Part.Task graph) [] 0 (map (λ t. t.name) tasks.now)) }
 {
     for (place, task) in tasks.iter().enumerate() {

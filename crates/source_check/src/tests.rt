@@ -1,126 +1,24 @@
 //! Faults of sets of two graphs, each of two tasks.
 
-ghost use Rattle.std.specs.Prelude.{◌≡◌, true, IfOk};
-ghost use Rattle.slot_core.specs.Ranges.{graph_in_range, is_in_range, task_in_range};
-
 use crate::check;
 use slot_core::TaskFault::{CycleTooLong, Doubled, Loop, NoSuchTask};
-use slot_core::{
-    AFTER_LIMIT, Afters, Field, Graph, Graphs, Memory, Name, Part, Place, SLOT_LIMIT, Sporadics,
-    Task, TaskFault, TaskSet, Tasks,
-};
-use std::alloc::Global;
+use slot_core::{Field, Part, Place, TaskFault};
+use slot_examples::{Case, two_pairs};
 use std::test::Fail;
 
-/// What varies: the names of the second graph and of its tasks, the tasks' entries, the periods.
-#[derive(Clone, Copy)]
-struct Case {
-    names: [&'static str; 3],
-    after: [&'static [u16]; 2],
-    periods: [u32; 2],
-    fault: Option<TaskFault>,
-}
-
-/// A case of these parts.
+/// A case of these parts, and its first fault.
 fn case_of(
     names: [&'static str; 3],
     after: [&'static [u16]; 2],
     periods: [u32; 2],
     fault: Option<TaskFault>,
-) -> Case {
-    Case {
+) -> (Case, Option<TaskFault>) {
+    let case = Case {
         names,
         after,
         periods,
-        fault,
-    }
-}
-
-/// The name of these letters.
-fn name(text: &str) -> Result<Name, Fail> {
-    match Name::of(text.as_bytes()) {
-        Some(name) => Ok(name),
-        None => Err(Fail::new("no name")),
-    }
-}
-
-/// A task of one slot.
-fn task(alloc: Global, text: &str, after: &[u16]) -> Result<Task, Fail>
-    ensures { IfOk result (λ task. task_in_range task ≡ true) }
-{
-    let mut entries = Afters::new(alloc);
-    for entry in after {
-        entries.push(*entry)?;
-    }
-    if entries.len() > AFTER_LIMIT {
-        return Err(Fail::new("too many entries"));
-    }
-    Ok(Task {
-        name: name(text)?,
-        wcet: 1,
-        after: entries,
-    })
-}
-
-/// A graph of the two tasks.
-fn graph(alloc: Global, text: &str, period: u32, first: Task, second: Task) -> Result<Graph, Fail>
-    requires first { task_in_range first ≡ true }
-    requires second { task_in_range second ≡ true }
-    ensures { IfOk result (λ graph. graph_in_range graph ≡ true) }
-{
-    if period == 0 || period > SLOT_LIMIT {
-        return Err(Fail::new("no period"));
-    }
-    let mut tasks = Tasks::new(alloc);
-    tasks.push(first)?;
-    tasks.push(second)?;
-    Ok(Graph {
-        name: name(text)?,
-        period,
-        offset: 0,
-        deadline: period,
-        tasks,
-    })
-}
-
-/// The set of the two graphs.
-fn set_of(alloc: Global, first: Graph, second: Graph) -> Result<TaskSet, Memory>
-    requires first { graph_in_range first ≡ true }
-    requires second { graph_in_range second ≡ true }
-    ensures { IfOk result (λ set. is_in_range set ≡ true) }
-{
-    let mut graphs = Graphs::new(alloc);
-    graphs.push(first)?;
-    graphs.push(second)?;
-    Ok(TaskSet {
-        soft_limit: 1,
-        graphs,
-        sporadics: Sporadics::new(alloc),
-    })
-}
-
-/// The set of a case.
-fn set_of_case(alloc: Global, case: &Case) -> Result<TaskSet, Fail>
-    ensures { IfOk result (λ set. is_in_range set ≡ true) }
-{
-    let [q, a, b] = case.names;
-    let [after_a, after_b] = case.after;
-    let [first, second] = case.periods;
-    let p = graph(
-        alloc,
-        "p",
-        first,
-        task(alloc, "a", &[])?,
-        task(alloc, "b", &[0])?,
-    )?;
-    let q = graph(
-        alloc,
-        q,
-        second,
-        task(alloc, a, after_a)?,
-        task(alloc, b, after_b)?,
-    )?;
-    Ok(set_of(alloc, p, q)?)
+    };
+    (case, fault)
 }
 
 /// The fault of a doubled key.
@@ -151,9 +49,9 @@ fn tells_the_first_fault(rt: HostRuntime) -> Result<(), Fail> {
         case_of(["q", "a", "b"], [&[2], &[1]], [2, 3], no_task),
         case_of(["q", "a", "b"], [&[0], &[]], [64, 65], Some(Loop(1, 0))),
     ];
-    for (index, case) in cases.iter().enumerate() {
-        let set = set_of_case(rt.alloc(), case)?;
-        assert_eq!(rt; check(rt.alloc(), &set).err(), case.fault, "case {index}");
+    for (index, (case, fault)) in cases.iter().enumerate() {
+        let set = two_pairs(rt.alloc(), case).ok().ok_or("no set")?;
+        assert_eq!(rt; check(rt.alloc(), &set).err(), *fault, "case {index}");
     }
     Ok(())
 }

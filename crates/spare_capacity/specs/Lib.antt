@@ -1,3 +1,5 @@
+pub mod Available
+pub mod Examples
 pub mod Laws
 pub mod Recurrence
 pub mod Refill

@@ -17,8 +17,8 @@ use Rattle.slot_core.specs.declared.faults.Place.{Place}
 use Rattle.slot_core.specs.Names.{is_name}
 use Rattle.slot_core.specs.Ranges.{is_between, task_in_range, graph_in_range, sporadic_in_range, is_in_range}
 use Rattle.task_toml.specs.TomlFields.{Read, known_keys, at_key}
-use Rattle.task_toml.specs.Reading.{NamedTask, each, task_of, with_indexes, graph_of, sporadic_of, set_of}
-use Rattle.task_toml.proofs.FieldRanges.{number_at-Ok, name_at-Ok, texts_at-Ok, tables_at-Ok, tables_or_none_at-Ok}
+use Rattle.task_toml.specs.Reading.{NamedTask, each, task_of, with_indexes, graph_of, sporadic_of, shaped_set}
+use Rattle.task_toml.proofs.FieldRanges.{number_at-Ok, name_at-Ok, texts_at-Ok, tables_at-Ok, some_tables_at-Ok}
 
 -- a reading of y took the step r, of which a fact is known, and then f
 step : {X Y P : Type 0} {Q : X → Type 0} {r : Read X} {f : X → Read Y} {y : Y} → ((x : X) → r ≡ Ok x → Q x) → (r >>= f) ≡ Ok y → ((x : X) → Q x → f x ≡ Ok y → P) → P
@@ -74,7 +74,7 @@ graph_of-Ok g m graph h =
     step (number_at-Ok (at Period) 1 SLOT_LIMIT None (at_key Period known) (no_default 1 SLOT_LIMIT)) h (λ period period_fits h.
     step (number_at-Ok (at Offset) 0 (period - 1) (Some 0) (at_key Offset known) (default 0 (period - 1) 0 (grind (arith, nat_tests)))) h (λ offset offset_fits h.
     step (number_at-Ok (at Deadline) 1 (period - offset) (Some (period - offset)) (at_key Deadline known) (default 1 (period - offset) (period - offset) (grind (arith, nat_tests)))) h (λ deadline deadline_fits h.
-    step (tables_at-Ok (at TaskKey) TASK_LIMIT (at_key TaskKey known)) h (λ tables few h.
+    step (some_tables_at-Ok (at TaskKey) TASK_LIMIT (at_key TaskKey known)) h (λ tables few h.
     step (each-Ok named_in_range (task_of g) (task_of-Ok g) 0 tables) h (λ tasks (count, all) h.
     let same : record { name = name; period = period; offset = offset; deadline = deadline; tasks = map (with_indexes tasks) tasks } ≡ graph = cc in
     rw (← same, name_fits, period_fits, offset_fits, deadline_fits, length-map, count, few, with_indexes-in_range tasks tasks, all))))))))
@@ -91,14 +91,14 @@ sporadic_of-Ok s m sporadic h =
     rw (← same, name_fits, wcet_fits, separation_fits, deadline_fits))))))
 
 -- a set of the right shape is in range
-pub set_of-Ok : (m : Members) (set : TaskSet) → set_of m ≡ Ok set → is_in_range set ≡ true
-set_of-Ok m set h =
+pub shaped_set-Ok : (m : Members) (set : TaskSet) → shaped_set m ≡ Ok set → is_in_range set ≡ true
+shaped_set-Ok m set h =
     let at = λ (field : Field). let place : Place = record { part = Top; field = field } in place in
     step (any (known_keys Top m)) h (λ known _ h.
     step (number_at-Ok (at Soft) 1 SOFT_LIMIT (Some SOFT_DEFAULT) (at_key Soft known) (default 1 SOFT_LIMIT SOFT_DEFAULT refl)) h (λ soft soft_fits h.
-    step (tables_at-Ok (at GraphKey) GRAPH_LIMIT (at_key GraphKey known)) h (λ graph_tables few h.
+    step (some_tables_at-Ok (at GraphKey) GRAPH_LIMIT (at_key GraphKey known)) h (λ graph_tables few h.
     step (each-Ok graph_in_range graph_of graph_of-Ok 0 graph_tables) h (λ graphs (count, all) h.
-    step (tables_or_none_at-Ok (at Sporadic) SPORADIC_LIMIT (at_key Sporadic known)) h (λ sporadic_tables few_sporadics h.
+    step (tables_at-Ok (at Sporadic) SPORADIC_LIMIT (at_key Sporadic known)) h (λ sporadic_tables few_sporadics h.
     step (each-Ok sporadic_in_range sporadic_of sporadic_of-Ok 0 sporadic_tables) h (λ sporadics (count_sporadics, all_sporadics) h.
     let same : record { soft_limit = soft; graphs = graphs; sporadics = sporadics } ≡ set = cc in
     rw (← same, soft_fits, count, few, all, count_sporadics, few_sporadics, all_sporadics)))))))

@@ -30,30 +30,38 @@ all_texts no_items = Some []
 all_texts (item (string text) rest) = option_map (λ ts. text ∷ ts) (all_texts rest)
 all_texts (item _ rest) = None
 
--- the items, where there are no more than the limit; a count past 32 bits is told as the last number of them
+-- the items, where there are no more than the limit; a count past 32 bits is told as the last
+-- number of them
 abbrev pub at_most : {X : Type 0} → Place → ℕ → List X → Read (List X)
-at_most place limit xs = if nat_lt limit (length xs) then Err (TooMany place (min (length xs) 4294967295)) else Ok xs
+at_most place limit xs =
+    if nat_lt limit (length xs) then Err (TooMany place (min (length xs) 4294967295))
+    else Ok xs
+
+-- the items of the array at a key, none where the key is not there
+abbrev pub items_at : Place → Option Data → Read Items
+items_at place None = Ok no_items
+items_at place (Some (array items)) = Ok items
+items_at place (Some _) = Err (WrongKind place)
+
+-- an array of at most `limit` tables, and one of at most `limit` texts; empty where the key is not
+-- there
+abbrev pub tables_at : Place → ℕ → Option Data → Read (List Members)
+tables_at place limit found = do
+  items ← items_at place found
+  tables ← or_fault (WrongKind place) (all_tables items)
+  at_most place limit tables
+
+abbrev pub texts_at : Place → ℕ → Option Data → Read (List (List ℕ))
+texts_at place limit found = do
+  items ← items_at place found
+  texts ← or_fault (WrongKind place) (all_texts items)
+  at_most place limit texts
 
 -- an array of 1 to `limit` tables
-abbrev pub some_tables : Place → ℕ → List Members → Read (List Members)
-some_tables place limit tables = if length tables == 0 then Err (Missing place) else at_most place limit tables
-
-abbrev pub tables_at : Place → ℕ → Option Data → Read (List Members)
-tables_at place limit None = Err (Missing place)
-tables_at place limit (Some (array items)) = or_fault (WrongKind place) (all_tables items) >>= some_tables place limit
-tables_at place limit (Some _) = Err (WrongKind place)
-
--- an array of at most `limit` tables, empty where the key is not there
-abbrev pub tables_or_none_at : Place → ℕ → Option Data → Read (List Members)
-tables_or_none_at place limit None = Ok []
-tables_or_none_at place limit (Some (array items)) = or_fault (WrongKind place) (all_tables items) >>= at_most place limit
-tables_or_none_at place limit (Some _) = Err (WrongKind place)
-
--- an array of at most `limit` texts, empty where the key is not there
-abbrev pub texts_at : Place → ℕ → Option Data → Read (List (List ℕ))
-texts_at place limit None = Ok []
-texts_at place limit (Some (array items)) = or_fault (WrongKind place) (all_texts items) >>= at_most place limit
-texts_at place limit (Some _) = Err (WrongKind place)
+abbrev pub some_tables_at : Place → ℕ → Option Data → Read (List Members)
+some_tables_at place limit found = do
+  tables ← tables_at place limit found
+  if length tables == 0 then Err (Missing place) else Ok tables
 
 -- each table in order, with its place
 abbrev pub each : {X : Type 0} → (ℕ → Members → Read X) → ℕ → List Members → Read (List X)
@@ -70,7 +78,9 @@ abbrev pub task_of : ℕ → ℕ → Members → Read NamedTask
 task_of g t members = do
   known ← known_keys (TaskPart g t) members
   name ← name_at (record { part = TaskPart g t; field = Name }) (at_key Name known)
-  wcet ← number_at (record { part = TaskPart g t; field = Wcet }) 1 SLOT_LIMIT None (at_key Wcet known)
+  wcet ←
+      number_at (record { part = TaskPart g t; field = Wcet }) 1 SLOT_LIMIT None
+      (at_key Wcet known)
   after ← texts_at (record { part = TaskPart g t; field = After }) AFTER_LIMIT (at_key After known)
   Ok (record { name = name; wcet = wcet; after = after })
 
@@ -79,36 +89,65 @@ abbrev pub place_of_name : List NamedTask → List ℕ → ℕ
 place_of_name tasks name = position_or_len (λ (t : NamedTask). bytes_eq t.name name) tasks
 
 abbrev pub with_indexes : List NamedTask → NamedTask → Task
-with_indexes tasks t = record { name = t.name; wcet = t.wcet; after = map (place_of_name tasks) t.after }
+with_indexes tasks t =
+    record { name = t.name; wcet = t.wcet; after = map (place_of_name tasks) t.after }
 
 abbrev pub graph_of : ℕ → Members → Read Graph
 graph_of g members = do
   known ← known_keys (GraphPart g) members
   name ← name_at (record { part = GraphPart g; field = Name }) (at_key Name known)
-  period ← number_at (record { part = GraphPart g; field = Period }) 1 SLOT_LIMIT None (at_key Period known)
-  offset ← number_at (record { part = GraphPart g; field = Offset }) 0 (period - 1) (Some 0) (at_key Offset known)
-  deadline ← number_at (record { part = GraphPart g; field = Deadline }) 1 (period - offset) (Some (period - offset)) (at_key Deadline known)
-  tables ← tables_at (record { part = GraphPart g; field = TaskKey }) TASK_LIMIT (at_key TaskKey known)
+  period ←
+      number_at (record { part = GraphPart g; field = Period }) 1 SLOT_LIMIT None
+      (at_key Period known)
+  offset ←
+      number_at (record { part = GraphPart g; field = Offset }) 0 (period - 1) (Some 0)
+      (at_key Offset known)
+  deadline ←
+      number_at (record { part = GraphPart g; field = Deadline })
+      1 (period - offset) (Some (period - offset))
+      (at_key Deadline known)
+  tables ←
+      some_tables_at (record { part = GraphPart g; field = TaskKey }) TASK_LIMIT
+      (at_key TaskKey known)
   tasks ← each (task_of g) 0 tables
-  Ok (record { name = name; period = period; offset = offset; deadline = deadline; tasks = map (with_indexes tasks) tasks })
+  Ok (record {
+    name = name;
+    period = period;
+    offset = offset;
+    deadline = deadline;
+    tasks = map (with_indexes tasks) tasks;
+  })
 
 abbrev pub sporadic_of : ℕ → Members → Read SporadicTask
 sporadic_of s members = do
   known ← known_keys (SporadicPart s) members
   name ← name_at (record { part = SporadicPart s; field = Name }) (at_key Name known)
-  wcet ← number_at (record { part = SporadicPart s; field = Wcet }) 1 SLOT_LIMIT None (at_key Wcet known)
-  separation ← number_at (record { part = SporadicPart s; field = Separation }) 1 SLOT_LIMIT None (at_key Separation known)
-  deadline ← number_at (record { part = SporadicPart s; field = Deadline }) 1 separation (Some separation) (at_key Deadline known)
+  wcet ←
+      number_at (record { part = SporadicPart s; field = Wcet }) 1 SLOT_LIMIT None
+      (at_key Wcet known)
+  separation ←
+      number_at (record { part = SporadicPart s; field = Separation }) 1 SLOT_LIMIT None
+      (at_key Separation known)
+  deadline ←
+      number_at (record { part = SporadicPart s; field = Deadline })
+      1 separation (Some separation)
+      (at_key Deadline known)
   Ok (record { name = name; wcet = wcet; separation = separation; deadline = deadline })
 
 -- the task set of the whole table, its shape alone checked
-abbrev pub set_of : Members → Read TaskSet
-set_of members = do
+abbrev pub shaped_set : Members → Read TaskSet
+shaped_set members = do
   known ← known_keys Top members
-  soft ← number_at (record { part = Top; field = Soft }) 1 SOFT_LIMIT (Some SOFT_DEFAULT) (at_key Soft known)
-  graph_tables ← tables_at (record { part = Top; field = GraphKey }) GRAPH_LIMIT (at_key GraphKey known)
+  soft ←
+      number_at (record { part = Top; field = Soft }) 1 SOFT_LIMIT (Some SOFT_DEFAULT)
+      (at_key Soft known)
+  graph_tables ←
+      some_tables_at (record { part = Top; field = GraphKey }) GRAPH_LIMIT
+      (at_key GraphKey known)
   graphs ← each graph_of 0 graph_tables
-  sporadic_tables ← tables_or_none_at (record { part = Top; field = Sporadic }) SPORADIC_LIMIT (at_key Sporadic known)
+  sporadic_tables ←
+      tables_at (record { part = Top; field = Sporadic }) SPORADIC_LIMIT
+      (at_key Sporadic known)
   sporadics ← each sporadic_of 0 sporadic_tables
   Ok (record { soft_limit = soft; graphs = graphs; sporadics = sporadics })
 
@@ -124,5 +163,5 @@ document_of bytes = if is_utf8 bytes then or_fault NotToml (parse_document bytes
 abbrev pub reading_of_tasks : List ℕ → Read TaskSet
 reading_of_tasks bytes = do
   members ← document_of bytes
-  set ← set_of members
+  set ← shaped_set members
   without_fault set

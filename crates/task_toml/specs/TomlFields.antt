@@ -18,19 +18,33 @@ Read X = Result X TaskFault
 
 -- the code's answer is what is read, as `seen` sees it, but that memory may run out
 abbrev pub AnswersAs : {A X : Type 0} → (A → X) → Result A TaskFault → Read X → Type 0
-AnswersAs seen answer read = MatchResult answer (λ a. read ≡ Ok (seen a)) (λ e. e ≢ Memory → read ≡ Err e)
+AnswersAs seen answer read =
+    MatchResult answer (λ a. read ≡ Ok (seen a)) (λ e. e ≢ Memory → read ≡ Err e)
 
 abbrev pub Answers : {X : Type 0} → Result X TaskFault → Read X → Type 0
 Answers = AnswersAs (λ x. x)
 
 -- the key is one that a table of this part knows
 abbrev pub knows_key : Part → List ℕ → Bool
-knows_key Top key = bytes_eq (field_word Soft) key || bytes_eq (field_word Graph) key || bytes_eq (field_word Sporadic) key
+knows_key Top key =
+    bytes_eq (field_word Soft) key
+    || bytes_eq (field_word Graph) key
+    || bytes_eq (field_word Sporadic) key
 knows_key (GraphPart g) key =
-    bytes_eq (field_word Name) key || bytes_eq (field_word Period) key || bytes_eq (field_word Offset) key || bytes_eq (field_word Deadline) key || bytes_eq (field_word Task) key
-knows_key (TaskPart g t) key = bytes_eq (field_word Name) key || bytes_eq (field_word Wcet) key || bytes_eq (field_word After) key
+    bytes_eq (field_word Name) key
+    || bytes_eq (field_word Period) key
+    || bytes_eq (field_word Offset) key
+    || bytes_eq (field_word Deadline) key
+    || bytes_eq (field_word Task) key
+knows_key (TaskPart g t) key =
+    bytes_eq (field_word Name) key
+    || bytes_eq (field_word Wcet) key
+    || bytes_eq (field_word After) key
 knows_key (SporadicPart s) key =
-    bytes_eq (field_word Name) key || bytes_eq (field_word Wcet) key || bytes_eq (field_word Separation) key || bytes_eq (field_word Deadline) key
+    bytes_eq (field_word Name) key
+    || bytes_eq (field_word Wcet) key
+    || bytes_eq (field_word Separation) key
+    || bytes_eq (field_word Deadline) key
 
 -- each key of the table is one that it knows
 abbrev pub knows_keys : Part → Members → Bool

@@ -4,70 +4,44 @@ ghost use Rattle.std.specs.Prelude.{◌≡◌, ◌≤◌, ◌&&◌, pos, nat_abs
 ghost use Rattle.std.specs.Prelude.{if◌then◌else◌, IfOk, MatchResult};
 ghost use Rattle.std.specs.Option.{ForSome};
 ghost use Rattle.slot_core.specs.FaultTexts.{field_word};
-ghost use Rattle.std.specs.Str.{bytes_eq};
 ghost use Rattle.task_toml.specs.TomlFields.{known_keys, knows_key, number_at, name_at, at_key};
 ghost use Rattle.toml.specs.View.{table_view, view};
 
 use slot_core::{Field, Name, Part, Place, TaskFault};
 use toml::{Table, Value};
 
-/// The key's word in the task file.
-fn word(field: Field) -> &'static str
-    ensures { result.now ≡ field_word field }
-{
-    match field {
-        Field::Soft => "soft",
-        Field::Graph => "graph",
-        Field::Sporadic => "sporadic",
-        Field::Name => "name",
-        Field::Period => "period",
-        Field::Offset => "offset",
-        Field::Deadline => "deadline",
-        Field::Task => "task",
-        Field::Wcet => "wcet",
-        Field::After => "after",
-        Field::Separation => "separation",
-    }
-}
-
-/// Whether the text is the key's word.
-fn is_word(field: Field, text: &str) -> bool
-    ensures { result ≡ bytes_eq (field_word field) text.now }
-{
-    word(field) == text
-}
-
 /// What stands at the key.
 pub fn value_at(table: &Table, field: Field) -> Option<&Value>
     ensures { option_map (λ v. view v.now) result ≡ at_key field (table_view table.now) }
 {
-    table.get(word(field))
+    table.get(field.word())
 }
 
 /// Whether the key is one that a table of this part knows.
 fn knows_key(part: Part, key: &str) -> bool
     ensures { result ≡ knows_key part key.now }
 {
+    match Field::of(key) {
+        Some(field) => knows_field(part, field),
+        None => false,
+    }
+}
+
+/// Whether the field is one that a table of this part knows.
+fn knows_field(part: Part, field: Field) -> bool
+    ensures { result ≡ knows_key part (field_word field) }
+{
     match part {
-        Part::Top => {
-            is_word(Field::Soft, key) || is_word(Field::Graph, key) || is_word(Field::Sporadic, key)
-        }
-        Part::Graph(_) => {
-            is_word(Field::Name, key)
-                || is_word(Field::Period, key)
-                || is_word(Field::Offset, key)
-                || is_word(Field::Deadline, key)
-                || is_word(Field::Task, key)
-        }
-        Part::Task(..) => {
-            is_word(Field::Name, key) || is_word(Field::Wcet, key) || is_word(Field::After, key)
-        }
-        Part::Sporadic(_) => {
-            is_word(Field::Name, key)
-                || is_word(Field::Wcet, key)
-                || is_word(Field::Separation, key)
-                || is_word(Field::Deadline, key)
-        }
+        Part::Top => matches!(field, Field::Soft | Field::Graph | Field::Sporadic),
+        Part::Graph(_) => matches!(
+            field,
+            Field::Name | Field::Period | Field::Offset | Field::Deadline | Field::Task
+        ),
+        Part::Task(..) => matches!(field, Field::Name | Field::Wcet | Field::After),
+        Part::Sporadic(_) => matches!(
+            field,
+            Field::Name | Field::Wcet | Field::Separation | Field::Deadline
+        ),
     }
 }
 

@@ -8,7 +8,7 @@ ghost use Rattle.task_toml.specs.TomlFields.{Answers, AnswersAs};
 ghost use Rattle.toml.specs.View.{table_view};
 
 use crate::fields::{check_keys, name_at, number_at};
-use crate::tables::{tables_at, texts_at};
+use crate::tables::{some_tables_at, texts_at};
 use slot_core::{
     AFTER_LIMIT, Afters, Field, GRAPH_LIMIT, Graph, Graphs, List, Name, Part, SLOT_LIMIT,
     SPORADIC_LIMIT, Sporadic, Sporadics, TASK_LIMIT, Task, TaskFault, Tasks,
@@ -148,7 +148,7 @@ fn read_graph(alloc: Global, graph: u16, table: &Table) -> Result<Graph, TaskFau
     let offset = number_at(table, part, Field::Offset, 0, period - 1, Some(0))?;
     let longest = period - offset;
     let deadline = number_at(table, part, Field::Deadline, 1, longest, Some(longest))?;
-    let tables = tables_at(alloc, table, part, Field::Task, TASK_LIMIT)?;
+    let tables = some_tables_at(alloc, table, part, Field::Task, TASK_LIMIT)?;
     let named = read_named_tasks(alloc, graph, tables.items())?;
     let tasks = with_indexes(alloc, named)?;
     Ok(Graph {

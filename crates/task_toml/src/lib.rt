@@ -3,7 +3,7 @@
 
 ghost use Rattle.std.specs.Prelude.{◌≡◌, ◌≢◌, Ok, Err, true, IfOk, IfErr};
 ghost use Rattle.slot_core.specs.Ranges.{is_sound};
-ghost use Rattle.task_toml.specs.Reading.{document_of, reading_of_tasks, set_of};
+ghost use Rattle.task_toml.specs.Reading.{document_of, reading_of_tasks, shaped_set};
 ghost use Rattle.task_toml.specs.TomlFields.{Answers, AnswersAs};
 ghost use Rattle.toml.specs.View.{table_view};
 
@@ -20,11 +20,12 @@ use slot_core::{
 };
 use source_check::check;
 use std::alloc::Global;
-use tables::{tables_at, tables_or_none_at};
+use tables::{some_tables_at, tables_at};
 use toml::Table;
 
-/// The task set that the bytes of a task file write. Any fault but want of memory is the first fault of
-/// the file: its shape table by table, then doubled names, wrong `after` entries, loops and the cycle.
+/// The task set that the bytes of a task file write. Any fault but want of memory is the first
+/// fault of the file: its shape table by table, then doubled names, wrong `after` entries, loops
+/// and the cycle.
 pub fn read_tasks(alloc: Global, bytes: &[u8]) -> Result<TaskSet, TaskFault>
     ensures reading { IfOk result (λ set. reading_of_tasks bytes.now ≡ Ok set) }
     ensures sound { IfOk result (λ set. is_sound set ≡ true) }
@@ -49,14 +50,14 @@ fn read_document(alloc: Global, bytes: &[u8]) -> Result<Table, TaskFault>
 
 /// The task set of the whole table, its shape alone checked.
 fn read_set(alloc: Global, table: &Table) -> Result<TaskSet, TaskFault>
-    ensures { Answers result (set_of (table_view table.now)) }
+    ensures { Answers result (shaped_set (table_view table.now)) }
 {
     let part = Part::Top;
     check_keys(table, part)?;
     let soft_limit = number_at(table, part, Field::Soft, 1, SOFT_LIMIT, Some(SOFT_DEFAULT))?;
-    let tables = tables_at(alloc, table, part, Field::Graph, GRAPH_LIMIT)?;
+    let tables = some_tables_at(alloc, table, part, Field::Graph, GRAPH_LIMIT)?;
     let graphs = read_graphs(alloc, tables.items())?;
-    let tables = tables_or_none_at(alloc, table, part, Field::Sporadic, SPORADIC_LIMIT)?;
+    let tables = tables_at(alloc, table, part, Field::Sporadic, SPORADIC_LIMIT)?;
     let sporadics = read_sporadics(alloc, tables.items())?;
     Ok(TaskSet {
         soft_limit,

@@ -3,7 +3,7 @@
 ghost use Rattle.std.specs.Prelude.{◌≡◌, ◌≤◌, ◌++◌, [], ◌∷◌, length, map, min, nat_lt, true, false};
 ghost use Rattle.std.specs.Prelude.{IfOk, IfErr, OnOk, MatchResult};
 ghost use Rattle.task_toml.specs.Reading.{all_tables, all_texts};
-ghost use Rattle.task_toml.specs.Reading.{tables_at, tables_or_none_at, texts_at};
+ghost use Rattle.task_toml.specs.Reading.{items_at, tables_at, some_tables_at, texts_at};
 ghost use Rattle.task_toml.specs.TomlFields.{AnswersAs, at_key, or_fault};
 ghost use Rattle.toml.specs.View.{items_view, table_view};
 
@@ -64,7 +64,19 @@ fn check_count(place: Place, limit: usize, count: usize) -> Result<(), TaskFault
     Ok(())
 }
 
-/// The tables of the array at the key, 1 to `limit` of them.
+/// The items of the array at the key; none where the key is not there.
+fn items_at<'a>(table: &'a Table, part: Part, field: Field) -> Result<&'a [Value], TaskFault>
+    ensures { AnswersAs (λ items. items_view items.now) result
+        (items_at (record { part = part; field = field }) (at_key field (table_view table.now))) }
+{
+    match value_at(table, field) {
+        None => Ok(&[]),
+        Some(Value::Array(items)) => Ok(items),
+        Some(_) => Err(TaskFault::WrongKind(Place { part, field })),
+    }
+}
+
+/// The tables of the array at the key, at most `limit` of them; none where the key is not there.
 pub fn tables_at<'a>(
     alloc: Global,
     table: &'a Table,
@@ -73,24 +85,18 @@ pub fn tables_at<'a>(
     limit: usize,
 ) -> Result<List<&'a Table>, TaskFault>
     ensures reading { AnswersAs (map (λ t. table_view t.now)) result
-        (tables_at (record { part = part; field = field }) limit (at_key field (table_view table.now))) }
+        (tables_at (record { part = part; field = field }) limit
+        (at_key field (table_view table.now))) }
     ensures limit { IfOk result (λ tables. length tables ≤ limit) }
 {
     let place = Place { part, field };
-    let tables = match value_at(table, field) {
-        None => return Err(TaskFault::Missing(place)),
-        Some(Value::Array(items)) => all_tables(alloc, place, items)?,
-        Some(_) => return Err(TaskFault::WrongKind(place)),
-    };
-    if tables.is_empty() {
-        return Err(TaskFault::Missing(place));
-    }
+    let tables = all_tables(alloc, place, items_at(table, part, field)?)?;
     check_count(place, limit, tables.len())?;
     Ok(tables)
 }
 
-/// The tables of the array at the key, at most `limit` of them; none where the key is not there.
-pub fn tables_or_none_at<'a>(
+/// The tables of the array at the key, 1 to `limit` of them.
+pub fn some_tables_at<'a>(
     alloc: Global,
     table: &'a Table,
     part: Part,
@@ -98,16 +104,14 @@ pub fn tables_or_none_at<'a>(
     limit: usize,
 ) -> Result<List<&'a Table>, TaskFault>
     ensures reading { AnswersAs (map (λ t. table_view t.now)) result
-        (tables_or_none_at (record { part = part; field = field }) limit (at_key field (table_view table.now))) }
+        (some_tables_at (record { part = part; field = field }) limit
+        (at_key field (table_view table.now))) }
     ensures limit { IfOk result (λ tables. length tables ≤ limit) }
 {
-    let place = Place { part, field };
-    let tables = match value_at(table, field) {
-        None => return Ok(List::new(alloc)),
-        Some(Value::Array(items)) => all_tables(alloc, place, items)?,
-        Some(_) => return Err(TaskFault::WrongKind(place)),
-    };
-    check_count(place, limit, tables.len())?;
+    let tables = tables_at(alloc, table, part, field, limit)?;
+    if tables.is_empty() {
+        return Err(TaskFault::Missing(Place { part, field }));
+    }
     Ok(tables)
 }
 
@@ -120,15 +124,12 @@ pub fn texts_at<'a>(
     limit: usize,
 ) -> Result<List<&'a str>, TaskFault>
     ensures reading { AnswersAs (map (λ t. t.now)) result
-        (texts_at (record { part = part; field = field }) limit (at_key field (table_view table.now))) }
+        (texts_at (record { part = part; field = field }) limit
+        (at_key field (table_view table.now))) }
     ensures limit { IfOk result (λ texts. length texts ≤ limit) }
 {
     let place = Place { part, field };
-    let texts = match value_at(table, field) {
-        None => return Ok(List::new(alloc)),
-        Some(Value::Array(items)) => all_texts(alloc, place, items)?,
-        Some(_) => return Err(TaskFault::WrongKind(place)),
-    };
+    let texts = all_texts(alloc, place, items_at(table, part, field)?)?;
     check_count(place, limit, texts.len())?;
     Ok(texts)
 }

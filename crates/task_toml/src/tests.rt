@@ -1,9 +1,12 @@
-//! Task files over tables: sets that read, and the first faults of files. The sets are read as far as
-//! their shape, which the faults are of.
+//! Task files over tables: sets that read, and the first faults of files. The sets are read as far
+//! as their shape, which the faults are of.
 
 use crate::{read_document, read_set};
-use slot_core::{AFTER_LIMIT, Field, Part, Place, SPORADIC_LIMIT, TASK_LIMIT, TaskFault, TaskSet};
-use std::alloc::{AllocError, Global};
+use slot_core::{
+    AFTER_LIMIT, Field, GRAPH_LIMIT, Part, Place, SPORADIC_LIMIT, TASK_LIMIT, TaskFault, TaskSet,
+};
+use std::alloc::Global;
+use std::fmt::Write;
 use std::test::Fail;
 
 const SOFT: Place = Place {
@@ -21,10 +24,17 @@ const SPORADICS: Place = Place {
     field: Field::Sporadic,
 };
 
-/// A graph that lacks its tasks, and a task.
+/// An array nested a hundred deep.
+const NESTED: &[u8] =
+    b"soft = [[[[[[[[[[[[[[[[[[[[[[[[[[[[[[[[[[[[[[[[[[[[[[[[[[[[[[[[[[[[[[[[[[[[[[[[[[[[[[[[[[[[[[[[[[[[[[[[[[[[1]]]]]]]]]]]]]]]]]]]]]]]]]]]]]]]]]]]]]]]]]]]]]]]]]]]]]]]]]]]]]]]]]]]]]]]]]]]]]]]]]]]]]]]]]]]]]]]]]]]]";
+
+/// A graph that lacks its tasks, one with a task, and one whose task begins its entries.
 const GRAPH: &str = "[[graph]]\nname = 'g'\nperiod = 8\n";
 
-const TASK: &str = "name = 'a'\nwcet = 1\n";
+const ONE_TASK: &str = "graph = [{name = 'g', period = 8, task = [{name = 'a', wcet = 1}]}]\n";
+
+const ENTRIES: &str =
+    "[[graph]]\nname = 'g'\nperiod = 8\n[[graph.task]]\nname = 'a'\nwcet = 1\nafter = [";
 
 /// A key of the first graph.
 fn of_graph(field: Field) -> Place {
@@ -47,39 +57,23 @@ fn shape(alloc: Global, bytes: &[u8]) -> Result<TaskSet, TaskFault> {
     read_set(alloc, &read_document(alloc, bytes)?)
 }
 
-/// The text so many times.
-fn repeated(alloc: Global, text: &str, count: usize) -> Result<String, AllocError> {
-    let mut whole = String::new(alloc);
-    for _ in 0..count {
-        whole.push_str(text)?;
-    }
-    Ok(whole)
-}
-
 #[test]
 fn tells_faults_of_documents(rt: HostRuntime) -> Result<(), Fail> {
-    let cases: [(&[u8], TaskFault); 20] = [
+    let cases: [(&[u8], TaskFault); 13] = [
         (b"", TaskFault::Missing(GRAPHS)),
         (b"\xef\xbb\xbf", TaskFault::Missing(GRAPHS)),
         (b"soft = \"\xff\"", TaskFault::NotToml),
         (b"soft = ", TaskFault::NotToml),
         (b"soft = 1\nsoft = 1", TaskFault::NotToml),
-        (b"soft = 1\r\ngraph = []\r\n", TaskFault::Missing(GRAPHS)),
         (b"soft = 1\rgraph = []\r", TaskFault::NotToml),
-        (b"soft = [[1]]", TaskFault::WrongKind(SOFT)),
+        (NESTED, TaskFault::NotToml),
         (b"soft = 1.0", TaskFault::WrongKind(SOFT)),
-        (b"soft = 2026-11-27", TaskFault::WrongKind(SOFT)),
-        (b"soft = \"1\"", TaskFault::WrongKind(SOFT)),
-        (b"soft = 0", TaskFault::OutOfRange(SOFT, 0)),
-        (b"soft = 1024", TaskFault::Missing(GRAPHS)),
         (b"soft = 1025", TaskFault::OutOfRange(SOFT, 1025)),
-        (b"soft = -1", TaskFault::OutOfRange(SOFT, -1)),
         (
             b"soft = 9223372036854775807",
             TaskFault::OutOfRange(SOFT, i64::MAX),
         ),
         (b"soft = 0\nhard = 1", TaskFault::UnknownKey(Part::Top)),
-        (b"graph = []", TaskFault::Missing(GRAPHS)),
         (b"graph = 1", TaskFault::WrongKind(GRAPHS)),
         (b"graph = [{}, 1]", TaskFault::WrongKind(GRAPHS)),
     ];
@@ -92,36 +86,40 @@ fn tells_faults_of_documents(rt: HostRuntime) -> Result<(), Fail> {
 #[test]
 fn tells_lists_past_their_limits(rt: HostRuntime) -> Result<(), Fail> {
     let alloc = rt.alloc();
-    let nested = format!(in alloc;
-        "soft = {}1{}",
-        repeated(alloc, "[", 100)?,
-        repeated(alloc, "]", 100)?
-    )?;
-    assert_eq!(rt;
-        shape(alloc, nested.as_bytes()).err(),
-        Some(TaskFault::NotToml)
-    );
-
-    let graphs = repeated(alloc, "[[graph]]\n", 33)?;
-    assert_eq!(rt;
-        shape(alloc, graphs.as_bytes()).err(),
-        Some(TaskFault::TooMany(GRAPHS, 33))
-    );
-
-    let tasks = repeated(alloc, "[[graph.task]]\n", TASK_LIMIT + 1)?;
-    let text = format!(in alloc; "{GRAPH}{tasks}")?;
-    let fault = TaskFault::TooMany(of_graph(Field::Task), TASK_LIMIT as u32 + 1);
-    assert_eq!(rt; shape(alloc, text.as_bytes()).err(), Some(fault));
-
-    let names = repeated(alloc, "'b', ", AFTER_LIMIT + 1)?;
-    let text = format!(in alloc; "{GRAPH}[[graph.task]]\n{TASK}after = [{names}]")?;
-    let fault = TaskFault::TooMany(of_task(Field::After), AFTER_LIMIT as u32 + 1);
-    assert_eq!(rt; shape(alloc, text.as_bytes()).err(), Some(fault));
-
-    let sporadics = repeated(alloc, "[[sporadic]]\n", SPORADIC_LIMIT + 1)?;
-    let text = format!(in alloc; "{GRAPH}[[graph.task]]\n{TASK}{sporadics}")?;
-    let fault = TaskFault::TooMany(SPORADICS, SPORADIC_LIMIT as u32 + 1);
-    assert_eq!(rt; shape(alloc, text.as_bytes()).err(), Some(fault));
+    let cases = [
+        ("", "[[graph]]\n", "", GRAPH_LIMIT as u32 + 1, GRAPHS),
+        (
+            GRAPH,
+            "[[graph.task]]\n",
+            "",
+            TASK_LIMIT as u32 + 1,
+            of_graph(Field::Task),
+        ),
+        (
+            ENTRIES,
+            "'b', ",
+            "]",
+            AFTER_LIMIT as u32 + 1,
+            of_task(Field::After),
+        ),
+        (
+            ONE_TASK,
+            "[[sporadic]]\n",
+            "",
+            SPORADIC_LIMIT as u32 + 1,
+            SPORADICS,
+        ),
+    ];
+    for (front, item, back, count, place) in cases {
+        let mut text = String::new(alloc);
+        text.push_str(front)?;
+        for _ in 0..count {
+            text.push_str(item)?;
+        }
+        text.push_str(back)?;
+        let fault = TaskFault::TooMany(place, count);
+        assert_eq!(rt; shape(alloc, text.as_bytes()).err(), Some(fault), "{place}");
+    }
     Ok(())
 }
 
@@ -130,15 +128,14 @@ fn described(alloc: Global, set: &TaskSet) -> Result<String, Fail> {
     let mut text = format!(in alloc; "soft {}", set.soft_limit)?;
     for graph in set.graphs.items() {
         let name = std::str::from_utf8(graph.name.bytes())?;
-        let numbers = format!(in alloc;
+        write!(
+            text,
             " | {name} {} {} {}",
             graph.period, graph.offset, graph.deadline
         )?;
-        text.push_str(numbers.as_str())?;
         for task in graph.tasks.items() {
             let name = std::str::from_utf8(task.name.bytes())?;
-            let task = format!(in alloc; " : {name} {} {:?}", task.wcet, task.after.items())?;
-            text.push_str(task.as_str())?;
+            write!(text, " : {name} {} {:?}", task.wcet, task.after.items())?;
         }
     }
     Ok(text)
@@ -160,29 +157,16 @@ fn reads_sets(rt: HostRuntime) -> Result<(), Fail> {
             "soft = 1\n[[graph]]\nname = 'h'\nperiod = 4096\noffset = 4095\n[[graph.task]]\nname = 'A-b_9'\nwcet = 4096",
             "soft 1 | h 4096 4095 1 : A-b_9 4096 []",
         ),
-    ];
-    for (text, wanted) in cases {
-        let set = shape(alloc, text.as_bytes())?;
-        assert_eq!(rt; described(alloc, &set)?.as_str(), wanted);
-    }
-    Ok(())
-}
-
-#[test]
-fn reads_predecessors(rt: HostRuntime) -> Result<(), Fail> {
-    let alloc = rt.alloc();
-    let cases = [
         (
-            "name = 'a'\nwcet = 2\n[[graph.task]]\nname = 'b'\nwcet = 1\nafter = ['a']",
+            "[[graph]]\nname = 'g'\nperiod = 8\n[[graph.task]]\nname = 'a'\nwcet = 2\n[[graph.task]]\nname = 'b'\nwcet = 1\nafter = ['a']",
             "soft 64 | g 8 0 8 : a 2 [] : b 1 [0]",
         ),
         (
-            "name = 'a'\nwcet = 2\nafter = ['b', 'none', 'a']\n[[graph.task]]\nname = 'b'\nwcet = 1",
+            "[[graph]]\nname = 'g'\nperiod = 8\n[[graph.task]]\nname = 'a'\nwcet = 2\nafter = ['b', 'none', 'a']\n[[graph.task]]\nname = 'b'\nwcet = 1",
             "soft 64 | g 8 0 8 : a 2 [1, 2, 0] : b 1 []",
         ),
     ];
-    for (keys, wanted) in cases {
-        let text = format!(in alloc; "{GRAPH}[[graph.task]]\n{keys}")?;
+    for (text, wanted) in cases {
         let set = shape(alloc, text.as_bytes())?;
         assert_eq!(rt; described(alloc, &set)?.as_str(), wanted);
     }

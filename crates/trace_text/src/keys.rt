@@ -1,6 +1,7 @@
 //! Names and keys at the end of a line.
 
 ghost use Rattle.std.specs.Prelude.{◌≡◌, ◌≤◌, ◌+◌, true, length, codes, decimal, ◌&&◌, ◌++◌, ◌∷◌, Some, slice_get, nat_lt};
+ghost use Rattle.slot_core.specs.declared.TheConstants.{NAME_LIMIT};
 ghost use Rattle.slot_core.specs.Arrivals.{key_in_set};
 ghost use Rattle.slot_core.specs.OfflineJobs.{tasks_of};
 ghost use Rattle.slot_core.specs.Texts.{key_text, graph_name, task_name, sporadic_name};
@@ -10,9 +11,9 @@ use slot_core::{Graph, Key, Name, TaskSet};
 
 /// Appends the name.
 fn push_name(line: &mut Line, name: &Name)
-    requires { length line.old + 24 ≤ 1024 }
+    requires { length line.old + NAME_LIMIT ≤ 1024 }
     ensures text { line.new ≡ line.old ++ name.now }
-    ensures short { length line.new ≤ length line.old + 24 }
+    ensures short { length line.new ≤ length line.old + NAME_LIMIT }
 {
     line.push(name.bytes());
 }
@@ -22,15 +23,15 @@ fn graph_at(tasks: &TaskSet, graph: u16) -> &Graph
     requires { nat_lt graph (length tasks.now.graphs) ≡ true }
     ensures { slice_get tasks.now.graphs graph ≡ Some result.now }
 {
-    &tasks.graphs.items()[graph as usize]
+    &tasks.graphs.items()[usize::from(graph)]
 }
 
 /// Appends the name of the graph of this index.
 fn push_graph(line: &mut Line, graph: u16, tasks: &TaskSet)
     requires named { nat_lt graph (length tasks.now.graphs) ≡ true }
-    requires room { length line.old + 24 ≤ 1024 }
+    requires room { length line.old + NAME_LIMIT ≤ 1024 }
     ensures text { line.new ≡ line.old ++ graph_name tasks.now graph }
-    ensures short { length line.new ≤ length line.old + 24 }
+    ensures short { length line.new ≤ length line.old + NAME_LIMIT }
 {
     push_name(line, &graph_at(tasks, graph).name);
 }
@@ -39,29 +40,31 @@ fn push_graph(line: &mut Line, graph: u16, tasks: &TaskSet)
 fn push_task(line: &mut Line, graph: u16, task: u16, tasks: &TaskSet)
     requires graph { nat_lt graph (length tasks.now.graphs) ≡ true }
     requires task { nat_lt task (length (tasks_of tasks.now graph)) ≡ true }
-    requires room { length line.old + 24 ≤ 1024 }
+    requires room { length line.old + NAME_LIMIT ≤ 1024 }
     ensures text { line.new ≡ line.old ++ task_name tasks.now graph task }
-    ensures short { length line.new ≤ length line.old + 24 }
+    ensures short { length line.new ≤ length line.old + NAME_LIMIT }
 {
     let graph = graph_at(tasks, graph);
-    push_name(line, &graph.tasks.items()[task as usize].name);
+    push_name(line, &graph.tasks.items()[usize::from(task)].name);
 }
 
 /// Appends the name of the sporadic task of this index.
 pub fn push_sporadic(line: &mut Line, index: u8, tasks: &TaskSet)
     requires named { nat_lt index (length tasks.now.sporadics) ≡ true }
-    requires room { length line.old + 24 ≤ 1024 }
+    requires room { length line.old + NAME_LIMIT ≤ 1024 }
     ensures text { line.new ≡ line.old ++ sporadic_name tasks.now index }
-    ensures short { length line.new ≤ length line.old + 24 }
+    ensures short { length line.new ≤ length line.old + NAME_LIMIT }
 {
-    push_name(line, &tasks.sporadics.items()[index as usize].name);
+    push_name(line, &tasks.sporadics.items()[usize::from(index)].name);
 }
 
 /// Appends the key of an instance of a task of a graph.
 fn push_offline(line: &mut Line, graph: u16, task: u16, instance: u64, tasks: &TaskSet)
-    requires named { (nat_lt graph (length tasks.now.graphs) && nat_lt task (length (tasks_of tasks.now graph))) ≡ true }
+    requires named { (nat_lt graph (length tasks.now.graphs)
+        && nat_lt task (length (tasks_of tasks.now graph))) ≡ true }
     requires room { length line.old + 70 ≤ 1024 }
-    ensures text { line.new ≡ line.old ++ (graph_name tasks.now graph ++ codes "." ++ task_name tasks.now graph task ++ codes "#" ++ decimal instance) }
+    ensures text { line.new ≡ line.old ++ (graph_name tasks.now graph ++ codes "."
+        ++ task_name tasks.now graph task ++ codes "#" ++ decimal instance) }
     ensures short { length line.new ≤ length line.old + 70 }
 {
     push_graph(line, graph, tasks);
@@ -83,15 +86,15 @@ pub fn push_key(line: &mut Line, key: Key, tasks: &TaskSet)
         Key::Sporadic(index, row) => {
             push_sporadic(line, index, tasks);
             line.push(b"@");
-            line.number(row as u64);
+            line.number(u64::from(row));
         }
         Key::Firm(row) => {
             line.push(b"firm:");
-            line.number(row as u64);
+            line.number(u64::from(row));
         }
         Key::Soft(row) => {
             line.push(b"soft:");
-            line.number(row as u64);
+            line.number(u64::from(row));
         }
     }
 }

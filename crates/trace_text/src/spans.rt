@@ -1,6 +1,7 @@
 //! Spans at the end of a line.
 
 ghost use Rattle.std.specs.Prelude.{◌≡◌, ◌≤◌, ◌+◌, length, codes, ◌++◌, ◌∷◌, flat_map};
+ghost use Rattle.slot_core.specs.declared.TheConstants.{SHOWN_LIMIT};
 ghost use Rattle.slot_core.specs.declared.jobs.Span.{Span};
 ghost use Rattle.slot_core.specs.Texts.{span_text, shown_text};
 
@@ -23,7 +24,7 @@ fn push_span(line: &mut Line, span: Span)
 
 /// Appends the spans, a space before each.
 fn push_spans(line: &mut Line, spans: &[Span])
-    requires few { length spans.now ≤ 8 }
+    requires few { length spans.now ≤ SHOWN_LIMIT }
     requires room { length line.old + 512 ≤ 1024 }
     ensures text { line.new ≡ line.old ++ flat_map (λ (s : Span). 32 ∷ span_text s) spans.now }
     ensures short { length line.new ≤ length line.old + 512 }
@@ -43,6 +44,6 @@ pub fn push_shown(line: &mut Line, shown: &Shown)
     let more = shown.more();
     if more > 0 {
         line.push(b" +");
-        line.number(more as u64);
+        line.number(u64::from(more));
     }
 }

@@ -5,68 +5,10 @@ ghost use Rattle.slot_core.specs.Arrivals.{key_in_set, what_in_set};
 
 use crate::entries::{entry_line, key_text};
 use slot_core::{
-    Afters, Done, Entry, Evidence, Firm, Graph, Graphs, Key, Name, Shown, Soft, Span, Spo,
-    Sporadic, Sporadics, Task, TaskSet, Tasks, What,
+    Done, Entry, Evidence, Firm, Gone, Key, SHOWN_LIMIT, Shown, Soft, Span, Spo, TaskSet, What,
 };
-use std::alloc::Global;
+use slot_examples::long_names_set;
 use std::test::Fail;
-
-/// The longest names.
-const GRAPH: &[u8] = b"graph-name-of-24-bytes_x";
-
-const TASK: &[u8] = b"Task_name-of-24-bytes-yz";
-
-const SPORADIC: &[u8] = b"sporadic-of-24-bytes_abc";
-
-fn name(text: &[u8]) -> Result<Name, Fail> {
-    Ok(Name::of(text).ok_or("no name")?)
-}
-
-fn task(alloc: Global, text: &[u8]) -> Result<Task, Fail> {
-    Ok(Task {
-        name: name(text)?,
-        wcet: 1,
-        after: Afters::new(alloc),
-    })
-}
-
-fn graph(alloc: Global, text: &[u8], first: &[u8], second: &[u8]) -> Result<Graph, Fail> {
-    let mut tasks = Tasks::new(alloc);
-    tasks.push(task(alloc, first)?)?;
-    tasks.push(task(alloc, second)?)?;
-    Ok(Graph {
-        name: name(text)?,
-        period: 8,
-        offset: 0,
-        deadline: 8,
-        tasks,
-    })
-}
-
-fn sporadic(text: &[u8]) -> Result<Sporadic, Fail> {
-    Ok(Sporadic {
-        name: name(text)?,
-        wcet: 1,
-        separation: 8,
-        deadline: 2,
-    })
-}
-
-/// Two graphs with two tasks each and two sporadic tasks. Of each two the second has the longest
-/// name.
-fn task_set(alloc: Global) -> Result<TaskSet, Fail> {
-    let mut graphs = Graphs::new(alloc);
-    graphs.push(graph(alloc, b"g", b"a", b"b")?)?;
-    graphs.push(graph(alloc, GRAPH, b"a", TASK)?)?;
-    let mut sporadics = Sporadics::new(alloc);
-    sporadics.push(sporadic(b"alarm")?)?;
-    sporadics.push(sporadic(SPORADIC)?)?;
-    Ok(TaskSet {
-        soft_limit: 1024,
-        graphs,
-        sporadics,
-    })
-}
 
 /// Whether the key lies in the task set.
 fn is_key_of(key: Key, tasks: &TaskSet) -> bool
@@ -74,10 +16,10 @@ fn is_key_of(key: Key, tasks: &TaskSet) -> bool
 {
     match key {
         Key::Offline(graph, task, _) => {
-            (graph as usize) < tasks.graphs.len()
-                && (task as usize) < tasks.graphs.items()[graph as usize].tasks.len()
+            usize::from(graph) < tasks.graphs.len()
+                && usize::from(task) < tasks.graphs.items()[usize::from(graph)].tasks.len()
         }
-        Key::Sporadic(index, _) => (index as usize) < tasks.sporadics.len(),
+        Key::Sporadic(index, _) => usize::from(index) < tasks.sporadics.len(),
         Key::Firm(_) | Key::Soft(_) => true,
     }
 }
@@ -87,7 +29,7 @@ fn is_what_of(what: What, tasks: &TaskSet) -> bool
     ensures { result ≡ what_in_set tasks.now what }
 {
     match what {
-        What::Sporadic(_, index, _) => (index as usize) < tasks.sporadics.len(),
+        What::Sporadic(_, index, _) => usize::from(index) < tasks.sporadics.len(),
         What::Done(_, key, _) => is_key_of(key, tasks),
         What::Run(key) => is_key_of(key, tasks),
         _ => true,
@@ -106,7 +48,7 @@ fn span(start: u64, end: u64, spare: i64) -> Span {
 fn shown(spans: &[Span], more: u32) -> Result<Shown, Fail> {
     let mut shown = Shown::new(more);
     for span in spans {
-        if shown.spans().len() == 8 {
+        if shown.spans().len() == SHOWN_LIMIT {
             return Err("too many spans")?;
         }
         shown.push(*span);
@@ -126,7 +68,7 @@ const REFUSED: Evidence = Evidence {
 };
 
 /// An entry of each kind at its time, and its line with two spans.
-const ENTRIES: [(u64, What, &str); 16] = [
+const ENTRIES: [(u64, What, &str); 18] = [
     (0, What::Start, "0 start | 3-7:5 7-8:-3\n"),
     (
         3,
@@ -179,6 +121,16 @@ const ENTRIES: [(u64, What, &str); 16] = [
         "6 done 9 alarm@6 notrunning | 3-7:5 7-8:-3\n",
     ),
     (
+        4,
+        What::Withdraw(2, 1, Gone::Freed(4)),
+        "4 withdraw 2 firm:1 freed 4 | 3-7:5 7-8:-3\n",
+    ),
+    (
+        4,
+        What::Withdraw(3, 1, Gone::NoJob),
+        "4 withdraw 3 firm:1 nojob | 3-7:5 7-8:-3\n",
+    ),
+    (
         10,
         What::Run(Key::Offline(0, 0, 12)),
         "10 run g.a#12 | 3-7:5 7-8:-3\n",
@@ -199,7 +151,7 @@ const ENTRIES: [(u64, What, &str); 16] = [
 
 #[test]
 fn writes_each_kind_of_entry(rt: HostRuntime) -> Result<(), Fail> {
-    let tasks = task_set(rt.alloc())?;
+    let tasks = long_names_set(rt.alloc())?;
     for (time, what, want) in ENTRIES {
         let shown = shown(&[span(3, 7, 5), span(7, 8, -3)], 0)?;
         let entry = Entry { time, what, shown };
@@ -250,7 +202,7 @@ const LONG_ENTRIES: [(What, &str); 5] = [
 #[test]
 fn writes_the_longest_numbers_and_names(rt: HostRuntime) -> Result<(), Fail> {
     let alloc = rt.alloc();
-    let tasks = task_set(alloc)?;
+    let tasks = long_names_set(alloc)?;
     let last = " 18446744073709551615-18446744073709551615:-9223372036854775808";
     for (what, words) in LONG_ENTRIES {
         let shown = shown(&[span(LAST, LAST, i64::MIN); 8], ROW)?;
@@ -275,7 +227,7 @@ fn writes_the_longest_numbers_and_names(rt: HostRuntime) -> Result<(), Fail> {
 
 #[test]
 fn writes_each_kind_of_key(rt: HostRuntime) -> Result<(), Fail> {
-    let tasks = task_set(rt.alloc())?;
+    let tasks = long_names_set(rt.alloc())?;
     let rows = [
         (Key::Offline(0, 0, 0), "g.a#0"),
         (

@@ -1,12 +1,13 @@
 //! Words of an entry at the end of a line.
 
 ghost use Rattle.std.specs.Prelude.{◌≡◌, ◌≤◌, ◌+◌, true, length, codes, decimal, ◌++◌, ◌∷◌, nat_lt};
+ghost use Rattle.slot_core.specs.declared.jobs.Key.TheVariants.{Firm as FirmKey};
 ghost use Rattle.slot_core.specs.Arrivals.{key_in_set, what_in_set};
-ghost use Rattle.slot_core.specs.Texts.{key_text, sporadic_name, worded, soft_text, firm_text, sporadic_text, done_text, what_text};
+ghost use Rattle.slot_core.specs.Texts.{key_text, sporadic_name, worded, soft_text, firm_text, sporadic_text, done_text, gone_text, what_text};
 
 use crate::keys::{push_key, push_sporadic};
 use crate::line::Line;
-use slot_core::{Done, Firm, Key, Soft, Spo, TaskSet, What};
+use slot_core::{Done, Firm, Gone, Key, Soft, Spo, TaskSet, What};
 
 /// Appends a space and the number.
 fn push_number(line: &mut Line, n: u64)
@@ -28,7 +29,7 @@ fn push_soft(line: &mut Line, answer: Soft)
         Soft::Taken => line.push(b"taken"),
         Soft::Full(jobs) => {
             line.push(b"full");
-            push_number(line, jobs as u64);
+            push_number(line, u64::from(jobs));
         }
     }
 }
@@ -79,7 +80,7 @@ fn push_done(line: &mut Line, answer: Done)
     match answer {
         Done::Freed(slots) => {
             line.push(b"freed");
-            push_number(line, slots as u64);
+            push_number(line, u64::from(slots));
         }
         Done::NotRunning => line.push(b"notrunning"),
     }
@@ -88,12 +89,13 @@ fn push_done(line: &mut Line, answer: Done)
 /// Appends the words of soft work.
 fn push_soft_words(line: &mut Line, row: u32, slots: u32, answer: Soft)
     requires { length line.old + 72 ≤ 1024 }
-    ensures text { line.new ≡ line.old ++ (worded (worded (codes "soft") row) slots ++ 32 ∷ soft_text answer) }
+    ensures text { line.new ≡ line.old
+        ++ (worded (worded (codes "soft") row) slots ++ 32 ∷ soft_text answer) }
     ensures short { length line.new ≤ length line.old + 72 }
 {
     line.push(b"soft");
-    push_number(line, row as u64);
-    push_number(line, slots as u64);
+    push_number(line, u64::from(row));
+    push_number(line, u64::from(slots));
     line.push(b" ");
     push_soft(line, answer);
 }
@@ -101,13 +103,14 @@ fn push_soft_words(line: &mut Line, row: u32, slots: u32, answer: Soft)
 /// Appends the words of a firm task.
 fn push_firm_words(line: &mut Line, row: u32, slots: u32, within: u32, answer: Firm)
     requires { length line.old + 137 ≤ 1024 }
-    ensures text { line.new ≡ line.old ++ (worded (worded (worded (codes "firm") row) slots) within ++ 32 ∷ firm_text answer) }
+    ensures text { line.new ≡ line.old
+        ++ (worded (worded (worded (codes "firm") row) slots) within ++ 32 ∷ firm_text answer) }
     ensures short { length line.new ≤ length line.old + 137 }
 {
     line.push(b"firm");
-    push_number(line, row as u64);
-    push_number(line, slots as u64);
-    push_number(line, within as u64);
+    push_number(line, u64::from(row));
+    push_number(line, u64::from(slots));
+    push_number(line, u64::from(within));
     line.push(b" ");
     push_firm(line, answer);
 }
@@ -116,11 +119,12 @@ fn push_firm_words(line: &mut Line, row: u32, slots: u32, within: u32, answer: F
 fn push_sporadic_words(line: &mut Line, row: u32, index: u8, answer: Spo, tasks: &TaskSet)
     requires named { nat_lt index (length tasks.now.sporadics) ≡ true }
     requires room { length line.old + 81 ≤ 1024 }
-    ensures text { line.new ≡ line.old ++ (worded (codes "sporadic") row ++ 32 ∷ sporadic_name tasks.now index ++ 32 ∷ sporadic_text answer) }
+    ensures text { line.new ≡ line.old ++ (worded (codes "sporadic") row
+        ++ 32 ∷ sporadic_name tasks.now index ++ 32 ∷ sporadic_text answer) }
     ensures short { length line.new ≤ length line.old + 81 }
 {
     line.push(b"sporadic");
-    push_number(line, row as u64);
+    push_number(line, u64::from(row));
     line.push(b" ");
     push_sporadic(line, index, tasks);
     line.push(b" ");
@@ -131,15 +135,46 @@ fn push_sporadic_words(line: &mut Line, row: u32, index: u8, answer: Spo, tasks:
 fn push_done_words(line: &mut Line, row: u32, key: Key, answer: Done, tasks: &TaskSet)
     requires named { key_in_set tasks.now key ≡ true }
     requires room { length line.old + 123 ≤ 1024 }
-    ensures text { line.new ≡ line.old ++ (worded (codes "done") row ++ 32 ∷ key_text tasks.now key ++ 32 ∷ done_text answer) }
+    ensures text { line.new ≡ line.old ++ (worded (codes "done") row
+        ++ 32 ∷ key_text tasks.now key ++ 32 ∷ done_text answer) }
     ensures short { length line.new ≤ length line.old + 123 }
 {
     line.push(b"done");
-    push_number(line, row as u64);
+    push_number(line, u64::from(row));
     line.push(b" ");
     push_key(line, key, tasks);
     line.push(b" ");
     push_done(line, answer);
+}
+
+/// Appends the answer to a withdrawal.
+fn push_gone(line: &mut Line, answer: Gone)
+    requires { length line.old + 26 ≤ 1024 }
+    ensures text { line.new ≡ line.old ++ gone_text answer }
+    ensures short { length line.new ≤ length line.old + 26 }
+{
+    match answer {
+        Gone::Freed(slots) => {
+            line.push(b"freed");
+            push_number(line, u64::from(slots));
+        }
+        Gone::NoJob => line.push(b"nojob"),
+    }
+}
+
+/// Appends the words of a withdrawal.
+fn push_withdraw_words(line: &mut Line, row: u32, firm: u32, answer: Gone, tasks: &TaskSet)
+    requires { length line.old + 127 ≤ 1024 }
+    ensures text { line.new ≡ line.old ++ (worded (codes "withdraw") row
+        ++ 32 ∷ key_text tasks.now (FirmKey firm) ++ 32 ∷ gone_text answer) }
+    ensures short { length line.new ≤ length line.old + 127 }
+{
+    line.push(b"withdraw");
+    push_number(line, u64::from(row));
+    line.push(b" ");
+    push_key(line, Key::Firm(firm), tasks);
+    line.push(b" ");
+    push_gone(line, answer);
 }
 
 /// Appends the words of an entry.
@@ -155,6 +190,7 @@ pub fn push_what(line: &mut Line, what: What, tasks: &TaskSet)
         What::Firm(row, slots, within, answer) => push_firm_words(line, row, slots, within, answer),
         What::Sporadic(row, index, answer) => push_sporadic_words(line, row, index, answer, tasks),
         What::Done(row, key, answer) => push_done_words(line, row, key, answer, tasks),
+        What::Withdraw(row, firm, answer) => push_withdraw_words(line, row, firm, answer, tasks),
         What::Run(key) => {
             line.push(b"run ");
             push_key(line, key, tasks);

@@ -1,15 +1,16 @@
 -- One step along an order, where the longest chains are counted.
-use Rattle.std.proofs.Common.{◌≡◌, ℕ, zero, suc, ◌+◌, ◌<◌, ◌≤◌, max, cond, List, [], ◌∷◌, length, map, get_or, set, take, drop, replicate, refl, sym, ap, ◌∙◌, subst, inl, inr, arith}
+use Rattle.std.proofs.Common.{◌≡◌, ℕ, zero, suc, ◌+◌, ◌*◌, ◌<◌, ◌≤◌, max, cond, List, [], ◌∷◌, length, map, get_or, set, take, drop, replicate, refl, sym, ap, ◌∙◌, subst, inl, inr, arith}
 use Rattle.std.specs.Prelude.{fold, slice_index}
 use Rattle.std.proofs.lemmas.Bool.{cases_eq}
 use Rattle.std.proofs.lemmas.List.{take_more, take_all, drop_more, drop_all, get_or-set_same, get_or-set_other}
 use Rattle.std.proofs.lemmas.Option.{slice_get-get_or}
+use Rattle.slot_core.specs.declared.TheConstants.{SLOT_LIMIT, TASK_LIMIT}
 use Rattle.slot_core.specs.declared.tasks.Task.{Task}
 use Rattle.slot_core.specs.Precedence.{after_of, wcet_of, comes_after, longest_before, longest_after}
-use Rattle.slot_core.proofs.ListMembers.{Has, Has-append_cases, Has-from_Contains}
+use Rattle.slot_facts.proofs.Lists.Members.{Has, Has-append_cases, Has-from_Contains}
 use Rattle.window_derive.specs.Orders.{IsOrder}
 use Rattle.window_derive.specs.Chains.{AreOrderable, AreChainsBefore, AreChainsAfter}
-use Rattle.slot_core.proofs.ListTests.{equal-from_Has}
+use Rattle.slot_facts.proofs.Lists.Tests.{equal-from_Has}
 use Rattle.window_derive.proofs.ChainSteps.{HasNoLoop-from_orderable, has_entries, longest_before-by_entries, longest_after-by_successors, longest_by, longest_by-cons, chain_bound, predecessors_before, successors_after}
 use Rattle.window_derive.proofs.OrderLemmas.{IsNext-from_next_task}
 
@@ -33,7 +34,7 @@ map-same f g (x ∷ xs) same =
 -- the longest chains before the first tasks of an order, and small numbers at the others
 pub record AreBefore (tasks : List Task) (first before : List ℕ) : Type 0 where
   pub done : (t : ℕ) → Has first t → slice_index before t ≡ longest_before tasks t
-  pub small : (t : ℕ) → slice_index before t ≤ 131072
+  pub small : (t : ℕ) → slice_index before t ≤ TASK_LIMIT * SLOT_LIMIT
 
 pub AreBefore-none : (tasks : List Task) (n : ℕ) → AreBefore tasks [] (replicate n 0)
 AreBefore-none tasks n = record {
@@ -86,7 +87,7 @@ longest_by-place tasks order i p sound is next within =
     longest_after-by_successors tasks (drop i order) t (HasNoLoop-from_orderable tasks sound) λ s after.
     subst (λ k. Has (drop k order) s) next (successors_after tasks order p t s sound is (slice_get-get_or order p 0 within) after)
 
-pub longest_by-small : (tasks : List Task) (order : List ℕ) (i p : ℕ) → AreOrderable tasks → IsOrder tasks order → p + 1 ≡ i → p < length order → longest_by tasks (drop i order) (get_or order p 0) ≤ 131072
+pub longest_by-small : (tasks : List Task) (order : List ℕ) (i p : ℕ) → AreOrderable tasks → IsOrder tasks order → p + 1 ≡ i → p < length order → longest_by tasks (drop i order) (get_or order p 0) ≤ TASK_LIMIT * SLOT_LIMIT
 longest_by-small tasks order i p sound is next within =
     omega (arith, longest_by-place tasks order i p sound is next within, chain_bound tasks (get_or order p 0) sound (place_within tasks order p is within))
 

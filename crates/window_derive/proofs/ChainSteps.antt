@@ -7,15 +7,16 @@ use Rattle.std.proofs.lemmas.Grind.{fold-append}
 use Rattle.std.proofs.lemmas.List.{map_more}
 use Rattle.std.proofs.lemmas.List.Sums.{sum_by-cons}
 use Rattle.std.proofs.lemmas.Option.{slice_get-get_or}
+use Rattle.slot_core.specs.declared.TheConstants.{SLOT_LIMIT, TASK_LIMIT}
 use Rattle.slot_core.specs.declared.tasks.Task.{Task}
 use Rattle.slot_core.specs.Precedence.{after_of, wcet_of, comes_after, predecessors, successors, chains, longest_before, longest_after, is_on_loop}
-use Rattle.slot_core.proofs.ListMembers.{Has, Has-map, Has-map_cases, Has-flat_map, Has-flat_map_cases, Has-filter, Has-filter_passes, Has-range_with_len, Has-from_slice_get, fold_max-at, fold_max-le}
-use Rattle.slot_core.proofs.ChainLemmas.{HasNoLoop, longest_before-step, longest_after-step}
-use Rattle.slot_core.proofs.ChainRoom.{chain_room, sum_below}
-use Rattle.slot_core.proofs.FaultLemmas.{find-None}
+use Rattle.slot_facts.proofs.Lists.Members.{Has, Has-map, Has-map_cases, Has-flat_map, Has-flat_map_cases, Has-filter, Has-filter_passes, Has-range_with_len, Has-from_slice_get, fold_max-at, fold_max-le}
+use Rattle.slot_facts.proofs.Offline.Chains.{HasNoLoop, longest_before-step, longest_after-step}
+use Rattle.slot_facts.proofs.Offline.ChainRoom.{chain_room, sum_below}
+use Rattle.slot_facts.proofs.Sets.Faults.{find-None}
 use Rattle.window_derive.specs.Orders.{IsOrder}
 use Rattle.window_derive.specs.Chains.{AreOrderable}
-use Rattle.slot_core.proofs.ListTests.{equal-from_Has, Has-from_equal, place-from_Has, Has-from_place}
+use Rattle.slot_facts.proofs.Lists.Tests.{equal-from_Has, Has-from_equal, place-from_Has, Has-from_place}
 use Rattle.window_derive.proofs.LoopLemmas.{after_of-past}
 use Rattle.window_derive.proofs.OrderLemmas.{IsNext-from_next_task}
 
@@ -138,11 +139,11 @@ longest-push f xs i within =
     ap (fold max 0) (map_more f xs i 0 within) ∙ fold-append max 0 (map f (take i xs)) (f (get_or xs i 0) ∷ [])
 
 -- a chain takes few slots
-sum_below-le : (f : ℕ → ℕ) (n : ℕ) → ((t : ℕ) → f t ≤ 4096) → sum_below f n ≤ n * 4096
+sum_below-le : (f : ℕ → ℕ) (n : ℕ) → ((t : ℕ) → f t ≤ SLOT_LIMIT) → sum_below f n ≤ n * SLOT_LIMIT
 sum_below-le f zero few = omega arith
 sum_below-le f (suc n) few = omega (arith, few 0, sum_below-le (λ k. f (suc k)) n (λ k. few (suc k)))
 
-pub chain_bound : (tasks : List Task) (t : ℕ) → AreOrderable tasks → t < length tasks → longest_before tasks t + wcet_of tasks t + longest_after tasks t ≤ 131072
+pub chain_bound : (tasks : List Task) (t : ℕ) → AreOrderable tasks → t < length tasks → longest_before tasks t + wcet_of tasks t + longest_after tasks t ≤ TASK_LIMIT * SLOT_LIMIT
 chain_bound tasks t sound within =
     omega (arith, sound.count, chain_room tasks t (HasNoLoop-from_orderable tasks sound) sound.some within, sum_below-le (wcet_of tasks) (length tasks) sound.few)
 

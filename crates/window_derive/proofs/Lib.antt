@@ -1,7 +1,7 @@
 pub mod ChainArrays
 pub mod ChainSteps
-pub mod DeadlineOrder
 pub mod LoopLemmas
 pub mod OrderLemmas
+pub mod PrecedenceLemmas
 pub mod SoundSets
 pub mod StuckLemmas

@@ -1,57 +1,30 @@
 -- What a sound set says of its graphs and of the raw jobs of its first cycle.
-use Rattle.std.proofs.Common.{◌≡◌, ℕ, zero, suc, ◌+◌, ◌-◌, ◌*◌, ◌/◌, ◌<◌, ◌≤◌, true, List, [], ◌∷◌, ◌++◌, length, map, get_or, take, Some, refl, sym, ap, ◌∙◌, subst, inl, inr, arith}
+use Rattle.std.proofs.Common.{◌≡◌, ℕ, zero, suc, ◌+◌, ◌-◌, ◌<◌, true, List, [], ◌∷◌, ◌++◌, length, map, get_or, take, Some, refl, sym, ap, ◌∙◌, subst, inl, inr, arith}
 use Rattle.std.specs.Prelude.{slice_get, slice_index, All}
 use Rattle.std.specs.List.{AllZip, range_with_len}
 use Rattle.std.specs.Option.{option_map_or}
 use Rattle.std.proofs.lemmas.Bool.{cases_lt}
 use Rattle.std.proofs.lemmas.List.{take_more}
-use Rattle.std.proofs.lemmas.Option.{slice_get-get_or, slice_get_past, slice_get_within}
-use Rattle.std.proofs.Math.Nat.{mul-le-mul_right}
-use Rattle.slot_core.specs.declared.TheConstants.{SLOT_LIMIT}
-use Rattle.slot_core.specs.declared.jobs.Key.TheVariants.{Offline}
+use Rattle.std.proofs.lemmas.Option.{slice_get-get_or, slice_get_within}
 use Rattle.slot_core.specs.declared.jobs.Job.{Job}
 use Rattle.slot_core.specs.declared.jobs.RawJob.{RawJob}
-use Rattle.slot_core.specs.declared.tasks.Task.{Task}
 use Rattle.slot_core.specs.declared.tasks.Graph.{Graph}
 use Rattle.slot_core.specs.declared.tasks.TaskSet.{TaskSet}
 use Rattle.slot_core.specs.Cycles.{cycle_of}
-use Rattle.slot_core.specs.OfflineJobs.{raw_jobs, derived_job, tasks_of, release_of, chain_before, chain_after}
-use Rattle.slot_core.specs.Precedence.{wcet_of, is_on_loop, longest_before, longest_after}
+use Rattle.slot_core.specs.OfflineJobs.{raw_jobs, derived_job, chain_before, chain_after}
+use Rattle.slot_core.specs.Precedence.{is_on_loop, longest_before, longest_after}
 use Rattle.slot_core.specs.Ranges.{is_sound}
-use Rattle.slot_core.proofs.ListMembers.{Has, Has-map, Contains-from_Has, Has-range_with_len_bounds}
-use Rattle.slot_core.proofs.DistinctKeys.{same_numbers}
-use Rattle.slot_core.proofs.ChainLemmas.{HasNoLoop}
-use Rattle.slot_core.proofs.OfflineJobLemmas.{offline_from_cycle, graph_in_range-from_sound, task_in_range-from_sound, HasNoLoop-from_sound, cycle-multiple, cycle-at_most}
-use Rattle.slot_core.proofs.RangeFacts.{bounds, TaskRanges-from_test, GraphFits, few_tasks}
-use Rattle.slot_core.proofs.MovedCycles.{GraphFits-from_sound}
+use Rattle.slot_facts.proofs.Lists.Members.{Has, Has-range_with_len_bounds}
+use Rattle.slot_facts.proofs.Offline.DistinctKeys.{same_numbers}
+use Rattle.slot_facts.proofs.Offline.Chains.{HasNoLoop}
+use Rattle.slot_facts.proofs.Offline.Jobs.{graph_in_range-from_sound, HasNoLoop-from_sound}
+use Rattle.slot_facts.proofs.Sets.Ranges.{few_tasks}
 use Rattle.window_derive.specs.declared.windows.Chains.{Chains}
 use Rattle.window_derive.specs.Chains.{AreOrderable}
 use Rattle.window_derive.specs.GraphChains.{AreChainsOf, AreChainsOfGraphs, HasChains, before_in, after_in, job_by}
-use Rattle.slot_core.proofs.ListTests.{None-from_fails}
-
--- the tasks of a graph of the set are those at its place
-tasks_at : (set : TaskSet) (g : ℕ) (graph : Graph) → slice_get set.graphs g ≡ Some graph → tasks_of set g ≡ graph.tasks
-tasks_at set g graph at = ap (λ o. option_map_or (λ (x : Graph). x.tasks) o []) at
-
-wcet_at : (tasks : List Task) (t : ℕ) (task : Task) → slice_get tasks t ≡ Some task → wcet_of tasks t ≡ task.wcet
-wcet_at tasks t task at = ap (λ o. option_map_or (λ (x : Task). x.wcet) o 0) at
-
-wcet_past : (tasks : List Task) (t : ℕ) → length tasks ≤ t → wcet_of tasks t ≡ 0
-wcet_past tasks t past = ap (λ o. option_map_or (λ (x : Task). x.wcet) o 0) (slice_get_past tasks t past)
-
--- what stands within a list
-slice_get-within : {X : Type 0} (xs : List X) (i : ℕ) → i < length xs → (x : X) × (slice_get xs i ≡ Some x)
-slice_get-within [] i within = absurd (omega arith)
-slice_get-within (x ∷ xs) zero within = (x, refl)
-slice_get-within (x ∷ xs) (suc i) within = slice_get-within xs i (omega arith)
-
--- the slots of a task of a graph of a sound set
-task_slots : (set : TaskSet) (g : ℕ) (graph : Graph) → is_sound set ≡ true → slice_get set.graphs g ≡ Some graph → (t : ℕ) → t < length graph.tasks → (1 ≤ wcet_of graph.tasks t) × (wcet_of graph.tasks t ≤ 4096)
-task_slots set g graph sound at t within =
-    let task = slice_get-within graph.tasks t within in
-    let fits = bounds 1 SLOT_LIMIT task.0.wcet (TaskRanges-from_test task.0 (task_in_range-from_sound set g t graph task.0 sound at task.1)).wcet in
-    let value = wcet_at graph.tasks t task.0 task.1 in
-    (omega arith, omega arith)
+use Rattle.slot_facts.proofs.Lists.Tests.{None-from_fails}
+use Rattle.slot_facts.proofs.Sets.Tasks.{tasks_at, wcet_past, task_slots}
+use Rattle.slot_facts.proofs.Offline.RawJobs.{IsRawJob, IsRawJob-from_cycle}
 
 -- the graphs of a sound set have an order
 AreOrderable-from_sound : (set : TaskSet) (g : ℕ) (graph : Graph) → is_sound set ≡ true → slice_get set.graphs g ≡ Some graph → AreOrderable graph.tasks
@@ -76,47 +49,6 @@ AreOrderable-from_sound set g graph sound at =
 pub graphs_orderable : (set : TaskSet) → is_sound set ≡ true → All (λ (g : Graph). AreOrderable g.tasks) set.graphs
 graphs_orderable set sound = λ k d within.
     AreOrderable-from_sound set k (get_or set.graphs k d) sound (slice_get-get_or set.graphs k d within)
-
--- the raw job of a task of a graph of the set
-pub record IsRawJob (set : TaskSet) (raw : RawJob) : Type 0 where
-  pub g : ℕ
-  pub t : ℕ
-  pub k : ℕ
-  pub graph : Graph
-  pub key : raw.key ≡ Offline g t k
-  pub graph_at : slice_get set.graphs g ≡ Some graph
-  pub within : t < length graph.tasks
-  pub early : raw.release ≤ 4096
-
--- an instance of the first cycle is released in it
-released_early : (q period offset cycle k : ℕ) → q * period ≡ cycle → k < 1 * q → offset ≤ period → k * period + offset ≤ cycle
-released_early q period offset cycle k whole first fits =
-    let times : k + 1 ≤ q = omega arith in
-    omega (arith, mul-le-mul_right period times)
-
-pub IsRawJob-from_cycle : (set : TaskSet) (raw : RawJob) → is_sound set ≡ true → Has (raw_jobs set (cycle_of set) 0) raw → IsRawJob set raw
-IsRawJob-from_cycle set raw sound listed =
-    let cycle = cycle_of set in
-    let jobs = raw_jobs set cycle 0 in
-    let job = derived_job set raw in
-    let is = offline_from_cycle set cycle 0 job (Contains-from_Has (map (derived_job set) jobs) job (Has-map (derived_job set) jobs raw listed)) in
-    let same : raw.key ≡ Offline is.g is.t is.k = ap (λ (j : Job). j.key) is.instance_of.derived in
-    let starts : raw.release + chain_before set raw.key ≡ release_of is.graph is.k + chain_before set (Offline is.g is.t is.k) =
-    ap (λ (j : Job). j.est) is.instance_of.derived in
-    let chain = ap (chain_before set) same in
-    let fits : GraphFits is.graph = GraphFits-from_sound set is.g is.graph sound is.instance_of.graph_at in
-    let whole = cycle-multiple set is.g is.graph sound is.instance_of.graph_at in
-    let early = released_early (cycle / is.graph.period) is.graph.period is.graph.offset cycle is.k whole is.below (omega (arith, fits.within)) in
-    record {
-      g = is.g;
-      t = is.t;
-      k = is.k;
-      graph = is.graph;
-      key = same;
-      graph_at = is.instance_of.graph_at;
-      within = slice_get_within is.graph.tasks is.t is.task is.instance_of.task_at;
-      early = omega (arith, cycle-at_most set sound);
-    }
 
 -- what stands at a place of two lists that match
 AllZip-slice_get : {X Y : Type 0} (R : X → Y → Type 0) (xs : List X) (ys : List Y) (i : ℕ) (x : X) → AllZip R xs ys → slice_get xs i ≡ Some x → (y : Y) × (slice_get ys i ≡ Some y) × R x y

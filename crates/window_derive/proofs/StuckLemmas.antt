@@ -6,11 +6,11 @@ use Rattle.std.proofs.lemmas.Bool.{and_cases, not-false, both_ways, cases_Bool, 
 use Rattle.std.proofs.lemmas.Map.Steps.{le-length_from_below}
 use Rattle.slot_core.specs.declared.tasks.Task.{Task}
 use Rattle.slot_core.specs.Precedence.{comes_after, predecessors, leads_to, is_on_loop}
-use Rattle.slot_core.proofs.ListMembers.{Has, Has-filter_passes, Has-range_with_len, Has-range_with_len_bounds, list_any-from_Has, passes_from_list_all}
-use Rattle.slot_core.proofs.ChainLemmas.{leads_to_push}
-use Rattle.slot_core.proofs.FaultLemmas.{find-None}
+use Rattle.slot_facts.proofs.Lists.Members.{Has, Has-filter_passes, Has-range_with_len, Has-range_with_len_bounds, list_any-from_Has, passes_from_list_all}
+use Rattle.slot_facts.proofs.Offline.Chains.{leads_to_push}
+use Rattle.slot_facts.proofs.Sets.Faults.{find-None}
 use Rattle.window_derive.specs.Orders.{is_listed, next_task, first_on_loop}
-use Rattle.slot_core.proofs.ListTests.{fails-from_list_all, equal-from_Has, Has-from_equal}
+use Rattle.slot_facts.proofs.Lists.Tests.{fails-from_list_all, equal-from_Has, Has-from_equal}
 use Rattle.window_derive.proofs.OrderLemmas.{IsDistinct-cons, below_cons, length-le_from_below}
 
 -- a task that is not listed

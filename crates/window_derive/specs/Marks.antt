@@ -10,7 +10,8 @@ is_marked marks t = slice_index_or marks t false
 
 -- the task is not marked, and its predecessors all are
 abbrev pub is_next_by : List Task → List Bool → ℕ → Bool
-is_next_by tasks marks t = not (is_marked marks t) && list_all (is_marked marks) (predecessors tasks t)
+is_next_by tasks marks t =
+    not (is_marked marks t) && list_all (is_marked marks) (predecessors tasks t)
 
 -- the least such task, or none
 abbrev pub next_by : List Task → List Bool → Option ℕ

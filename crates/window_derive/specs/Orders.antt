@@ -15,8 +15,8 @@ next_task tasks listed =
     (λ t. not (is_listed listed t) && list_all (is_listed listed) (predecessors tasks t))
     (range_with_len 0 (length tasks))
 
--- every task stands in the order, as many places as there are tasks, and at each place the next task after
--- those before it
+-- every task stands in the order, as many places as there are tasks, and at each place the next
+-- task after those before it
 pub record IsOrder (tasks : List Task) (order : List ℕ) : Type 0 where
   pub places : length order ≡ length tasks
   pub all_listed : (t : ℕ) → t < length tasks → Contains order t

@@ -3,21 +3,22 @@
 ghost use Rattle.std.specs.Prelude.{◌≡◌, ◌<◌, ℕ, length, map, All, IfOk};
 ghost use Rattle.std.specs.Ordering.{nat_cmp};
 ghost use Rattle.std.specs.Cmp.Lexicographic.{slice_cmp};
+ghost use Rattle.slot_core.specs.declared.TheConstants.{TASK_LIMIT};
 ghost use Rattle.slot_core.specs.Keys.{deadline_order};
 ghost use Rattle.window_derive.specs.Chains.{AreOrderable};
 ghost use Rattle.window_derive.specs.GraphChains.{AreChainsOf, AreChainsOfGraphs, HasChains, before_in, after_in, job_by};
 
 use crate::chains::{chains_after, chains_before};
-use crate::{MOST_TASKS, OrderFault, order};
-use slot_core::{Graph, Job, Key, Memory, RawJob};
+use crate::{OrderFault, order};
+use slot_core::{Graph, Job, Key, Memory, RawJob, TASK_LIMIT};
 use std::alloc::Global;
 use std::cmp::Ordering;
 
 /// The slots of the longest chains before and after each task of a graph.
 #[derive(Clone, Copy)]
 pub struct Chains {
-    pub before: [u32; MOST_TASKS],
-    pub after: [u32; MOST_TASKS],
+    pub before: [u32; TASK_LIMIT],
+    pub after: [u32; TASK_LIMIT],
 }
 
 /// The longest chains of each graph.
@@ -78,7 +79,7 @@ fn window_of(raw: &RawJob, chains: &[Chains]) -> Job
 
 /// The longest chains before and after the job of this key.
 fn chains_of_key(key: Key, chains: &[Chains]) -> (u32, u32)
-    requires { (g t k : ℕ) → key ≡ Key.Offline g t k → (g < length chains.now) × (t < 32) }
+    requires { (g t k : ℕ) → key ≡ Key.Offline g t k → (g < length chains.now) × (t < TASK_LIMIT) }
     ensures before { result.0 ≡ before_in chains.now key }
     ensures after { result.1 ≡ after_in chains.now key }
 {

@@ -8,8 +8,10 @@ use Rattle.slot_core.specs.declared.jobs.Window.{Window}
 use Rattle.slot_core.specs.declared.tasks.Sporadic.{Sporadic}
 use Rattle.slot_core.specs.Feasible.{window_demand, failing_window, first_some, first_failing_from, counterexample_in}
 use Rattle.demand_test.specs.Verdicts.{verdict_of}
-use Rattle.slot_core.proofs.FeasibleLemmas.{failing_window-permutation, counterexample_in-permutation}
+use Rattle.slot_facts.proofs.Offline.Jobs.{cycle-positive}
+use Rattle.slot_facts.proofs.Demand.Feasible.{failing_window-permutation, counterexample_in-permutation}
 use Rattle.demand_test.proofs.CycleTotals.{window_demand-cycle}
+use Rattle.demand_test.proofs.Schedules.{MeansSchedules-from_verdict}
 use Rattle.demand_test.proofs.test.Goals as goal
 
 -- the whole cycle is no failing window
@@ -48,14 +50,27 @@ first_failing-requires-clause-ordered c =
     let sorted = IsNonDecreasingBy-from_sort_by_key (λ (j : Job). j.est) c.sort_unstable_by_key.new.self.items c.sort_unstable_by_key.ensures.sorted (λ a r q k. search rules) in
     rw c.as_slice.ensures.value sorted
 
-pub returns-in-Some : goal.returns-in-Some
-returns-in-Some c =
+-- the cycle of a set is not empty
+pub returns-then-cycle-eq0-clause-schedules : goal.returns-then-cycle-eq0-clause-schedules
+returns-then-cycle-eq0-clause-schedules c =
+    λ set these. absurd (omega (arith, c.if-cycle-eq0.true, these.whole, cycle-positive set these.sound))
+
+pub returns-in-Some-clause-verdict : goal.returns-in-Some-clause-verdict
+returns-in-Some-clause-verdict c =
     let same = in_order c.args.jobs.now c.in_ok-ordered.ordered.items c.sort_unstable_by_key.new.self.items c.as_slice.result.now c.in_ok-ordered.ensures.items c.sort_unstable_by_key.ensures.permutation c.as_slice.ensures.value in
     let is = counterexample-is c.args.jobs.now c.as_slice.result.now c.args.sporadics.now c.args.cycle c.in_ok-window.field-0 same c.requires.fits c.in_ok-window.ensures in
     ap verdict_of (sym c.in-Some.is ∙ is)
 
-pub returns : goal.returns
-returns c =
+pub returns-in-Some-clause-schedules : goal.returns-in-Some-clause-schedules
+returns-in-Some-clause-schedules c =
+    λ set these. MeansSchedules-from_verdict set c.args.jobs.now c.args.sporadics.now c.args.cycle _ these (returns-in-Some-clause-verdict c)
+
+pub returns-clause-verdict : goal.returns-clause-verdict
+returns-clause-verdict c =
     let same = in_order c.args.jobs.now c.in_ok-ordered.ordered.items c.sort_unstable_by_key.new.self.items c.as_slice.result.now c.in_ok-ordered.ensures.items c.sort_unstable_by_key.ensures.permutation c.as_slice.ensures.value in
     let is = counterexample-is c.args.jobs.now c.as_slice.result.now c.args.sporadics.now c.args.cycle c.in_ok-window.field-0 same c.requires.fits c.in_ok-window.ensures in
     ap verdict_of (sym c.in-None.is ∙ is)
+
+pub returns-clause-schedules : goal.returns-clause-schedules
+returns-clause-schedules c =
+    λ set these. MeansSchedules-from_verdict set c.args.jobs.now c.args.sporadics.now c.args.cycle _ these (returns-clause-verdict c)

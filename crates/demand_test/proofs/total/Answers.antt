@@ -6,8 +6,8 @@ use Rattle.slot_core.specs.Ranges.{graph_in_range}
 use Rattle.slot_core.specs.Sporadics.{sporadic_demand}
 use Rattle.demand_test.specs.Totals.{graph_work}
 use Rattle.demand_test.proofs.CycleTotals.{demand-cycle}
-use Rattle.slot_core.proofs.RangeFacts.{SetRanges-from_sound}
-use Rattle.demand_test.proofs.SoundSets.{graphs-from_sound, sporadic_demand-small}
+use Rattle.slot_facts.proofs.Sets.Ranges.{SetRanges-from_sound}
+use Rattle.slot_facts.proofs.Sets.Sizes.{graphs-from_sound, sporadic_demand-small}
 use Rattle.demand_test.proofs.total.Goals as goal
 
 -- a number below the limit is there

@@ -1,55 +1,87 @@
-use Rattle.std.proofs.Common.{Err, sym, ap, ◌∙◌}
+use Rattle.std.proofs.Common.{Some, Err, ap, ◌∙◌}
 use Rattle.std.proofs.lemmas.Option.{IfSome_then}
-use Rattle.slot_cli.proofs.StatusLemmas.{is_found, IfSome-from_each, unreadable-status, too_large-status, bad_tasks-status, infeasible-status, bad_arrivals-status, done-status, done-reported, reported_unreadable, due-reported}
+use Rattle.run_outcome.specs.declared.status.Status.{Status}
+use Rattle.run_outcome.specs.Refusals.{is_found}
+use Rattle.slot_cli.specs.Commands.{command_of}
+use Rattle.slot_cli.specs.Due.{expected}
+use Rattle.slot_cli.proofs.StatusLemmas.{status-tells, reported-due, reported-answers, reported-unreadable, IfSome-from_each}
 use Rattle.slot_cli.proofs.ServedRuns.{served-planned}
+use Rattle.slot_cli.proofs.VerdictLemmas.{cycles-planned, IsInfeasibleRun-expected}
 use Rattle.slot_cli.proofs.run.Goals as goal
 
-pub returns-clause-file_fault : goal.returns-clause-file_fault
-returns-clause-file_fault g c =
-    λ status.
-    let (file, is) = unreadable-status c.report.result (sym c.status.ensures ∙ status) in
-    let unread = reported_unreadable c.work-outcome.result c.report.result file is c.report.ensures.kept in
-    (c.work-outcome.ensures.blamed file unread).0
+pub returns-in-Ok-clause-done : goal.returns-in-Ok-clause-done
+returns-in-Ok-clause-done g c =
+    λ is. IfSome-from_each (g.F.Files.held c.args.files.now) _ (λ held told. let (text, due) = c.in-Ok.ensures.answers held told in (text, due, c.in-Ok.ensures.writes held told text due))
 
-pub returns-clause-done : goal.returns-clause-done
-returns-clause-done g c =
-    λ status.
-    let is = done-status c.report.result (sym c.status.ensures ∙ status) in
-    done-reported (g.F.Files.held c.args.files.now) c.args.words.now c.work-outcome.result c.report.result _ _ is c.report.ensures.kept c.work-outcome.ensures.ends
-
--- the outcome of such a status is the one that is due
-pub returns-clause-too_large : goal.returns-clause-too_large
-returns-clause-too_large g c =
-    λ status.
-    let (file, is) = too_large-status c.report.result (sym c.status.ensures ∙ status) in
-    let told = g.F.Files.held c.args.files.now in
-    let due = due-reported told c.args.words.now c.work-outcome.result c.report.result _ _ (ap is_found is) c.report.ensures.kept c.work-outcome.ensures.ends in
-    IfSome_then told due (λ held e. (file, e ∙ ap Err is))
-
-pub returns-clause-bad_tasks : goal.returns-clause-bad_tasks
-returns-clause-bad_tasks g c =
-    λ status.
-    let (fault, is) = bad_tasks-status c.report.result (sym c.status.ensures ∙ status) in
-    let told = g.F.Files.held c.args.files.now in
-    let due = due-reported told c.args.words.now c.work-outcome.result c.report.result _ _ (ap is_found is) c.report.ensures.kept c.work-outcome.ensures.ends in
-    IfSome_then told due (λ held e. (fault, e ∙ ap Err is))
-
-pub returns-clause-infeasible : goal.returns-clause-infeasible
-returns-clause-infeasible g c =
-    λ status.
-    let (window, is) = infeasible-status c.report.result (sym c.status.ensures ∙ status) in
-    let told = g.F.Files.held c.args.files.now in
-    let due = due-reported told c.args.words.now c.work-outcome.result c.report.result _ _ (ap is_found is) c.report.ensures.kept c.work-outcome.ensures.ends in
-    IfSome_then told due (λ held e. (window, e ∙ ap Err is))
-
-pub returns-clause-bad_arrivals : goal.returns-clause-bad_arrivals
-returns-clause-bad_arrivals g c =
-    λ status.
-    let is = bad_arrivals-status c.report.result (sym c.status.ensures ∙ status) in
-    let told = g.F.Files.held c.args.files.now in
-    let due = due-reported told c.args.words.now c.work-outcome.result c.report.result _ _ (ap is_found is) c.report.ensures.kept c.work-outcome.ensures.ends in
-    IfSome_then told due (λ held e. e ∙ ap Err is)
-
-pub returns-clause-served : goal.returns-clause-served
-returns-clause-served g c =
+pub returns-in-Ok-clause-served : goal.returns-in-Ok-clause-served
+returns-in-Ok-clause-served g c =
     IfSome-from_each (g.F.Files.held c.args.files.now) _ (λ held told. served-planned held c.args.words.now)
+
+pub returns-in-Err-clause-whole : goal.returns-in-Err-clause-whole
+returns-in-Err-clause-whole g c =
+    let held = g.F.Files.held c.args.files.now in
+    let work = c.in-Err.ensures in
+    record {
+      outcome = Err c.report.result;
+      has_status = c.status.ensures;
+      answers = IfSome-from_each held _ (λ files told. reported-answers (command_of c.args.words.now) (expected files c.args.words.now) c.in-Err.refusal c.report.result c.report.ensures.kept (work.answers files told));
+      written = IfSome-from_each held _ (λ files told. work.writes files told);
+      blames = λ file is. let (reads, rose, blamed) = work.blames file (ap Err (reported-unreadable c.in-Err.refusal c.report.result file c.report.ensures.kept is)) in (reads, blamed);
+      told = c.report.ensures.told;
+    }
+
+-- the refusal of such a status is the one that is due
+pub returns-in-Err-clause-too_large : goal.returns-in-Err-clause-too_large
+returns-in-Err-clause-too_large g c =
+    λ status.
+    let (file, is) = status-tells _ Status.TooLarge c.report.result c.status.ensures status in
+    let held = g.F.Files.held c.args.files.now in
+    let due = reported-due held (command_of c.args.words.now) (λ files. expected files c.args.words.now) c.in-Err.refusal c.report.result (ap is_found is) c.report.ensures.kept c.in-Err.ensures.answers in
+    IfSome_then held due (λ files e. (file, e ∙ ap Err is))
+
+pub returns-in-Err-clause-bad_tasks : goal.returns-in-Err-clause-bad_tasks
+returns-in-Err-clause-bad_tasks g c =
+    λ status.
+    let (fault, is) = status-tells _ Status.BadTasks c.report.result c.status.ensures status in
+    let held = g.F.Files.held c.args.files.now in
+    let due = reported-due held (command_of c.args.words.now) (λ files. expected files c.args.words.now) c.in-Err.refusal c.report.result (ap is_found is) c.report.ensures.kept c.in-Err.ensures.answers in
+    IfSome_then held due (λ files e. (fault, e ∙ ap Err is))
+
+pub returns-in-Err-clause-infeasible : goal.returns-in-Err-clause-infeasible
+returns-in-Err-clause-infeasible g c =
+    λ status.
+    let (window, is) = status-tells _ Status.Infeasible c.report.result c.status.ensures status in
+    let held = g.F.Files.held c.args.files.now in
+    let due = reported-due held (command_of c.args.words.now) (λ files. expected files c.args.words.now) c.in-Err.refusal c.report.result (ap is_found is) c.report.ensures.kept c.in-Err.ensures.answers in
+    IfSome_then held due (λ files e. (window, e ∙ ap Err is))
+
+pub returns-in-Err-clause-bad_arrivals : goal.returns-in-Err-clause-bad_arrivals
+returns-in-Err-clause-bad_arrivals g c =
+    λ status.
+    let is = status-tells _ Status.BadArrivals c.report.result c.status.ensures status in
+    let held = g.F.Files.held c.args.files.now in
+    let due = reported-due held (command_of c.args.words.now) (λ files. expected files c.args.words.now) c.in-Err.refusal c.report.result (ap is_found is) c.report.ensures.kept c.in-Err.ensures.answers in
+    IfSome_then held due (λ files e. e ∙ ap Err is)
+
+pub returns-in-Err-clause-served : goal.returns-in-Err-clause-served
+returns-in-Err-clause-served g c =
+    IfSome-from_each (g.F.Files.held c.args.files.now) _ (λ held told. served-planned held c.args.words.now)
+
+-- what the run says of the set means slot schedules
+pub returns-in-Ok-clause-verdict : goal.returns-in-Ok-clause-verdict
+returns-in-Ok-clause-verdict g c =
+    IfSome-from_each (g.F.Files.held c.args.files.now) _ (λ held told. record { fits = cycles-planned held c.args.words.now; fails = λ status. cc })
+
+pub returns-in-Err-clause-verdict : goal.returns-in-Err-clause-verdict
+returns-in-Err-clause-verdict g c =
+    let words = c.args.words.now in
+    IfSome-from_each
+    (g.F.Files.held c.args.files.now)
+    _
+    (λ held told. record {
+      fits = cycles-planned held words;
+      fails = λ status.
+          let (window, is) = status-tells _ Status.Infeasible c.report.result c.status.ensures status in
+          let due = reported-due (Some held) (command_of words) (λ files. expected files words) c.in-Err.refusal c.report.result (ap is_found is) c.report.ensures.kept (λ files same. c.in-Err.ensures.answers files (told ∙ same)) in
+          IsInfeasibleRun-expected words held _ _ _ _ window (due ∙ ap Err is) (rw is at c.report.ensures.told);
+    })

@@ -1,8 +1,8 @@
 -- What the ranges say of the sizes and of the lengths of the cycle.
 use Rattle.std.proofs.Common.{◌≤◌, length, sym, subst, arith}
-use Rattle.slot_core.proofs.RangeFacts.{few_sporadics}
+use Rattle.slot_facts.proofs.Sets.Ranges.{few_sporadics}
 use Rattle.graph_unroll.proofs.RangeLemmas.{lengths_in_range}
-use Rattle.source_check.specs.Verdicts.{AreFew}
+use Rattle.source_check.specs.Checks.{AreFew}
 use Rattle.source_check.proofs.RangeLemmas.{AreFew-from_range}
 use Rattle.source_check.proofs.check.Goals as goal
 

@@ -1,10 +1,10 @@
 use Rattle.toml.specs.View.{table_view}
-use Rattle.task_toml.proofs.ShapeRanges.{set_of-Ok}
+use Rattle.task_toml.proofs.ShapeRanges.{shaped_set-Ok}
 use Rattle.task_toml.proofs.read_tasks.Goals as goal
 
 pub check-requires : goal.check-requires
-check-requires c = set_of-Ok (table_view c.in_ok-document.document) c.in_ok-set.set c.in_ok-set.ensures
+check-requires c = shaped_set-Ok (table_view c.in_ok-document.document) c.in_ok-set.set c.in_ok-set.ensures
 
 pub returns-clause-sound : goal.returns-clause-sound
 returns-clause-sound c =
-    rw (set_of-Ok (table_view c.in_ok-document.document) c.in_ok-set.set c.in_ok-set.ensures, c.in_ok-check.ensures.ok)
+    rw (shaped_set-Ok (table_view c.in_ok-document.document) c.in_ok-set.set c.in_ok-set.ensures, c.in_ok-check.ensures.ok)

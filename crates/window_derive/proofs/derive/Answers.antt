@@ -1,9 +1,10 @@
 -- What soundness says of the graphs and the raw jobs, and the order of the sorted jobs.
 use Rattle.std.proofs.Common.{◌≡◌, true, List, get_or, map, ap, sym, ◌∙◌, subst, rules}
 use Rattle.std.proofs.lemmas.List.Elements.{Contains-get_or}
-use Rattle.slot_core.proofs.ListMembers.{Has, Has-from_Contains}
+use Rattle.slot_facts.proofs.Lists.Members.{Has, Has-from_Contains}
 use Rattle.window_derive.specs.GraphChains.{AreChainsOfGraphs, job_by}
-use Rattle.window_derive.proofs.SoundSets.{graphs_orderable, IsRawJob-from_cycle, HasChains-from_graphs, cycle_jobs-from_chains}
+use Rattle.window_derive.proofs.SoundSets.{graphs_orderable, HasChains-from_graphs, cycle_jobs-from_chains}
+use Rattle.slot_facts.proofs.Offline.RawJobs.{IsRawJob-from_cycle}
 use Rattle.slot_core.specs.declared.jobs.Job.{Job}
 use Rattle.slot_core.specs.declared.jobs.RawJob.{RawJob}
 use Rattle.slot_core.specs.declared.tasks.Graph.{Graph}
@@ -12,13 +13,14 @@ use Rattle.slot_core.specs.Cycles.{cycle_of}
 use Rattle.slot_core.specs.Ranges.{is_sound}
 use Rattle.window_derive.specs.declared.windows.Chains.{Chains}
 use Rattle.slot_core.specs.OfflineJobs.{raw_jobs, derived_job, cycle_jobs}
-use Rattle.slot_core.proofs.DistinctKeys.{IsApart, offline_jobs-apart}
+use Rattle.slot_facts.proofs.Offline.DistinctKeys.{IsApart, offline_jobs-apart}
 use Rattle.slot_core.specs.Keys.{deadline_order}
 use Rattle.std.specs.Ordering.{is_lt}
 use Rattle.std.proofs.lemmas.Cmp.{nat_list_cmp_total}
 use Rattle.std.proofs.lemmas.List.Sorted.{ranks_by, answers_always}
-use Rattle.slot_core.proofs.ChoiceLemmas.{job_cmp}
-use Rattle.window_derive.proofs.DeadlineOrder.{AreInDeadlineOrder-from_sorted}
+use Rattle.slot_facts.proofs.Choice.Earliest.{job_cmp}
+use Rattle.slot_facts.proofs.Plans.SortedJobs.{AreInDeadlineOrder-from_sorted}
+use Rattle.window_derive.proofs.PrecedenceLemmas.{KeepsPrecedence-from_cycle}
 use Rattle.window_derive.proofs.derive.Goals as goal
 
 -- the windows before the sort are those of the derived jobs
@@ -53,3 +55,10 @@ returns-clause-ordered c =
     let apart : IsApart key c.in_ok-jobs.jobs.items = subst (IsApart key) (sym listed) (offline_jobs-apart set cycle 1) in
     let up = c.sort_unstable_by.ensures.sorted (λ a b. is_lt (job_cmp a b)) (ranks_by nat_list_cmp_total deadline_order) (answers_always _ _ _ (λ f a r g h. search rules)) in
     AreInDeadlineOrder-from_sorted c.in_ok-jobs.jobs.items c.sort_unstable_by.new.self.items apart c.sort_unstable_by.ensures.permutation up
+
+pub returns-clause-precedence : goal.returns-clause-precedence
+returns-clause-precedence c =
+    let set = c.args.tasks.now in
+    let jobs = windows_derived set c.items.result.now c.in_ok-chains.chains.items c.as_slice.result.now c.args.raw.now c.in_ok-jobs.jobs.items c.requires.sound c.items.ensures c.in_ok-chains.ensures c.as_slice.ensures.value c.requires.unrolled c.in_ok-jobs.ensures in
+    let listed : c.in_ok-jobs.jobs.items ≡ cycle_jobs set (cycle_of set) 0 = jobs ∙ ap (map (derived_job set)) c.requires.unrolled in
+    KeepsPrecedence-from_cycle set c.sort_unstable_by.new.self.items c.requires.sound (rw (← listed) c.sort_unstable_by.ensures.permutation)

@@ -2,6 +2,7 @@
 use Rattle.std.proofs.Common.{◌≡◌, ◌+◌, ◌<◌, ◌≤◌, true, false, [], ◌∷◌, ◌++◌, replicate, length, length-set, refl, sym, ap, ◌∙◌, rules, arith}
 use Rattle.std.proofs.lemmas.List.{length_push}
 use Rattle.std.specs.Prelude.{is_some}
+use Rattle.slot_core.specs.declared.TheConstants.{TASK_LIMIT}
 use Rattle.window_derive.specs.Orders.{is_listed}
 use Rattle.window_derive.proofs.LoopLemmas.{unmarked}
 use Rattle.window_derive.proofs.OrderLemmas.{IsOrdered-nil, IsOrdered-push, IsNext-from_next_task, IsOrder-from_ordered, next_task-from_marks, loopless-from_order, marked-push}
@@ -11,7 +12,7 @@ use Rattle.window_derive.proofs.order.Goals as goal
 pub loop-place-init : goal.loop-place-init
 loop-place-init c = record {
   long = search rules;
-  marked = λ t. unmarked (replicate 32 false) t refl ∙ sym (ap (λ xs. is_listed xs t) c.new-order.ensures.items);
+  marked = λ t. unmarked (replicate TASK_LIMIT false) t refl ∙ sym (ap (λ xs. is_listed xs t) c.new-order.ensures.items);
   places = ap length c.new-order.ensures.items;
   ordered = rw c.new-order.ensures.items (IsOrdered-nil c.items-tasks.result.now);
 }
@@ -30,7 +31,7 @@ bounds-placed-from c =
     let order = c.loop-place.order.items in
     let same = next_task-from_marks tasks c.loop-place.placed order c.loop-place.invariant.marked in
     let next = IsNext-from_next_task tasks order c.in-Some.task (sym same ∙ sym c.in-Some.ensures) in
-    let count : length tasks ≤ 32 = rw c.items-tasks.ensures c.requires.count in
+    let count : length tasks ≤ TASK_LIMIT = rw c.items-tasks.ensures c.requires.count in
     omega arith
 
 pub loop-place-preserved : goal.loop-place-preserved
@@ -41,7 +42,7 @@ loop-place-preserved c =
     let same = next_task-from_marks tasks c.loop-place.placed order c.loop-place.invariant.marked in
     let now = sym same ∙ sym c.in-Some.ensures in
     let next = IsNext-from_next_task tasks order task now in
-    let count : length tasks ≤ 32 = rw c.items-tasks.ensures c.requires.count in
+    let count : length tasks ≤ TASK_LIMIT = rw c.items-tasks.ensures c.requires.count in
     let within : task < length c.loop-place.placed = omega (arith, c.loop-place.invariant.long, next.within) in
     let pushed : c.push.new.self.items ≡ order ++ task ∷ [] = c.in_ok-push.ensures.items in
     let marks = marked-push c.loop-place.placed order task within c.loop-place.invariant.marked in

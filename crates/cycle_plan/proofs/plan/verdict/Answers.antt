@@ -4,11 +4,12 @@ use Rattle.std.specs.Prelude.{IfOk}
 use Rattle.slot_core.specs.declared.tasks.Sporadic.{Sporadic}
 use Rattle.slot_core.specs.OfflineJobs.{cycle_jobs}
 use Rattle.slot_core.specs.Feasible.{window_demand, counterexample_in}
-use Rattle.slot_core.proofs.OfflineJobLemmas.{cycle-at_most}
+use Rattle.slot_facts.proofs.Offline.Jobs.{cycle-at_most}
 use Rattle.demand_test.specs.Verdicts.{verdict_of}
-use Rattle.slot_core.proofs.FeasibleLemmas.{counterexample_in-permutation}
-use Rattle.cycle_plan.proofs.PlanFacts.{all_due_by, window_demand-same}
-use Rattle.slot_core.proofs.SameItems.{same-from_permutation}
+use Rattle.slot_facts.proofs.Demand.Feasible.{counterexample_in-permutation}
+use Rattle.slot_facts.proofs.Offline.Cycles.{all_due_by}
+use Rattle.slot_facts.proofs.Plans.SpanSums.{window_demand-same}
+use Rattle.slot_facts.proofs.Lists.SameItems.{same-from_permutation}
 use Rattle.cycle_plan.proofs.plan.verdict.Goals as goal
 
 pub test-requires-clause-cycle : goal.test-requires-clause-cycle
@@ -32,4 +33,4 @@ returns c =
     let first = cycle_jobs c.args.tasks.now cycle 0 in
     let same = counterexample_in-permutation first c.args.jobs.now c.args.tasks.now.sporadics cycle c.requires.listed in
     let listed = ap (λ (ss : List Sporadic). counterexample_in c.args.jobs.now ss cycle) c.items.ensures in
-    subst (λ o. IfOk c.test.result (λ v. v ≡ verdict_of o)) (listed ∙ sym same) c.test.ensures
+    subst (λ o. IfOk c.test.result (λ v. v ≡ verdict_of o)) (listed ∙ sym same) c.test.ensures.verdict

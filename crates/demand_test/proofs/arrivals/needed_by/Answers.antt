@@ -5,7 +5,7 @@ use Rattle.std.proofs.lemmas.List.{take_all}
 use Rattle.std.proofs.lemmas.List.Sums.{sum_by_more, sum_by_more_le}
 use Rattle.slot_core.specs.declared.tasks.Sporadic.{Sporadic}
 use Rattle.slot_core.specs.Sporadics.{arrivals_due}
-use Rattle.demand_test.proofs.ArrivalCounts.{arrivals_due-le, sporadic_demand-sum_by}
+use Rattle.slot_facts.proofs.Demand.Arrivals.{arrivals_due-le, sporadic_demand-sum_by}
 use Rattle.demand_test.proofs.arrivals.needed_by.Goals as goal
 
 -- the slots that the arrivals of a task need by x

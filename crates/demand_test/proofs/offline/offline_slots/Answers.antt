@@ -3,24 +3,25 @@ use Rattle.std.specs.Prelude.{All, sum_by}
 use Rattle.std.proofs.Math.Nat.{div-le_self}
 use Rattle.std.proofs.lemmas.Nat.{mul-le}
 use Rattle.std.proofs.lemmas.List.Sums.{sum_by_more}
+use Rattle.slot_core.specs.declared.TheConstants.{SLOT_LIMIT, TASK_LIMIT}
 use Rattle.slot_core.specs.declared.tasks.Task.{Task}
 use Rattle.slot_core.specs.declared.tasks.Graph.{Graph}
 use Rattle.slot_core.specs.Ranges.{graph_in_range}
 use Rattle.demand_test.specs.Totals.{graph_work}
-use Rattle.demand_test.proofs.SoundSets.{graph_slots-le}
+use Rattle.slot_facts.proofs.Sets.Sizes.{graph_slots-le}
 use Rattle.demand_test.proofs.offline.offline_slots.Goals as goal
 
 -- the tasks of the graph that is read declare few slots
-few_slots : (graphs : List Graph) (i : ℕ) (graph : Graph) → All (λ g. graph_in_range g ≡ true) graphs → i < length graphs → graph ≡ get_or graphs i graph → sum_by (λ (t : Task). t.wcet) graph.tasks ≤ 2 ^ 17
+few_slots : (graphs : List Graph) (i : ℕ) (graph : Graph) → All (λ g. graph_in_range g ≡ true) graphs → i < length graphs → graph ≡ get_or graphs i graph → sum_by (λ (t : Task). t.wcet) graph.tasks ≤ TASK_LIMIT * SLOT_LIMIT
 few_slots graphs i graph all low is =
     graph_slots-le graph (ap graph_in_range is ∙ all i graph low)
 
 -- one cycle of the graph is little work
-little_work : (cycle : ℕ) (graph : Graph) → cycle < 2 ^ 32 → sum_by (λ (t : Task). t.wcet) graph.tasks ≤ 2 ^ 17 → graph_work cycle graph ≤ 2 ^ 49
+little_work : (cycle : ℕ) (graph : Graph) → cycle < 2 ^ 32 → sum_by (λ (t : Task). t.wcet) graph.tasks ≤ TASK_LIMIT * SLOT_LIMIT → graph_work cycle graph ≤ 2 ^ 32 * (TASK_LIMIT * SLOT_LIMIT)
 little_work cycle graph low few =
     omega (
       arith,
-      mul-le (cycle / graph.period) (sum_by (λ (t : Task). t.wcet) graph.tasks) (2 ^ 32) (2 ^ 17) (omega (arith, div-le_self cycle graph.period)) few,
+      mul-le (cycle / graph.period) (sum_by (λ (t : Task). t.wcet) graph.tasks) (2 ^ 32) (TASK_LIMIT * SLOT_LIMIT) (omega (arith, div-le_self cycle graph.period)) few,
     )
 
 -- the work of the graphs so far, and of the next

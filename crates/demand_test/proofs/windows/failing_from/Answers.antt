@@ -2,8 +2,8 @@ use Rattle.std.proofs.Common.{◌≡◌, ℕ, ◌+◌, ◌-◌, ◌<◌, ◌≤�
 use Rattle.std.specs.Prelude.{nat_lt}
 use Rattle.std.proofs.lemmas.Bool.{cases_eq, lt-ltb, le-ltb}
 use Rattle.std.proofs.lemmas.List.Sums.{sum_by_more, sum_by-take-le}
-use Rattle.demand_test.specs.Ends.{failing_in}
-use Rattle.slot_core.proofs.FirstSome.{first_some-found, first_some-from_none}
+use Rattle.demand_test.specs.EndTables.{failing_in}
+use Rattle.slot_facts.proofs.Lists.FirstSome.{first_some-found, first_some-from_none}
 use Rattle.demand_test.proofs.windows.failing_from.Goals as goal
 
 -- the window whose demand is more than its slots

@@ -1,5 +1,5 @@
 use Rattle.std.proofs.Common.{◌≡◌, ℕ, ◌<◌, take, sum, None}
-use Rattle.demand_test.specs.Ends.{failing_in}
+use Rattle.demand_test.specs.EndTables.{failing_in}
 use Rattle.demand_test.proofs.windows.failing_from.Given as goal
 
 abbrev pub invariant-loop-until : goal.invariant-loop-until

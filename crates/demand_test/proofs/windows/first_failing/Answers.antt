@@ -1,17 +1,18 @@
-use Rattle.std.proofs.Common.{◌≡◌, ℕ, ◌+◌, ◌-◌, ◌*◌, ◌<◌, true, false, List, [], ◌++◌, length, take, drop, get_or, sum, Option, Some, None, is_some, sym, ap, ◌∙◌, inl, inr, arith}
+use Rattle.std.proofs.Common.{◌≡◌, ℕ, ◌+◌, ◌-◌, ◌*◌, ◌<◌, true, false, List, [], ◌++◌, length, take, drop, get_or, sum, sum_by, if◌then◌else◌, ◌==◌, Option, Some, None, is_some, sym, ap, ◌∙◌, inl, inr, arith}
 use Rattle.std.specs.List.{range_with_len}
 use Rattle.std.proofs.lemmas.Bool.{cases_eq, false≢true}
 use Rattle.std.proofs.lemmas.List.{take_at}
 use Rattle.std.proofs.lemmas.List.FromFn.{length-map-range_with_len}
 use Rattle.std.proofs.lemmas.List.Sums.{sum_by-take-drop}
+use Rattle.slot_core.specs.declared.TheConstants.{SLOT_LIMIT}
 use Rattle.slot_core.specs.declared.jobs.Job.{Job}
 use Rattle.slot_core.specs.declared.jobs.Window.{Window}
 use Rattle.slot_core.specs.declared.tasks.Sporadic.{Sporadic}
 use Rattle.slot_core.specs.Sporadics.{sporadic_demand}
 use Rattle.slot_core.specs.Feasible.{first_some, first_failing_from}
-use Rattle.demand_test.specs.Ends.{ending_at, first_end, IsDue, failing_in}
-use Rattle.slot_core.proofs.FirstSome.{first_some-found, first_some-from_none}
-use Rattle.demand_test.proofs.WindowSums.{AreTables, first_failing_from-AreTables, sum-IsDue-le}
+use Rattle.demand_test.specs.EndTables.{ending_at, first_end, IsEndTable, failing_in}
+use Rattle.slot_facts.proofs.Lists.FirstSome.{first_some-found, first_some-from_none}
+use Rattle.demand_test.proofs.WindowSums.{AreTables, first_failing_from-AreTables, sum-IsEndTable-le, IsStart-next}
 use Rattle.demand_test.proofs.windows.first_failing.Goals as goal
 
 -- the first start from which a window fails
@@ -29,20 +30,22 @@ none_more f a None none is h k low =
       | inr other ↦ none k (omega arith)
     ]
 
--- the table after more jobs have left it
-IsDue-left : (jobs : List Job) (cycle m n : ℕ) (old new : List ℕ) → IsDue (drop m jobs) jobs cycle old → length new ≡ length old → ((b : ℕ) → get_or new b 0 + ending_at first_end (drop m jobs) b ≡ get_or old b 0 + ending_at first_end (drop n jobs) b) → IsDue (drop n jobs) jobs cycle new
-IsDue-left jobs cycle m n old new h same taken =
+-- the table after the jobs at the front of the rest are taken out
+IsEndTable-taken_out : (jobs rest started later : List Job) (cycle n : ℕ) (old new : List ℕ) → IsEndTable rest jobs cycle old → started ≡ take n rest → later ≡ drop n rest → length new ≡ length old → ((b : ℕ) → get_or new b 0 + ending_at first_end started b ≡ get_or old b 0) → IsEndTable later jobs cycle new
+IsEndTable-taken_out jobs rest started later cycle n old new h front back same taken =
     record {
       len = same ∙ h.len;
-      ends = λ b low. omega (arith, h.ends b low, taken b);
+      ends = λ b low.
+          let ends = λ (j : Job). if j.dl == b then j.declared else 0 in
+          omega (arith, h.ends b low, taken b, sum_by-take-drop ends rest n, ap (sum_by ends) front, ap (sum_by ends) back);
     }
 
 -- what the call found is what the definition has
-found-is : (jobs : List Job) (ss : List Sporadic) (cycle a n : ℕ) (due arrivals slice : List ℕ) (o : Option Window) → AreTables jobs ss cycle a n due arrivals → a < cycle → slice ≡ due → o ≡ first_some (failing_in slice arrivals a) (range_with_len (a + 1) (length slice - 1 - a)) → o ≡ first_failing_from jobs ss cycle a
-found-is jobs ss cycle a n due arrivals slice o h low same is =
+found-is : (jobs rest : List Job) (ss : List Sporadic) (cycle a : ℕ) (due arrivals slice : List ℕ) (o : Option Window) → AreTables jobs rest ss cycle a due arrivals → a < cycle → slice ≡ due → o ≡ first_some (failing_in slice arrivals a) (range_with_len (a + 1) (length slice - 1 - a)) → o ≡ first_failing_from jobs ss cycle a
+found-is jobs rest ss cycle a due arrivals slice o h low same is =
     is
     ∙ ap (λ xs. first_some (failing_in xs arrivals a) (range_with_len (a + 1) (length xs - 1 - a))) same
-    ∙ first_failing_from-AreTables jobs ss cycle a n due arrivals h low
+    ∙ first_failing_from-AreTables jobs rest ss cycle a due arrivals h low
 
 pub failing_from-failing-requires-clause-same : goal.failing_from-failing-requires-clause-same
 failing_from-failing-requires-clause-same c =
@@ -53,8 +56,11 @@ failing_from-failing-requires-clause-same c =
 pub failing_from-failing-requires-clause-few : goal.failing_from-failing-requires-clause-few
 failing_from-failing-requires-clause-few c =
     let jobs = c.args.jobs.now in
-    let left = sum_by-take-drop (λ (j : Job). j.declared) jobs c.loop-from.passed in
-    let most = sum-IsDue-le (drop c.loop-from.passed jobs) jobs c.args.cycle 4096 c.loop-from.due.items c.loop-from.invariant.ends (omega arith) (omega arith) in
+    let start = c.loop-from.invariant.start in
+    let declared = λ (j : Job). j.declared in
+    let left = sum_by-take-drop declared jobs start.started in
+    let same = ap (sum_by declared) start.rest_is in
+    let most = sum-IsEndTable-le c.loop-from.rest.now jobs c.args.cycle SLOT_LIMIT c.loop-from.due.items c.loop-from.invariant.ends (omega arith) (omega arith) in
     omega (arith, ap sum c.as_slice.ensures.value)
 
 pub returns-then-is_some : goal.returns-then-is_some
@@ -65,15 +71,17 @@ returns-then-is_some c =
     let a = c.loop-from.from in
     let o = c.failing_from-failing.result in
     let tables = c.loop-from.invariant in
-    let is = found-is jobs ss cycle a c.loop-from.passed c.loop-from.due.items c.items-arrivals.result.now c.as_slice.result.now o tables c.loop-from-test.true c.as_slice.ensures.value c.failing_from-failing.ensures in
+    let is = found-is jobs c.loop-from.rest.now ss cycle a c.loop-from.due.items c.items-arrivals.result.now c.as_slice.result.now o tables c.loop-from-test.true c.as_slice.ensures.value c.failing_from-failing.ensures in
     first_found (first_failing_from jobs ss cycle) cycle a o c.loop-from-test.true tables.none is (sym c.is_some.ensures ∙ c.if-is_some.true)
 
-pub leave-passed-requires-clause-counted : goal.leave-passed-requires-clause-counted
-leave-passed-requires-clause-counted c = λ b low.
+pub take_out-requires-clause-counted : goal.take_out-requires-clause-counted
+take_out-requires-clause-counted c = λ b low.
     let ends = c.loop-from.invariant.ends in
+    let at = λ (j : Job). if j.dl == b then j.declared else 0 in
     let len = ap length c.deref_mut.ensures.value in
     let same = ap (λ xs. get_or xs b 0) c.deref_mut.ensures.value in
-    omega (arith, ends.ends b (omega (arith, ends.len)))
+    let front = ap (sum_by at) c.split_at.ensures.front in
+    omega (arith, sum_by-take-drop at c.loop-from.rest.now c.count_started.result, ends.ends b (omega (arith, ends.len)))
 
 pub loop-from-preserved : goal.loop-from-preserved
 loop-from-preserved c =
@@ -84,16 +92,16 @@ loop-from-preserved c =
     let o = c.failing_from-failing.result in
     let tables = c.loop-from.invariant in
     let old = c.deref_mut.result.now in
-    let new = c.leave-passed.new.due in
-    let is = found-is jobs ss cycle a c.loop-from.passed c.loop-from.due.items c.items-arrivals.result.now c.as_slice.result.now o tables c.loop-from-test.true c.as_slice.ensures.value c.failing_from-failing.ensures in
-    let before : IsDue (drop c.loop-from.passed jobs) jobs cycle old = rw c.deref_mut.ensures.value tables.ends in
+    let new = c.take_out.new.due in
+    let is = found-is jobs c.loop-from.rest.now ss cycle a c.loop-from.due.items c.items-arrivals.result.now c.as_slice.result.now o tables c.loop-from-test.true c.as_slice.ensures.value c.failing_from-failing.ensures in
+    let before : IsEndTable c.loop-from.rest.now jobs cycle old = rw c.deref_mut.ensures.value tables.ends in
     let kept : length new ≡ length old = omega arith in
-    let after = IsDue-left jobs cycle c.loop-from.passed c.leave-passed.result old new before kept c.leave-passed.ensures.taken in
+    let after = IsEndTable-taken_out jobs c.loop-from.rest.now c.split_at.result.0.now c.split_at.result.1.now cycle c.count_started.result old new before c.split_at.ensures.front c.split_at.ensures.back kept c.take_out.ensures in
     let len : length new ≡ c.loop-from.due.len = omega (arith, c.deref_mut.ensures.len) in
     let written : take c.loop-from.due.len (new ++ drop (length new) c.loop-from.due.items) ≡ new = take_at new (drop (length new) c.loop-from.due.items) c.loop-from.due.len len in
     record {
       ends = rw written after;
-      start = c.leave-passed.ensures.start;
+      start = IsStart-next jobs c.loop-from.rest.now c.split_at.result.1.now a c.count_started.result c.requires.ordered tables.start c.count_started.ensures.count c.split_at.ensures.back;
       needs = tables.needs;
       none = none_more (first_failing_from jobs ss cycle) a o tables.none is (sym c.is_some.ensures ∙ c.if-is_some.false);
     }

@@ -1,16 +1,17 @@
-use Rattle.slot_core.specs.Reports.{check_line}
+use Rattle.std.proofs.lemmas.Result.{err_from_is_err_and}
+use Rattle.run_outcome.specs.declared.file.File.TheVariants.{Tasks}
 use Rattle.slot_cli.specs.declared.command.Command.TheVariants.{Check}
-use Rattle.slot_cli.specs.Runs.{text_of}
-use Rattle.slot_cli.proofs.EndLemmas.{Ends-planned, Ends-writing, text-checked}
+use Rattle.slot_cli.specs.Due.{planned_set}
+use Rattle.slot_cli.proofs.WorkLemmas.{work-refused, work-writing, way-planned, text-checked}
 use Rattle.slot_cli.proofs.work.check.Goals as goal
 
-pub returns-in-Ok-clause-ends : goal.returns-in-Ok-clause-ends
-returns-in-Ok-clause-ends g c =
-    λ held told.
+pub returns-in_err-plan : goal.returns-in_err-plan
+returns-in_err-plan g c =
     let words = c.args.words.now in
-    let set = c.in-Ok.plan.tasks in
-    Ends-writing Check (text_of held words Check) (check_line set) c.check_plan.result _ _ _ _ (text-checked held words set (c.in-Ok.ensures.due held told)) c.check_plan.ensures
+    let p = err_from_is_err_and c.from_residual.result c.from_residual.ensures.1 in
+    rw (p.1, p.2) (work-refused _ _ _ _ _ _ _ _ words Check Tasks (λ held. planned_set held words) c.in_err-plan.field-0.0 _ tt (λ held told. way-planned held words Check) c.in_err-plan.ensures.reading)
 
-pub returns-in-Err-clause-ends : goal.returns-in-Err-clause-ends
-returns-in-Err-clause-ends g c =
-    λ held told. Ends-planned held c.args.words.now Check c.in-Err.outcome _ c.in-Err.ensures.early (c.in-Err.ensures.due held told)
+pub returns : goal.returns
+returns g c =
+    let words = c.args.words.now in
+    work-writing _ _ _ _ _ _ _ _ _ words Check _ c.check_plan.result (λ held told. text-checked held words _ (c.in_ok-plan.ensures.reading.answers held told)) c.check_plan.ensures

@@ -1,7 +1,7 @@
 use Rattle.std.proofs.Common.{◌≡◌, length, ◌∙◌}
 use Rattle.std.proofs.lemmas.Result.{IfOk-weaker}
 use Rattle.slot_core.specs.Reports.{check_line, counts_line}
-use Rattle.slot_cli.proofs.Plannings.{check_line-from_plan}
+use Rattle.slot_cli.proofs.PlannedSets.{check_line-from_plan}
 use Rattle.slot_cli.proofs.work.check_line.Goals as goal
 
 pub returns : goal.returns

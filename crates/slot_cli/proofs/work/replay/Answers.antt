@@ -1,31 +1,28 @@
-use Rattle.std.proofs.Common.{[], ◌∙◌}
-use Rattle.slot_core.specs.Texts.{trace_text}
-use Rattle.slot_core.specs.Traces.{trace}
+use Rattle.std.proofs.Common.{◌∙◌}
+use Rattle.std.proofs.lemmas.Result.{err_from_is_err_and}
+use Rattle.run_outcome.specs.declared.file.File.TheVariants.{Tasks, Arrivals}
 use Rattle.slot_cli.specs.declared.command.Command.TheVariants.{Replay}
-use Rattle.slot_cli.specs.Runs.{text_of}
-use Rattle.slot_cli.proofs.EndLemmas.{Ends-planned, Ends-arrivals, Ends-writing, text-replayed, IsBlamed-since}
+use Rattle.slot_cli.specs.Due.{planned_set, arrivals_of}
+use Rattle.slot_cli.proofs.StepLemmas.{reading-since}
+use Rattle.slot_cli.proofs.WorkLemmas.{work-refused, work-writing, way-planned, way-arrivals, text-replayed}
 use Rattle.slot_cli.proofs.work.replay.Goals as goal
 
-pub returns-in-Err-clause-ends : goal.returns-in-Err-clause-ends
-returns-in-Err-clause-ends g c =
-    λ held told. Ends-planned held c.args.words.now (Replay c.args.slots) c.in-Err.outcome _ c.in-Err.ensures.early (c.in-Err.ensures.due held told)
-
-pub returns-in-Ok-read_arrivals-clause-ends : goal.returns-in-Ok-read_arrivals-clause-ends
-returns-in-Ok-read_arrivals-clause-ends g c =
-    λ held told.
+pub returns-in_err-plan : goal.returns-in_err-plan
+returns-in_err-plan g c =
     let words = c.args.words.now in
-    let set = c.in-Ok.plan.tasks in
-    let slots = c.args.slots in
-    let planned = c.in-Ok.ensures.due held told in
-    let arrivals = c.in-Ok-read_arrivals.ensures.due held (c.in-Ok.ensures.keeps ∙ told) in
-    Ends-writing (Replay slots) (text_of held words (Replay slots)) (trace_text set (trace set [] slots)) c.replay_plan.result _ _ _ _ (text-replayed held words slots set planned arrivals) c.replay_plan.ensures
+    let p = err_from_is_err_and c.from_residual.result c.from_residual.ensures.1 in
+    rw (p.1, p.2) (work-refused _ _ _ _ _ _ _ _ words (Replay c.args.slots) Tasks (λ held. planned_set held words) c.in_err-plan.field-0.0 _ tt (λ held told. way-planned held words (Replay c.args.slots)) c.in_err-plan.ensures.reading)
 
-pub returns-clause-ends : goal.returns-clause-ends
-returns-clause-ends g c =
-    λ held told.
-    let arrivals = c.in-Err-read_arrivals.ensures.due held (c.in-Ok.ensures.keeps ∙ told) in
-    Ends-arrivals held c.args.words.now c.args.slots c.in-Ok.plan.tasks c.in-Err-read_arrivals.outcome _ c.in-Err-read_arrivals.ensures.early (c.in-Ok.ensures.due held told) arrivals
+pub returns-in_err-read_arrivals : goal.returns-in_err-read_arrivals
+returns-in_err-read_arrivals g c =
+    let words = c.args.words.now in
+    let planned = c.in_ok-plan.ensures.reading in
+    let p = err_from_is_err_and c.from_residual-in_err-read_arrivals.result c.from_residual-in_err-read_arrivals.ensures.1 in
+    let since = reading-since _ _ _ _ _ _ _ _ (λ held. arrivals_of held words) _ _ planned.keeps planned.counts c.in_err-read_arrivals.ensures in
+    rw (p.1, p.2) (work-refused _ _ _ _ _ _ _ _ words (Replay c.args.slots) Arrivals (λ held. arrivals_of held words) c.in_err-read_arrivals.field-0.0 _ tt (λ held told. way-arrivals held words c.args.slots _ (planned.answers held told)) since)
 
-pub returns-clause-blamed : goal.returns-clause-blamed
-returns-clause-blamed g c =
-    IsBlamed-since c.args.words.now c.in-Err-read_arrivals.outcome _ _ _ _ c.in-Ok.ensures.blamed c.in-Err-read_arrivals.ensures.blamed
+pub returns : goal.returns
+returns g c =
+    let words = c.args.words.now in
+    let planned = c.in_ok-plan.ensures.reading in
+    work-writing _ _ _ _ _ _ _ _ _ words (Replay c.args.slots) _ c.replay_plan.result (λ held told. text-replayed held words c.args.slots _ (planned.answers held told) (c.in_ok-read_arrivals.ensures.answers held (planned.keeps ∙ told))) c.replay_plan.ensures

@@ -1,5 +1,5 @@
 -- Each entry names a task.
-use Rattle.slot_core.proofs.OfflineJobLemmas.{named-from_after_fault}
+use Rattle.slot_facts.proofs.Offline.Jobs.{named-from_after_fault}
 use Rattle.source_check.proofs.loops.check_graph_loops.Goals as goal
 
 pub order-requires-clause-named : goal.order-requires-clause-named

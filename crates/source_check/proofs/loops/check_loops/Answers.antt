@@ -2,7 +2,7 @@
 use Rattle.std.proofs.Common.{refl, arith}
 use Rattle.std.proofs.lemmas.Option.{slice_get_read}
 use Rattle.slot_core.specs.Faults.{after_fault}
-use Rattle.slot_core.proofs.FaultLemmas.{first_fault-None}
+use Rattle.slot_facts.proofs.Sets.Faults.{first_fault-None}
 use Rattle.source_check.proofs.loops.check_loops.Goals as goal
 
 pub check_graph_loops-requires-clause-named : goal.check_graph_loops-requires-clause-named

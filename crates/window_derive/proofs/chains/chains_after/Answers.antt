@@ -1,12 +1,13 @@
 -- The longest chains after one task more are counted.
 use Rattle.std.proofs.Common.{◌-◌, get_or, rules, arith}
+use Rattle.slot_core.specs.declared.TheConstants.{TASK_LIMIT}
 use Rattle.window_derive.proofs.ChainArrays.{place_within, longest_by-none, longest_by-small, longest_by-more, AreChainsAfter-from_all}
 use Rattle.window_derive.proofs.chains.chains_after.Goals as goal
 
 pub loop-place-init : goal.loop-place-init
 loop-place-init c = record {
   long = search rules;
-  raised = longest_by-none c.args.tasks.now c.args.order.now 32;
+  raised = longest_by-none c.args.tasks.now c.args.order.now TASK_LIMIT;
 }
 
 pub raise_predecessors-requires-clause-task : goal.raise_predecessors-requires-clause-task

@@ -1,12 +1,13 @@
 -- The longest chain before one task more.
 use Rattle.std.proofs.Common.{◌≤◌, length, length-set, ◌∙◌, rules, arith}
+use Rattle.slot_core.specs.declared.TheConstants.{TASK_LIMIT}
 use Rattle.window_derive.proofs.ChainArrays.{AreBefore-none, AreBefore-more, AreChainsBefore-from_all, place_within}
 use Rattle.window_derive.proofs.chains.chains_before.Goals as goal
 
 pub loop-task-init : goal.loop-task-init
 loop-task-init c = record {
   long = search rules;
-  so_far = AreBefore-none c.args.tasks.now 32;
+  so_far = AreBefore-none c.args.tasks.now TASK_LIMIT;
 }
 
 pub longest_before-requires-clause-task : goal.longest_before-requires-clause-task

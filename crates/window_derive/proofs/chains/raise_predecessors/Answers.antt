@@ -2,6 +2,7 @@
 use Rattle.std.proofs.Common.{◌≡◌, ◌+◌, ◌<◌, ◌==◌, max, cond, length, get_or, sym, ap, ◌∙◌}
 use Rattle.std.specs.Prelude.{slice_index}
 use Rattle.std.specs.List.{list_any}
+use Rattle.slot_core.specs.declared.TheConstants.{TASK_LIMIT}
 use Rattle.slot_core.specs.declared.tasks.Task.{Task}
 use Rattle.slot_core.specs.Precedence.{after_of, wcet_of, comes_after}
 use Rattle.window_derive.proofs.LoopLemmas.{after_of-at, wcet_of-at, entries_below}
@@ -11,7 +12,7 @@ pub raise-requires : goal.raise-requires
 raise-requires c =
     let tasks = c.args.tasks.now in
     let within : c.from-place.result < length tasks = rw c.from-place.ensures c.requires.task in
-    entries_below tasks c.from-place.result 32 c.items.result.now c.requires.orderable.named c.requires.orderable.count (c.items.ensures ∙ sym (after_of-at tasks c.from-place.result c.index-tasks-place-2.result within))
+    entries_below tasks c.from-place.result TASK_LIMIT c.items.result.now c.requires.orderable.named c.requires.orderable.count (c.items.ensures ∙ sym (after_of-at tasks c.from-place.result c.index-tasks-place-2.result within))
 
 pub returns : goal.returns
 returns c = λ t.

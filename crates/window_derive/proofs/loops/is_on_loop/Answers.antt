@@ -1,6 +1,7 @@
 -- One entry more.
 use Rattle.std.proofs.Common.{◌≡◌, ◌+◌, ◌-◌, true, false, replicate, length, length-set, refl, sym, ap, ◌∙◌, arith, rules}
 use Rattle.std.specs.List.{list_any, range_with_len}
+use Rattle.slot_core.specs.declared.TheConstants.{TASK_LIMIT}
 use Rattle.slot_core.specs.Precedence.{leads_to, is_on_loop}
 use Rattle.window_derive.proofs.LoopLemmas.{leads_more, leads_none, any_here, any_later}
 use Rattle.window_derive.proofs.loops.is_on_loop.Goals as goal
@@ -11,8 +12,8 @@ loop-entries-init c =
     let task = c.args.task in
     let whole : length tasks - 0 ≡ length tasks = omega arith in
     record {
-      long = length-set (replicate 32 false) task true;
-      leads = leads_none tasks (replicate 32 false) task refl (omega arith);
+      long = length-set (replicate TASK_LIMIT false) task true;
+      leads = leads_none tasks (replicate TASK_LIMIT false) task refl (omega arith);
       left = ap (λ n. list_any (λ k. leads_to tasks k task task) (range_with_len 1 n)) whole;
     }
 

@@ -2,6 +2,7 @@
 use Rattle.std.proofs.Common.{◌≡◌, ◌<◌, ◌≤◌, false, length, replicate, refl, sym, ap, ◌∙◌, arith, length-set, below_more, ⊎_elim}
 use Rattle.std.specs.List.{list_any}
 use Rattle.std.proofs.lemmas.Bool.{cases_lt}
+use Rattle.slot_core.specs.declared.TheConstants.{TASK_LIMIT}
 use Rattle.slot_core.specs.declared.tasks.Task.{Task}
 use Rattle.window_derive.specs.Marks.{is_marked}
 use Rattle.window_derive.proofs.LoopLemmas.{unmarked, marked_same, marked_other, after_of-at, after_of-past, entries_below}
@@ -11,14 +12,14 @@ pub loop-place-init : goal.loop-place-init
 loop-place-init c = record {
   long = refl;
   done = λ t h. absurd (omega arith);
-  left = λ t h. unmarked (replicate 32 false) t refl;
+  left = λ t h. unmarked (replicate TASK_LIMIT false) t refl;
 }
 
 pub leads_to_one-requires : goal.leads_to_one-requires
 leads_to_one-requires c =
     let tasks = c.args.tasks.now in
     let at = c.loop-place.place in
-    entries_below tasks at 32 c.items.result.now c.requires.named c.requires.count (c.items.ensures ∙ ap (λ (t : Task). t.after) c.index-tasks-place.is ∙ sym (after_of-at tasks at c.index-tasks-place.result c.loop-place-test.true))
+    entries_below tasks at TASK_LIMIT c.items.result.now c.requires.named c.requires.count (c.items.ensures ∙ ap (λ (t : Task). t.after) c.index-tasks-place.is ∙ sym (after_of-at tasks at c.index-tasks-place.result c.loop-place-test.true))
 
 pub loop-place-preserved : goal.loop-place-preserved
 loop-place-preserved c =

@@ -1,6 +1,7 @@
 -- The predecessors of a task are its entries.
 use Rattle.std.proofs.Common.{◌≡◌, ◌&&◌, true, not, sym, ap, ◌∙◌}
 use Rattle.std.specs.List.{list_all}
+use Rattle.slot_core.specs.declared.TheConstants.{TASK_LIMIT}
 use Rattle.slot_core.specs.Precedence.{predecessors}
 use Rattle.window_derive.specs.Marks.{is_marked}
 use Rattle.window_derive.proofs.LoopLemmas.{after_of-at, entries_below}
@@ -10,7 +11,7 @@ use Rattle.window_derive.proofs.places.is_next.Goals as goal
 pub are_placed-requires : goal.are_placed-requires
 are_placed-requires c =
     let tasks = c.args.tasks.now in
-    entries_below tasks c.args.task 32 c.items.result.now c.requires.named c.requires.count (c.items.ensures ∙ sym (after_of-at tasks c.args.task c.index-tasks-task.result c.requires.task))
+    entries_below tasks c.args.task TASK_LIMIT c.items.result.now c.requires.named c.requires.count (c.items.ensures ∙ sym (after_of-at tasks c.args.task c.index-tasks-task.result c.requires.task))
 
 pub returns-then-not-placed-task : goal.returns-then-not-placed-task
 returns-then-not-placed-task c =

@@ -1,5 +1,5 @@
 use Rattle.std.proofs.Common.{arith}
-use Rattle.plain_replay.proofs.PlanItems.{plan_cycle-bounds}
+use Rattle.slot_facts.proofs.Plans.Items.{plan_cycle-bounds}
 use Rattle.plain_replay.proofs.state.State.add_next_cycle.Goals as goal
 
 pub nonzero_rem-self-inside : goal.nonzero_rem-self-inside

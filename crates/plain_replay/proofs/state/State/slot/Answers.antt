@@ -23,20 +23,20 @@ pub tell-requires-clause-spans : goal.tell-requires-clause-spans
 tell-requires-clause-spans g c =
     let plan = c.args.plan.now in
     let after = c.in_ok-what.ensures in
-    HasSpans-current plan.tasks c.step.new.self (offline-from_plan plan c.tasks.ensures.plan c.requires.offline) after.current (omega (arith, after.time, c.requires.early))
+    HasSpans-current plan.tasks c.step.new.self (offline-from_plan plan c.tasks-tasks.ensures.plan c.requires.offline) after.current (omega (arith, after.time, c.requires.early))
 
 pub tell-requires-clause-named : goal.tell-requires-clause-named
 tell-requires-clause-named g c =
     let plan = c.args.plan.now in
-    let offline = offline-from_plan plan c.tasks.ensures.plan c.requires.offline in
+    let offline = offline-from_plan plan c.tasks-tasks.ensures.plan c.requires.offline in
     let after = c.in_ok-what.ensures in
-    ap (λ ts. what_in_set ts c.in_ok-what.what) c.tasks.ensures.tasks ∙ (ap (what_in_set plan.tasks) after.what ∙ entry_at-named plan.tasks c.args.self.now offline c.requires.current)
+    ap (λ ts. what_in_set ts c.in_ok-what.what) c.tasks-tasks.ensures.tasks ∙ (ap (what_in_set plan.tasks) after.what ∙ entry_at-named plan.tasks c.args.self.now offline c.requires.current)
 
 pub returns-clause-ok : goal.returns-clause-ok
 returns-clause-ok g c =
     let after = c.in_ok-what.ensures in
     let time = ap (λ (s : ReplayState). s.time) c.self.view_is in
-    let line = line_is c.args.plan.now c.tasks.result.now c.args.self.now c.step.new.self c.self.inside.time c.in_ok-what.what c.tasks.ensures.plan c.requires.offline c.tasks.ensures.tasks time after.current after.what after.time in
+    let line = line_is c.args.plan.now c.tasks-tasks.result.now c.args.self.now c.step.new.self c.self.inside.time c.in_ok-what.what c.tasks-tasks.ensures.plan c.requires.offline c.tasks-tasks.ensures.tasks time after.current after.what after.time in
     subst
     (λ bytes. OnOk c.tell.result (Appends (g.K.Sink.written c.args.out.now) (g.K.Sink.written c.tell.new.out) bytes))
     line
@@ -46,7 +46,7 @@ pub returns-clause-part : goal.returns-clause-part
 returns-clause-part g c =
     let after = c.in_ok-what.ensures in
     let time = ap (λ (s : ReplayState). s.time) c.self.view_is in
-    let line = line_is c.args.plan.now c.tasks.result.now c.args.self.now c.step.new.self c.self.inside.time c.in_ok-what.what c.tasks.ensures.plan c.requires.offline c.tasks.ensures.tasks time after.current after.what after.time in
+    let line = line_is c.args.plan.now c.tasks-tasks.result.now c.args.self.now c.step.new.self c.self.inside.time c.in_ok-what.what c.tasks-tasks.ensures.plan c.requires.offline c.tasks-tasks.ensures.tasks time after.current after.what after.time in
     subst
     (λ bytes. OnErr c.tell.result (AppendsPart (g.K.Sink.written c.args.out.now) (g.K.Sink.written c.tell.new.out) bytes))
     line

@@ -1,7 +1,0 @@
--- The slots so far.
-use Rattle.std.proofs.Common.{◌≡◌}
-use Rattle.std.specs.List.{range_with_len}
-use Rattle.cycle_plan.proofs.points.slots_before.Given as goal
-
-abbrev pub invariant-loop-slot : goal.invariant-loop-slot
-invariant-loop-slot l = l.slots.items ≡ range_with_len 0 l.slot

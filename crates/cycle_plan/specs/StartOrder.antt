@@ -1,0 +1,30 @@
+-- The order in which jobs come.
+use Rattle.std.specs.Prelude.{ℕ, ◌≤◌, List, [], ◌∷◌, IsPermutation, ⊤}
+use Rattle.std.specs.List.{AllByRecursion}
+use Rattle.std.specs.List.Sorted.{IsSortedByKey}
+use Rattle.std.specs.Ordering.{nat_cmp}
+use Rattle.std.specs.Cmp.Lexicographic.{slice_cmp}
+use Rattle.slot_core.specs.declared.jobs.Job.{Job}
+use Rattle.slot_core.specs.Keys.{deadline_order}
+use Rattle.slot_core.specs.Plans.{PlanParts, IsPlan}
+
+-- by start, then by deadline and key
+abbrev pub start_order : Job → List ℕ
+start_order job = job.est ∷ deadline_order job
+
+-- sorted so
+abbrev pub AreInStartOrder : List Job → Type 0
+AreInStartOrder jobs = IsSortedByKey start_order (slice_cmp nat_cmp) jobs
+
+-- no job starts before one that stands in front of it
+abbrev pub StartsRise : List Job → Type 0
+StartsRise [] = ⊤
+StartsRise (job ∷ jobs) =
+    AllByRecursion (λ (other : Job). job.est ≤ other.est) jobs
+    × StartsRise jobs
+
+-- a plan, and its jobs once more by start
+pub record KeepsPlan (plan : PlanParts) (by_start : List Job) : Type 0 where
+  pub is_plan : IsPlan plan
+  pub listed : IsPermutation plan.jobs by_start
+  pub ordered : AreInStartOrder by_start

@@ -1,0 +1,65 @@
+-- What the jobs of the first cycle of a feasible set keep.
+use Rattle.std.proofs.Common.{◌≡◌, ℕ, ◌+◌, ◌<◌, ◌≤◌, true, cond, List, [], length, arith}
+use Rattle.std.specs.Prelude.{All, Contains, sum_by, nat_le, ◌&&◌}
+use Rattle.std.specs.List.{range_with_len}
+use Rattle.std.proofs.lemmas.Bool.Decides.{nat_tests}
+use Rattle.std.proofs.lemmas.List.Elements.{All-from_recursion}
+use Rattle.std.proofs.lemmas.List.Sorted.{sum_by-IsPermutation}
+use Rattle.slot_core.specs.declared.TheConstants.{SLOT_LIMIT}
+use Rattle.slot_core.specs.declared.jobs.Job.{Job}
+use Rattle.slot_core.specs.declared.tasks.TaskSet.{TaskSet}
+use Rattle.slot_core.specs.Cycles.{cycle_of}
+use Rattle.slot_core.specs.Ranges.{is_sound}
+use Rattle.slot_core.specs.OfflineJobs.{cycle_jobs}
+use Rattle.slot_core.specs.Points.{plan_points}
+use Rattle.slot_core.specs.Feasible.{IsFeasible}
+use Rattle.slot_facts.proofs.Lists.Members.{Contains-from_Has, Has-filter, Has-range_with_len, AllByRecursion-from_Has}
+use Rattle.slot_facts.proofs.Lists.RangeFilters.{length-filter_range}
+use Rattle.slot_facts.proofs.Offline.LaterCycles.{cycle_jobs-later}
+use Rattle.slot_facts.proofs.Offline.Jobs.{cycle-positive, cycle-at_most}
+use Rattle.slot_facts.proofs.Plans.Points.{point-from_planned, Has-deadline}
+use Rattle.interval_build.specs.FirstJobs.{AreFirstJobs}
+use Rattle.interval_build.proofs.PlanSpans.{is_end_of, ends_of, in_cycle-from_first}
+
+-- each job starts before its deadline, which is in the cycle
+pub all_started : (set : TaskSet) (jobs : List Job) → AreFirstJobs set jobs → All (λ (j : Job). j.est < j.dl) jobs
+all_started set jobs these =
+    All-from_recursion (λ (j : Job). j.est < j.dl) jobs (AllByRecursion-from_Has (λ (j : Job). j.est < j.dl) jobs (λ j listed. (in_cycle-from_first set jobs these j listed).0))
+
+pub all_due : (set : TaskSet) (jobs : List Job) → AreFirstJobs set jobs → All (λ (j : Job). j.dl ≤ cycle_of set) jobs
+all_due set jobs these =
+    All-from_recursion (λ (j : Job). j.dl ≤ cycle_of set) jobs (AllByRecursion-from_Has (λ (j : Job). j.dl ≤ cycle_of set) jobs (λ j listed. (in_cycle-from_first set jobs these j listed).1))
+
+-- it is due at one of the points
+pub all_at_ends : (set : TaskSet) (jobs : List Job) → AreFirstJobs set jobs → All (λ (j : Job). Contains (ends_of set jobs) j.dl) jobs
+all_at_ends set jobs these =
+    let cycle = cycle_of set in
+    let P : Job → Type 0 = λ (j : Job). Contains (ends_of set jobs) j.dl in
+    All-from_recursion
+    P
+    jobs
+    (AllByRecursion-from_Has P jobs (λ j listed.
+    let within = in_cycle-from_first set jobs these j listed in
+    let passes = point-from_planned cycle (plan_points cycle jobs) [] j.dl (Has-deadline cycle jobs j listed) in
+    Contains-from_Has (ends_of set jobs) j.dl (Has-filter (is_end_of set jobs) (range_with_len 1 cycle) j.dl (Has-range_with_len 1 cycle j.dl (omega (arith, within.0)) (omega (arith, within.1))) passes)))
+
+-- there are at most as many points as slots
+pub few_ends : (set : TaskSet) (jobs : List Job) → AreFirstJobs set jobs → length (ends_of set jobs) ≤ SLOT_LIMIT
+few_ends set jobs these =
+    omega (arith, length-filter_range (is_end_of set jobs) 1 (cycle_of set), cycle-at_most set these.sound)
+
+-- the slots of the jobs of a cycle are at most those of the cycle
+counts_whole : (cycle est dl left declared : ℕ) → left ≡ declared → dl ≤ cycle → left ≤ cond (nat_le 0 (est + 0) && nat_le (dl + 0) cycle) declared 0
+counts_whole cycle est dl left declared e h = grind (arith, nat_tests)
+
+cycle_small : (set : TaskSet) (n : ℕ) → is_sound set ≡ true → IsFeasible set (cycle_of set) → sum_by (λ (j : Job). j.left) (cycle_jobs set (cycle_of set) n) ≤ cycle_of set
+cycle_small set n sound feasible =
+    let cycle = cycle_of set in
+    let positive = cycle-positive set sound in
+    let within = cycle_jobs-later set n (λ (j : Job). j.left) (λ (j : Job). cond (nat_le 0 (j.est + 0) && nat_le (j.dl + 0) cycle) j.declared 0) sound feasible (λ job other m. counts_whole cycle job.est job.dl other.left job.declared m.left m.within) in
+    omega (arith, within, feasible 0 cycle positive positive (omega arith))
+
+pub first_small : (set : TaskSet) (jobs : List Job) → AreFirstJobs set jobs → sum_by (λ (j : Job). j.left) jobs ≤ SLOT_LIMIT
+first_small set jobs these =
+    let left = λ (j : Job). j.left in
+    omega (arith, sum_by-IsPermutation left (cycle_jobs set (cycle_of set) 0) jobs these.listed, cycle_small set 0 these.sound these.feasible, cycle-at_most set these.sound)

@@ -1,0 +1,103 @@
+-- How a run comes out: done, or refused, with a status and the line that tells why.
+use Rattle.std.specs.Prelude.{ℕ, Bool, true, false, List, [], ◌∷◌, ◌++◌, Result, Ok, Err, codes, slice_get, unwrap_or}
+use Rattle.slot_core.specs.FaultTexts.{task_fault_text, infeasible_text}
+use Rattle.slot_core.specs.Texts.{worded}
+use Rattle.slot_core.specs.declared.faults.TaskFault.{TaskFault}
+use Rattle.slot_core.specs.declared.faults.TaskFault.TheVariants.{Memory as NoMemory}
+use Rattle.run_outcome.specs.declared.status.Status.{Status}
+use Rattle.run_outcome.specs.declared.file.File.{File}
+use Rattle.run_outcome.specs.declared.file.File.TheVariants.{Tasks, Arrivals}
+use Rattle.run_outcome.specs.declared.refusal.Refusal.{Refusal}
+use Rattle.run_outcome.specs.declared.refusal.Refusal.TheVariants.{Usage, Unreadable, TooLarge, BadTasks, Infeasible, BadArrivals, WriteFault, Memory}
+use Rattle.slot_core.specs.declared.TheConstants.{TASK_FILE_LIMIT, ARRIVALS_FILE_LIMIT}
+
+-- how a step of the work, or a whole run, comes out: a value, or the refusal that ends the run
+abbrev pub Outcome : Type 0 → Type 0
+Outcome X = Result X Refusal
+
+-- the word at this place, counted from 0
+abbrev pub word_at : List (List ℕ) → ℕ → List ℕ
+word_at words i = unwrap_or (slice_get words i) []
+
+-- the name of a file among the words, and the most bytes that it may have
+abbrev pub name_of : List (List ℕ) → File → List ℕ
+name_of words Tasks = word_at words 1
+name_of words Arrivals = word_at words 2
+
+abbrev pub limit_of : File → ℕ
+limit_of Tasks = TASK_FILE_LIMIT
+limit_of Arrivals = ARRIVALS_FILE_LIMIT
+
+-- the refusal of a fault of the task file
+abbrev pub refusal_of_fault : TaskFault → Refusal
+refusal_of_fault NoMemory = Memory
+refusal_of_fault fault = BadTasks fault
+
+-- the status of a refusal, and of a run
+abbrev pub refusal_status : Refusal → Status
+refusal_status Usage = Status.Usage
+refusal_status (Unreadable file) = Status.FileFault
+refusal_status (TooLarge file) = Status.TooLarge
+refusal_status (BadTasks fault) = Status.BadTasks
+refusal_status (Infeasible window) = Status.Infeasible
+refusal_status BadArrivals = Status.BadArrivals
+refusal_status WriteFault = Status.WriteFault
+refusal_status Memory = Status.Memory
+
+abbrev pub status_of : {X : Type 0} → Outcome X → Status
+status_of (Ok value) = Status.Done
+status_of (Err refusal) = refusal_status refusal
+
+-- why the run is refused, without the line feed
+abbrev pub reason_of : List (List ℕ) → Refusal → List ℕ
+reason_of words Usage =
+    codes "usage: slotshift check T, table T, show B, replay T A N, "
+    ++ codes "replay-table B A N, gantt T A N, selfrun N"
+reason_of words (Unreadable file) = codes "cannot read " ++ name_of words file
+reason_of words (TooLarge file) = codes "too large " ++ worded (name_of words file) (limit_of file)
+reason_of words (BadTasks fault) = codes "tasks " ++ task_fault_text fault
+reason_of words (Infeasible window) = infeasible_text window
+reason_of words BadArrivals = codes "arrivals too many"
+reason_of words WriteFault = codes "cannot write"
+reason_of words Memory = codes "out of memory"
+
+-- the same where the words are not known: a file is told by what it is
+abbrev pub file_text : File → List ℕ
+file_text Tasks = codes "task file"
+file_text Arrivals = codes "arrivals file"
+
+abbrev pub refusal_text : Refusal → List ℕ
+refusal_text (Unreadable file) = codes "cannot read " ++ file_text file
+refusal_text (TooLarge file) = codes "too large " ++ worded (file_text file) (limit_of file)
+refusal_text refusal = reason_of [] refusal
+
+-- the line of a refusal
+abbrev pub refusal_line : List (List ℕ) → Refusal → List ℕ
+refusal_line words refusal = reason_of words refusal ++ 10 ∷ []
+
+-- what is put on standard error: nothing where the run is done, else the line of its refusal
+abbrev pub fault_line : {X : Type 0} → List (List ℕ) → Outcome X → List ℕ
+fault_line words (Ok value) = []
+fault_line words (Err refusal) = refusal_line words refusal
+
+-- the refusal is found in the bytes of the files
+abbrev pub is_found : Refusal → Bool
+is_found (TooLarge file) = true
+is_found (BadTasks fault) = true
+is_found (Infeasible window) = true
+is_found BadArrivals = true
+is_found _ = false
+
+-- the refusal leaves the output as it was
+abbrev pub leaves_output : Refusal → Bool
+leaves_output WriteFault = false
+leaves_output Memory = false
+leaves_output _ = true
+
+-- the line of the refusal tells no value, so that it takes no memory
+abbrev pub has_fixed_line : Refusal → Bool
+has_fixed_line Usage = true
+has_fixed_line BadArrivals = true
+has_fixed_line WriteFault = true
+has_fixed_line Memory = true
+has_fixed_line _ = false

@@ -1,0 +1,17 @@
+-- The numbers of the statuses.
+use Rattle.std.specs.Prelude.{ℕ}
+use Rattle.run_outcome.specs.declared.status.Status.{Status}
+use Rattle.run_outcome.specs.declared.status.Status.TheVariants.{Done, Usage, FileFault, TooLarge, BadTasks, Infeasible, BadArrivals, WriteFault, Memory, BadTable}
+
+-- the exit status of the program
+abbrev pub exit_number : Status → ℕ
+exit_number Done = 0
+exit_number Usage = 1
+exit_number FileFault = 2
+exit_number TooLarge = 3
+exit_number BadTasks = 4
+exit_number Infeasible = 5
+exit_number BadArrivals = 6
+exit_number WriteFault = 7
+exit_number Memory = 8
+exit_number BadTable = 9

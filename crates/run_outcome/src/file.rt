@@ -1,0 +1,60 @@
+//! The files of the command line.
+
+ghost use Rattle.std.specs.Prelude.{◌≡◌, ◌≤◌};
+ghost use Rattle.run_outcome.specs.Refusals.{word_at, name_of, limit_of};
+
+use slot_core::{ARRIVALS_FILE_LIMIT, READ_LIMIT, TASK_FILE_LIMIT, Words};
+use std::fmt;
+
+/// A file of the command line.
+#[derive(Clone, Copy, PartialEq, Eq, Debug)]
+pub enum File {
+    /// The task file, the second word.
+    Tasks,
+    /// The arrivals file, the third word.
+    Arrivals,
+}
+
+impl fmt::Display for File {
+    ghost use Rattle.std.specs.Prelude.{Some};
+    ghost use Rattle.run_outcome.specs.Refusals.{file_text};
+
+    ghost output = { λ file. Some (file_text file) };
+
+    fn fmt<W: fmt::Write>(&self, f: &mut fmt::Formatter<W>) -> fmt::Result {
+        match self {
+            File::Tasks => write!(f, "task file"),
+            File::Arrivals => write!(f, "arrivals file"),
+        }
+    }
+}
+
+impl File {
+    /// The name of the file among the words, empty where there is no such word.
+    pub fn name(self, words: &Words) -> &str
+        ensures { result.now ≡ name_of words.now self }
+    {
+        match self {
+            File::Tasks => word_or_nothing(words, 1),
+            File::Arrivals => word_or_nothing(words, 2),
+        }
+    }
+
+    /// Most bytes of the file.
+    pub fn limit(self) -> usize
+        ensures limit { result ≡ limit_of self }
+        ensures small { result ≤ READ_LIMIT }
+    {
+        match self {
+            File::Tasks => TASK_FILE_LIMIT,
+            File::Arrivals => ARRIVALS_FILE_LIMIT,
+        }
+    }
+}
+
+/// The word at this place, counted from 0, or the empty word.
+fn word_or_nothing(words: &Words, i: usize) -> &str
+    ensures { result.now ≡ word_at words.now i }
+{
+    if i < words.len() { words.word(i) } else { "" }
+}

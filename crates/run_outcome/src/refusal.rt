@@ -1,0 +1,101 @@
+//! Every way in which a run ends that is not Done.
+
+ghost use Rattle.std.specs.Prelude.{◌≡◌};
+ghost use Rattle.run_outcome.specs.Refusals.{refusal_status, refusal_of_fault};
+ghost use Rattle.run_outcome.specs.declared.refusal.Refusal.TheVariants.{WriteFault as WriteRefusal, Memory as MemoryRefusal};
+
+use crate::{File, Status};
+use slot_core::{Failed, Memory, TaskFault, Window};
+use std::error::Error;
+use std::fmt;
+
+/// Why a run is not done, with the values that its line on standard error tells.
+#[derive(Clone, Copy, PartialEq, Eq, Debug)]
+pub enum Refusal {
+    /// The words are none of the forms.
+    Usage,
+    /// The file cannot be read.
+    Unreadable(File),
+    /// The file has more bytes than its limit.
+    TooLarge(File),
+    /// The bytes of the task file write no sound set.
+    BadTasks(TaskFault),
+    /// A window has more demand than slots.
+    Infeasible(Window),
+    /// The arrivals file has a byte.
+    BadArrivals,
+    /// The output takes no more.
+    WriteFault,
+    /// Memory ran out.
+    Memory,
+}
+
+impl Refusal {
+    /// The status of the run.
+    pub fn status(self) -> Status
+        ensures { result ≡ refusal_status self }
+    {
+        match self {
+            Refusal::Usage => Status::Usage,
+            Refusal::Unreadable(_) => Status::FileFault,
+            Refusal::TooLarge(_) => Status::TooLarge,
+            Refusal::BadTasks(_) => Status::BadTasks,
+            Refusal::Infeasible(_) => Status::Infeasible,
+            Refusal::BadArrivals => Status::BadArrivals,
+            Refusal::WriteFault => Status::WriteFault,
+            Refusal::Memory => Status::Memory,
+        }
+    }
+}
+
+impl fmt::Display for Refusal {
+    ghost use Rattle.std.specs.Prelude.{Some};
+    ghost use Rattle.run_outcome.specs.Refusals.{refusal_text};
+
+    ghost output = { λ refusal. Some (refusal_text refusal) };
+
+    fn fmt<W: fmt::Write>(&self, f: &mut fmt::Formatter<W>) -> fmt::Result {
+        match self {
+            Refusal::Usage => write!(
+                f,
+                "usage: slotshift check T, table T, show B, replay T A N, replay-table B A N, gantt T A N, selfrun N"
+            ),
+            Refusal::Unreadable(file) => write!(f, "cannot read {file}"),
+            Refusal::TooLarge(file) => write!(f, "too large {file} {}", file.limit()),
+            Refusal::BadTasks(fault) => write!(f, "tasks {fault}"),
+            Refusal::Infeasible(w) => write!(f, "infeasible {} {} {}", w.from, w.until, w.demand),
+            Refusal::BadArrivals => write!(f, "arrivals too many"),
+            Refusal::WriteFault => write!(f, "cannot write"),
+            Refusal::Memory => write!(f, "out of memory"),
+        }
+    }
+}
+
+impl Error for Refusal {}
+
+impl From<Memory> for Refusal {
+    ghost from_gives = { λ _ refusal. refusal ≡ MemoryRefusal };
+
+    fn from(_memory: Memory) -> Refusal {
+        Refusal::Memory
+    }
+}
+
+impl From<Failed> for Refusal {
+    ghost from_gives = { λ _ refusal. refusal ≡ WriteRefusal };
+
+    fn from(_failed: Failed) -> Refusal {
+        Refusal::WriteFault
+    }
+}
+
+impl From<TaskFault> for Refusal {
+    ghost from_gives = { λ fault refusal. refusal ≡ refusal_of_fault fault };
+
+    fn from(fault: TaskFault) -> Refusal {
+        match fault {
+            TaskFault::Memory => Refusal::Memory,
+            other => Refusal::BadTasks(other),
+        }
+    }
+}

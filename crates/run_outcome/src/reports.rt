@@ -1,0 +1,128 @@
+//! The line that tells why a run is refused.
+
+ghost use Rattle.std.specs.Prelude.{◌≡◌, ◌++◌, ℕ, List, false, IfOk, IfSome, OnOk, codes, is_some, string_bytes};
+ghost use Rattle.slot_core.specs.FaultTexts.{task_fault_text};
+ghost use Rattle.slot_core.specs.Texts.{worded};
+ghost use Rattle.run_outcome.specs.Refusals.{reason_of, refusal_line, has_fixed_line};
+ghost use Rattle.run_outcome.specs.Reports.{IsTold, IsReport};
+
+use crate::append::{push, push_window, push_worded};
+use crate::{OUT_OF_MEMORY, Refusal};
+use slot_core::{Memory, TaskFault, Words};
+use slot_io::Sink;
+use std::alloc::Global;
+
+/// Puts the line of the refusal on `err`, in one put, and answers why the run is refused: as it
+/// was, or for want of memory where there is none for the line. A failing put changes nothing of
+/// it.
+pub fn report<E: Sink>(alloc: Global, words: &Words, refusal: Refusal, err: &mut E) -> Refusal
+    ensures { IsReport words.now refusal result
+        (E.written err.old) (E.written err.new) (E.faults err.old) (E.faults err.new) }
+{
+    if let Some(line) = fixed_line(refusal) {
+        put_line(err, line);
+        return refusal;
+    }
+    match refusal_line(alloc, words, refusal) {
+        Ok(line) => {
+            put_line(err, line.as_slice());
+            refusal
+        }
+        Err(Memory) => {
+            put_line(err, OUT_OF_MEMORY);
+            Refusal::Memory
+        }
+    }
+}
+
+/// Puts the line. A failure is left to the sink's count of faults.
+fn put_line<E: Sink>(err: &mut E, line: &[u8])
+    ensures { IsTold line.now
+        (E.written err.old) (E.written err.new) (E.faults err.old) (E.faults err.new) }
+{
+    match err.put(line) {
+        Ok(()) | Err(_) => {}
+    }
+}
+
+/// The line of a refusal without values.
+fn fixed_line(refusal: Refusal) -> Option<&'static [u8]>
+    ensures line { IfSome result
+        (λ line. (words : List (List ℕ)) → line.now ≡ refusal_line words refusal) }
+    ensures none { has_fixed_line refusal ≡ is_some result }
+{
+    match refusal {
+        Refusal::Usage => Some(
+            b"usage: slotshift check T, table T, show B, replay T A N, replay-table B A N, gantt T A N, selfrun N\n",
+        ),
+        Refusal::BadArrivals => Some(b"arrivals too many\n"),
+        Refusal::WriteFault => Some(b"cannot write\n"),
+        Refusal::Memory => Some(OUT_OF_MEMORY),
+        _ => None,
+    }
+}
+
+/// The line of a refusal with values.
+fn refusal_line(alloc: Global, words: &Words, refusal: Refusal) -> Result<Vec<u8>, Memory>
+    requires { has_fixed_line refusal ≡ false }
+    ensures { IfOk result (λ line. line.items ≡ refusal_line words.now refusal) }
+{
+    let mut line = Vec::new(alloc);
+    push_reason(alloc, &mut line, words, refusal)?;
+    push(&mut line, b"\n")?;
+    Ok(line)
+}
+
+/// Appends the reason of a refusal with values.
+fn push_reason(
+    alloc: Global,
+    line: &mut Vec<u8>,
+    words: &Words,
+    refusal: Refusal,
+) -> Result<(), Memory>
+    requires { has_fixed_line refusal ≡ false }
+    ensures { OnOk result (line.new.items ≡ line.old.items ++ reason_of words.now refusal) }
+{
+    match refusal {
+        Refusal::Unreadable(file) => push_unreadable(line, file.name(words).as_bytes()),
+        Refusal::TooLarge(file) => push_too_large(line, file.name(words).as_bytes(), file.limit()),
+        Refusal::BadTasks(fault) => push_bad_tasks(alloc, line, fault),
+        Refusal::Infeasible(window) => push_window(line, window),
+        _ => Ok(()),
+    }
+}
+
+/// Appends that the file of this name cannot be read.
+fn push_unreadable(line: &mut Vec<u8>, name: &[u8]) -> Result<(), Memory>
+    ensures { OnOk result (line.new.items ≡ line.old.items ++ (codes "cannot read " ++ name.now)) }
+{
+    push(line, b"cannot read ")?;
+    push(line, name)
+}
+
+/// Appends that the file of this name has more bytes than its limit.
+fn push_too_large(line: &mut Vec<u8>, name: &[u8], limit: usize) -> Result<(), Memory>
+    ensures { OnOk result
+        (line.new.items ≡ line.old.items ++ (codes "too large " ++ worded name.now limit)) }
+{
+    push(line, b"too large ")?;
+    push_worded(line, name, limit as u64)
+}
+
+/// Appends what is wrong with the task file.
+fn push_bad_tasks(alloc: Global, line: &mut Vec<u8>, fault: TaskFault) -> Result<(), Memory>
+    ensures { OnOk result
+        (line.new.items ≡ line.old.items ++ (codes "tasks " ++ task_fault_text fault)) }
+{
+    let words = fault_words(alloc, fault)?;
+    push(line, b"tasks ")?;
+    push(line, words.as_bytes())
+}
+
+/// The words of a fault of a task file.
+fn fault_words(alloc: Global, fault: TaskFault) -> Result<String, Memory>
+    ensures { IfOk result (λ words. string_bytes words ≡ task_fault_text fault) }
+{
+    let words = format!(in alloc; "{fault}")?;
+    Ok(words)
+}

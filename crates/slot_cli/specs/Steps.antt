@@ -1,0 +1,82 @@
+-- What the steps of the work answer.
+use Rattle.std.specs.Prelude.{◌≡◌, ◌↔◌, ℕ, ◌⊎◌, true, List, Option, None, Some, Ok, Err, IfOk, IfErr, MatchResult}
+use Rattle.std.specs.Io.KnownBytes.{Appends}
+use Rattle.slot_core.specs.Counts.{Rose}
+use Rattle.slot_io.specs.Files.{Held}
+use Rattle.slot_io.specs.Sinks.{AppendsPart}
+use Rattle.run_outcome.specs.declared.file.File.{File}
+use Rattle.run_outcome.specs.declared.refusal.Refusal.{Refusal}
+use Rattle.run_outcome.specs.declared.refusal.Refusal.TheVariants.{Usage, Unreadable, WriteFault, Memory}
+use Rattle.run_outcome.specs.Refusals.{Outcome, name_of, is_found, leaves_output}
+use Rattle.slot_cli.specs.declared.command.Command.{Command}
+use Rattle.slot_cli.specs.Due.{due_of}
+use Rattle.slot_cli.specs.Runs.{Reads, IsAnswerTo, IsWritten}
+
+-- a step over bytes answers with what is due of them, as this view of its value, or with want of
+-- memory
+abbrev pub IsStep : {A X : Type 0} → Outcome X → Outcome A → (A → X) → Type 0
+IsStep due result view =
+    MatchResult result (λ a. due ≡ Ok (view a)) (λ e. (e ≡ Memory) ⊎ (due ≡ Err e))
+
+-- a step that reads this file may answer that it cannot be read, too
+abbrev pub IsFileStep : {A X : Type 0} → File → Outcome X → Outcome A → (A → X) → Type 0
+IsFileStep file due result view =
+    MatchResult result (λ a. due ≡ Ok (view a))
+    (λ e. (e ≡ Unreadable file) ⊎ ((e ≡ Memory) ⊎ (due ≡ Err e)))
+
+-- the refusal comes of reading this file: it cannot be read, or the bytes call for it, or memory
+-- ran out
+abbrev pub IsOfReading : File → Refusal → Type 0
+IsOfReading file e = (e ≡ Unreadable file) ⊎ ((e ≡ Memory) ⊎ (is_found e ≡ true))
+
+-- a step that reads one file, whose name is among the words, over files of which contracts see
+-- `held`, `faults` and `blamed`
+pub record IsReading {S A X : Type 0} (held : S → Option Held) (faults : S → ℕ)
+    (blamed : S → Option (List ℕ)) (before after : S) (words : List (List ℕ)) (file : File)
+    (due : Held → Outcome X) (result : Outcome A) (view : A → X) : Type 0 where
+  -- what it answers, where the files tell what they hold
+  pub answers : (files : Held) → held before ≡ Some files → IsFileStep file (due files) result view
+  -- what it refuses
+  pub refuses : IfErr result (IsOfReading file)
+  -- who is blamed: the file's name, for a fault that is counted
+  pub blames : result ≡ Err (Unreadable file)
+      → Rose (faults before) (faults after) × (blamed after ≡ Some (name_of words file))
+  -- what stays untouched: what the files hold, and the count where the step gives a value
+  pub keeps : held after ≡ held before
+  pub counts : IfOk result (λ _. faults after ≡ faults before)
+
+-- how the writing of a text ends: all of it is written, or a part where memory ran out or a fault
+-- is counted
+abbrev pub IsWriting : {X : Type 0} → List ℕ → Outcome X
+    → Option (List ℕ) → Option (List ℕ) → ℕ → ℕ → Type 0
+IsWriting text (Ok done) before after faults_before faults_after = Appends before after text
+IsWriting text (Err WriteFault) before after faults_before faults_after =
+    AppendsPart before after text × Rose faults_before faults_after
+IsWriting text (Err Memory) before after faults_before faults_after = AppendsPart before after text
+IsWriting text (Err _) before after faults_before faults_after = ⊥
+
+-- the work of a command, over files as above and an output of which contracts see `written` and
+-- `failed`
+pub record IsWork {S T X : Type 0} (held : S → Option Held) (faults : S → ℕ)
+    (blamed : S → Option (List ℕ)) (written : T → Option (List ℕ)) (failed : T → ℕ)
+    (files_before files_after : S) (out_before out_after : T) (words : List (List ℕ))
+    (command : Option Command) (result : Outcome X) : Type 0 where
+  -- what it answers
+  pub answers : (files : Held) → held files_before ≡ Some files
+      → IsAnswerTo command (due_of files words command) result
+  -- it is refused for its words exactly where they write no command
+  pub usage : (result ≡ Err Usage) ↔ (command ≡ None)
+  -- who is blamed: the name of a file that the command reads, for a fault that is counted
+  pub blames : (file : File) → result ≡ Err (Unreadable file)
+      → Reads command file × Rose (faults files_before) (faults files_after)
+      × (blamed files_after ≡ Some (name_of words file))
+  -- what is written
+  pub writes : (files : Held) → held files_before ≡ Some files → (text : List ℕ)
+      → due_of files words command ≡ Ok text
+      → IsWritten result text (written out_before) (written out_after)
+  -- a write that fails is counted
+  pub counts : result ≡ Err WriteFault → Rose (failed out_before) (failed out_after)
+  -- what stays untouched: the output on a refusal before the writing, and the files on one for the
+  -- words
+  pub output : IfErr result (λ e. leaves_output e ≡ true → out_after ≡ out_before)
+  pub files : result ≡ Err Usage → files_after ≡ files_before

@@ -1,0 +1,94 @@
+-- What may still come, and whether it can be served.
+use Rattle.std.specs.Prelude.{◌≡◌, ◌⊎◌, ℕ, ◌+◌, ◌*◌, ◌≤◌, List, [], ◌∷◌, ◌++◌}
+use Rattle.slot_core.specs.declared.jobs.Job.{Job}
+use Rattle.slot_core.specs.declared.jobs.Evidence.{Evidence}
+use Rattle.slot_core.specs.declared.tasks.Sporadic.{Sporadic}
+use Rattle.slot_core.specs.declared.tasks.TaskSet.{TaskSet}
+use Rattle.slot_core.specs.declared.events.Firm.{Firm as FirmAnswer}
+use Rattle.slot_core.specs.declared.events.Firm.TheVariants.{Accepted, NoRoom}
+use Rattle.slot_core.specs.declared.events.What.TheVariants.{Firm}
+use Rattle.slot_core.specs.Cycles.{cycle_of}
+use Rattle.slot_core.specs.OfflineJobs.{offline_jobs}
+use Rattle.slot_core.specs.Histories.{History, Follows, time_of, last_row, offered_job, sporadic_job}
+use Rattle.slot_core.specs.Scenes.{Scene, horizon, scene_of}
+use Rattle.slot_core.specs.Sporadics.{densest_pattern, IsLegalPattern}
+use Rattle.slot_core.specs.Schedules.{HasSchedule}
+
+-- the jobs of a pattern of arrivals, pairs of a sporadic task and a time, in rows from this one on
+abbrev pub pattern_jobs : List Sporadic → ℕ → List (ℕ × ℕ) → List Job
+pattern_jobs sporadics row [] = []
+pattern_jobs sporadics row (a ∷ pattern) =
+    sporadic_job sporadics a.0 row a.1 ∷ pattern_jobs sporadics (row + 1) pattern
+
+-- whatever legal pattern of arrivals follows, in rows from this one on, the jobs of the scene,
+-- those beside them and those of the pattern have a slot schedule up to `end`
+abbrev pub CanBeServedUntil : TaskSet → ℕ → Scene → ℕ → List Job → Type 0
+CanBeServedUntil set end scene row beside =
+    (pattern : List (ℕ × ℕ)) → IsLegalPattern set.sporadics scene.nexts scene.time pattern
+    → HasSchedule
+    set
+    (scene.jobs ++ beside ++ pattern_jobs set.sporadics row pattern)
+    scene.time
+    end
+
+-- the same up to the horizon
+abbrev pub CanBeServed : TaskSet → ℕ → Scene → ℕ → List Job → Type 0
+CanBeServed set cycle scene row beside =
+    CanBeServedUntil set (horizon cycle scene.time) scene row beside
+
+-- the remaining jobs of a history can be served, with an offer of so many slots within so many from
+-- now
+abbrev pub OfferCanBeServed : TaskSet → ℕ → History → ℕ → ℕ → Type 0
+OfferCanBeServed set cycle h slots within =
+    let row = last_row h + 1 in
+    CanBeServed
+    set
+    cycle
+    (scene_of set cycle h)
+    (row + 1)
+    (offered_job row (time_of h) slots within ∷ [])
+
+-- whatever legal pattern of arrivals comes from time 0 on, the offline jobs of so many cycles and
+-- the pattern's jobs have a slot schedule
+abbrev pub CyclesCanBeServed : TaskSet → ℕ → Type 0
+CyclesCanBeServed set cycles =
+    let cycle = cycle_of set in
+    (pattern : List (ℕ × ℕ)) → IsLegalPattern set.sporadics [] 0 pattern
+    → HasSchedule
+    set
+    (offline_jobs set cycle cycles ++ pattern_jobs set.sporadics 1 pattern)
+    0
+    (cycles * cycle)
+
+-- the densest arrivals from time r on, up to the end of three cycles
+abbrev pub densest_from : TaskSet → ℕ → List (ℕ × ℕ)
+densest_from set r = densest_pattern 0 set.sporadics [] r (3 * cycle_of set)
+
+-- they are a legal pattern, and leave the offline jobs of three cycles no slot schedule
+pub record DensestLeavesNone (set : TaskSet) (r : ℕ) : Type 0 where
+  pub legal : IsLegalPattern set.sporadics [] 0 (densest_from set r)
+  pub none :
+      ¬ (HasSchedule
+      set
+      (offline_jobs set (cycle_of set) 3 ++ pattern_jobs set.sporadics 1 (densest_from set r))
+      0
+      (3 * cycle_of set))
+
+-- the firm offers of a history are answered exactly
+pub record OffersAreExact (set : TaskSet) (cycle : ℕ) (h : History) : Type 0 where
+  -- each that was accepted could be served with the jobs that remained
+  pub accepted :
+      (row slots within : ℕ) (earlier : History)
+      → Follows h (Firm row slots within Accepted) earlier
+      → OfferCanBeServed set cycle earlier slots within
+  -- each that was refused for want of room could not
+  pub refused :
+      (row slots within : ℕ) (evidence : Evidence) (earlier : History)
+      → Follows h (Firm row slots within (NoRoom evidence)) earlier
+      → ¬ (OfferCanBeServed set cycle earlier slots within)
+  -- and one in reach, due later and at most a cycle ahead, was answered in one of these two ways
+  pub in_reach :
+      (row slots within : ℕ) (answer : FirmAnswer) (earlier : History)
+      → Follows h (Firm row slots within answer) earlier
+      → 1 ≤ within → within ≤ cycle
+      → (answer ≡ Accepted) ⊎ ((evidence : Evidence) × (answer ≡ NoRoom evidence))

@@ -1,0 +1,2 @@
+-- The jobs of a history that have not ended.
+pub mod Unended

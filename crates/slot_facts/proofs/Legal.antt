@@ -1,0 +1,19 @@
+-- Legal histories: what each keeps, and that it is served.
+pub mod Bounds
+pub mod Carried
+pub mod Cycles
+pub mod Data
+pub mod Executives
+pub mod Extended
+pub mod IdleSlots
+pub mod Jobs
+pub mod Kept
+pub mod Known
+pub mod Left
+pub mod NextArrivals
+pub mod Owned
+pub mod Rows
+pub mod Served
+pub mod SoftOrder
+pub mod Steps
+pub mod Traces

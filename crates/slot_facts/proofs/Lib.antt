@@ -1,0 +1,12 @@
+pub mod Bounds
+pub mod Choice
+pub mod Demand
+pub mod Histories
+pub mod Legal
+pub mod Lists
+pub mod Offers
+pub mod Offline
+pub mod Patterns
+pub mod Plans
+pub mod Scheduling
+pub mod Sets

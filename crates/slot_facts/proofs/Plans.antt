@@ -1,0 +1,12 @@
+-- The parts of a plan: its jobs in deadline order, its points and its spans.
+pub mod CycleEnds
+pub mod DeadlineOrder
+pub mod FirstSpans
+pub mod Horizons
+pub mod Items
+pub mod LaterPoints
+pub mod Points
+pub mod PointsInAnyOrder
+pub mod SetPoints
+pub mod SortedJobs
+pub mod SpanSums

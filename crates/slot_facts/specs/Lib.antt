@@ -1,0 +1,6 @@
+pub mod Bounds
+pub mod Offers
+pub mod Patterns
+pub mod Schedules
+pub mod Service
+pub mod Verdicts
