@@ -1,0 +1,138 @@
+-- What capacities decide where no sporadic task may come.
+use Rattle.std.proofs.Common.{◌≡◌, ℕ, ◌+◌, ◌-◌, ◌<◌, ◌≤◌, ℤ, pos, ◌+ℤ◌, ◌≤ℤ◌, Bool, true, false, List, [], ◌∷◌, length, Option, Some, None, refl, sym, ap, ◌∙◌, subst, inl, inr, arith}
+use Rattle.std.specs.Prelude.{find, not}
+use Rattle.std.specs.Int.{int_min}
+use Rattle.std.specs.Option.{is_none, is_some, option_map, option_map_or}
+use Rattle.std.specs.List.{list_all, range_with_len}
+use Rattle.std.proofs.lemmas.Bool.{cases_Bool, cases_lt, le-ltb, ltb-false}
+use Rattle.std.proofs.lemmas.Int.{ints, clamps}
+use Rattle.slot_core.specs.declared.jobs.Evidence.{Evidence}
+use Rattle.slot_core.specs.declared.jobs.Span.{Span}
+use Rattle.slot_core.specs.Sporadics.{sporadic_demand}
+use Rattle.slot_facts.proofs.Sets.Faults.{None-from_is_none}
+use Rattle.spare_capacity.specs.Recurrence.{filled, first_spare, last_end, FollowOn}
+use Rattle.spare_capacity.specs.Available.{available}
+use Rattle.spare_capacity.proofs.Free.{free, free-ended, free-holds, rest-filled}
+use Rattle.spare_capacity.proofs.Slack.{slack, free-least, free-start, IsLeastFrom}
+use Rattle.interval_row.specs.Tables.{AreProper}
+use Rattle.sporadic_reserve.specs.Reserves.{Reserved}
+use Rattle.guarantee.specs.declared.Answer.TheVariants.{Accept, Refuse}
+use Rattle.guarantee.specs.Offers.{answer_to, evidence_at, first_short, is_short, need_until, soft_fits}
+use Rattle.guarantee.proofs.Capacities.{available-is}
+use Rattle.guarantee.proofs.Searches.{fails-from_none, find-none}
+
+-- without sporadic tasks a time is short exactly where the slack is below the slots
+fits-slack : (spans : List Span) (reserve : Reserved) (t r slots x : ℕ) → reserve.sporadics ≡ [] → pos slots ≤ℤ slack t spans x → is_short spans reserve t r slots x ≡ false
+fits-slack spans reserve t r slots x none fits =
+    let nothing : sporadic_demand reserve.sporadics reserve.nexts r x ≡ 0 = rw none refl in
+    le-ltb (x - t) (slots + need_until spans reserve r x) (omega (arith, ints))
+
+short-slack : (spans : List Span) (reserve : Reserved) (t r slots x : ℕ) → reserve.sporadics ≡ [] → is_short spans reserve t r slots x ≡ false → pos slots ≤ℤ slack t spans x
+short-slack spans reserve t r slots x none fits =
+    let nothing : sporadic_demand reserve.sporadics reserve.nexts r x ≡ 0 = rw none refl in
+    let room : slots + need_until spans reserve r x ≤ x - t = ltb-false (x - t) (slots + need_until spans reserve r x) fits in
+    omega (arith, ints)
+
+-- so none is short exactly where the least slack is not
+none_short : (spans : List Span) (reserve : Reserved) (t r slots from : ℕ) (least : ℤ) → reserve.sporadics ≡ [] → IsLeastFrom t spans from least → pos slots ≤ℤ least → first_short spans reserve t r slots from ≡ None
+none_short spans reserve t r slots from least none slackest fits =
+    find-none (is_short spans reserve t r slots) from (last_end t spans + 1) (λ x low high.
+    let within : x ≤ last_end t spans = omega arith in
+    let enough = slackest.bound x low within in
+    fits-slack spans reserve t r slots x none (omega (arith, ints)))
+
+least_fits : (spans : List Span) (reserve : Reserved) (t r slots from : ℕ) (least : ℤ) → reserve.sporadics ≡ [] → IsLeastFrom t spans from least → first_short spans reserve t r slots from ≡ None → pos slots ≤ℤ least
+least_fits spans reserve t r slots from least none slackest found =
+    let (x, low, high, is) = slackest.reached in
+    let fails = fails-from_none (is_short spans reserve t r slots) from (last_end t spans + 1 - from) found x low (omega arith) in
+    let enough = short-slack spans reserve t r slots x none fails in
+    omega (arith, ints)
+
+-- the least slack from a deadline is what is free, where the first capacity is not below 0
+least-free : (spans : List Span) (t dl : ℕ) → FollowOn t spans → spans ≡ filled spans → pos 0 ≤ℤ first_spare spans → t < dl → dl ≤ last_end t spans → IsLeastFrom t spans dl (free dl spans)
+least-free spans t dl follow full first after within =
+    let all : int_min (pos 0) (first_spare spans) +ℤ free dl spans ≡ free dl spans = omega (arith, ints, clamps) in
+    subst (IsLeastFrom t spans dl) all (free-least t spans dl follow full (omega arith) within)
+
+-- an offer within what is free is accepted
+pub accepted-free : (spans : List Span) (reserve : Reserved) (t dl slots free_slots : ℕ) → FollowOn t spans → spans ≡ filled spans → 1 ≤ length spans → pos 0 ≤ℤ first_spare spans → t < dl → dl ≤ last_end t spans → reserve.sporadics ≡ [] → pos free_slots ≡ available spans dl → slots ≤ free_slots → Accept ≡ answer_to spans reserve t slots dl
+accepted-free spans reserve t dl slots free_slots follow full some first after within none is fits =
+    let all = available-is spans t dl follow some first after in
+    let least = least-free spans t dl follow full first after within in
+    let found = none_short spans reserve t t slots dl (free dl spans) none least (omega (arith, ints)) in
+    rw found refl
+
+-- and one that is accepted is within it
+pub free-accepted : (spans : List Span) (reserve : Reserved) (t dl slots free_slots : ℕ) → FollowOn t spans → spans ≡ filled spans → 1 ≤ length spans → pos 0 ≤ℤ first_spare spans → t < dl → dl ≤ last_end t spans → reserve.sporadics ≡ [] → pos free_slots ≡ available spans dl → answer_to spans reserve t slots dl ≡ Accept → slots ≤ free_slots
+free-accepted spans reserve t dl slots free_slots follow full some first after within none is accepted =
+    let all = available-is spans t dl follow some first after in
+    let least = least-free spans t dl follow full first after within in
+    let fits = least_fits spans reserve t t slots dl (free dl spans) none least (found (first_short spans reserve t t slots dl) accepted) in
+    omega (arith, ints)
+  where
+    found : (o : Option ℕ) → option_map_or (λ x. Refuse (evidence_at spans reserve t t slots x)) o Accept ≡ Accept → o ≡ None
+    found None is = refl
+    found (Some x) is = absurd (cc is)
+
+-- soft work fits exactly where no time is short with one slot more
+not-found : (p : ℕ → Bool) (xs : List ℕ) → list_all (λ x. not (p x)) xs ≡ is_none (find p xs)
+not-found p [] = refl
+not-found p (x ∷ xs) =
+    elim (cases_Bool (p x)) [
+      | inl passes ↦ rw passes refl
+      | inr fails ↦ rw fails (not-found p xs)
+    ]
+
+pub soft_fits-none : (spans : List Span) (reserve : Reserved) (t : ℕ) → soft_fits spans reserve t ≡ is_none (first_short spans reserve t (t + 1) 1 (t + 1))
+soft_fits-none spans reserve t =
+    let same : last_end t spans - t ≡ last_end t spans + 1 - (t + 1) = omega arith in
+    not-found (is_short spans reserve t (t + 1) 1) (range_with_len (t + 1) (last_end t spans - t))
+    ∙ ap (λ n. is_none (find (is_short spans reserve t (t + 1) 1) (range_with_len (t + 1) n))) same
+
+-- the least slack after this slot, where a slot of the first span is left
+slack-next : (t : ℕ) (spans : List Span) → FollowOn t spans → AreProper spans → spans ≡ filled spans → 1 ≤ length spans → ((pos 1 ≤ℤ first_spare spans) → (pos 1 ≤ℤ (int_min (pos 0) (first_spare spans) +ℤ free (t + 1) spans))) × ((pos 1 ≤ℤ (int_min (pos 0) (first_spare spans) +ℤ free (t + 1) spans)) → (pos 1 ≤ℤ first_spare spans))
+slack-next t [] follow proper full some = absurd (omega arith)
+slack-next t (s ∷ ss) follow proper full some =
+    let at : s.start ≡ t = follow.0 in
+    elim (cases_lt (t + 1) s.end) [
+      | inl holds ↦
+          let is = free-holds (t + 1) s ss holds in
+          (λ h. omega (arith, ints, clamps), λ h. omega (arith, ints, clamps))
+      | inr ends ↦
+          let is = free-ended (t + 1) s ss ends in
+          let here : s.end ≡ t + 1 = omega (arith, proper.0) in
+          let rest = subst (λ n. free n ss ≡ pos 0) here (free-start s.end ss follow.4 (rest-filled s ss full)) in
+          (λ h. omega (arith, ints, clamps), λ h. omega (arith, ints, clamps))
+    ]
+
+-- without sporadic tasks it fits exactly where the first span has a slot to spare
+pub spare-fits : (t : ℕ) (spans : List Span) (reserve : Reserved) → FollowOn t spans → AreProper spans → spans ≡ filled spans → 1 ≤ length spans → t < last_end t spans → reserve.sporadics ≡ [] → pos 1 ≤ℤ first_spare spans → soft_fits spans reserve t ≡ true
+spare-fits t spans reserve follow proper full some after none spare =
+    let least = free-least t spans (t + 1) follow full (omega arith) (omega arith) in
+    let found = none_short spans reserve t (t + 1) 1 (t + 1) _ none least ((slack-next t spans follow proper full some).0 spare) in
+    soft_fits-none spans reserve t ∙ ap is_none found
+
+pub fits-spare : (t : ℕ) (spans : List Span) (reserve : Reserved) → FollowOn t spans → AreProper spans → spans ≡ filled spans → 1 ≤ length spans → t < last_end t spans → reserve.sporadics ≡ [] → soft_fits spans reserve t ≡ true → pos 1 ≤ℤ first_spare spans
+fits-spare t spans reserve follow proper full some after none fits =
+    let least = free-least t spans (t + 1) follow full (omega arith) (omega arith) in
+    let found = None-from_is_none (first_short spans reserve t (t + 1) 1 (t + 1)) (sym (soft_fits-none spans reserve t) ∙ fits) in
+    (slack-next t spans follow proper full some).1 (least_fits spans reserve t (t + 1) 1 (t + 1) _ none least found)
+
+-- and so does the search tell it
+is_none-map : {X Y : Type 0} (f : X → Y) (o : Option X) → is_none (option_map f o) ≡ is_none o
+is_none-map f None = refl
+is_none-map f (Some x) = refl
+
+is_none-flipped : {X : Type 0} (o : Option X) (b : Bool) → is_some o ≡ not b → b ≡ is_none o
+is_none-flipped None true is = refl
+is_none-flipped None false is = cc is
+is_none-flipped (Some x) true is = cc is
+is_none-flipped (Some x) false is = refl
+
+pub searched-fits : (spans : List Span) (reserve : Reserved) (t now : ℕ) (found : Option Evidence) (none : Bool) → now ≡ t → found ≡ option_map (evidence_at spans reserve t (now + 1) 1) (first_short spans reserve t (now + 1) 1 (now + 1)) → is_some found ≡ not none → none ≡ soft_fits spans reserve t
+searched-fits spans reserve t now found none is searched told =
+    let here = rw is at searched in
+    is_none-flipped found none told
+    ∙ ap is_none here
+    ∙ is_none-map (evidence_at spans reserve t (t + 1) 1) (first_short spans reserve t (t + 1) 1 (t + 1))
+    ∙ sym (soft_fits-none spans reserve t)

@@ -1,0 +1,138 @@
+-- Spans by their places: where each starts, and the works before it.
+use Rattle.std.proofs.Common.{◌≡◌, ℕ, zero, suc, ◌+◌, ◌-◌, ◌*◌, ◌^◌, ◌<◌, ◌≤◌, pos, ◌+ℤ◌, ◌-ℤ◌, ◌≤ℤ◌, List, [], ◌∷◌, take, Some, refl, sym, ap, ◌∙◌, arith}
+use Rattle.std.specs.Prelude.{slice_get, sum_by}
+use Rattle.std.proofs.lemmas.Int.{ints, clamps}
+use Rattle.std.proofs.lemmas.List.Sums.{sum_by-cons}
+use Rattle.slot_core.specs.declared.jobs.Span.{Span}
+use Rattle.spare_capacity.specs.Recurrence.{filled, last_end, FollowOn}
+use Rattle.spare_capacity.specs.Laws.{work_until}
+use Rattle.spare_capacity.proofs.Free.{free-ended, rest-filled, spare-filled}
+use Rattle.spare_capacity.proofs.Slack.{free-least, free-start, last_end-above, slack, slack-ended, work_until-ended, work_until-running, work_until-before}
+
+-- the works of spans
+abbrev pub works : List Span → ℕ
+works spans = sum_by (λ (s : Span). s.work) spans
+
+-- a span starts where the one before it ends
+pub start-at : (t i : ℕ) (spans : List Span) (s : Span) → FollowOn t spans → slice_get spans i ≡ Some s → s.start ≡ last_end t (take i spans)
+start-at t i [] s follow at = absurd (cc at)
+start-at t zero (r ∷ spans) s follow at =
+    let same : r ≡ s = cc at in
+    sym (ap (λ (q : Span). q.start) same) ∙ follow.0
+start-at t (suc i) (r ∷ spans) s follow at = start-at r.end i spans s follow.4 at
+
+-- the spans up to a place end there
+pub end-after : (t i : ℕ) (spans : List Span) (s : Span) → slice_get spans i ≡ Some s → last_end t (take (i + 1) spans) ≡ s.end
+end-after t i [] s at = absurd (cc at)
+end-after t zero (r ∷ spans) s at = let same : r ≡ s = cc at in ap (λ (q : Span). q.end) same
+end-after t (suc i) (r ∷ spans) s at =
+    let more : suc i + 1 ≡ suc (i + 1) = omega arith in
+    ap (λ n. last_end t (take n (r ∷ spans))) more ∙ end-after r.end i spans s at
+
+-- their works, with one span more
+pub works-more : (i : ℕ) (spans : List Span) (s : Span) → slice_get spans i ≡ Some s → works (take (i + 1) spans) ≡ works (take i spans) + s.work
+works-more i [] s at = absurd (cc at)
+works-more zero (r ∷ spans) s at =
+    let here : r ≡ s = cc at in
+    let same : r.work ≡ s.work = ap (λ (q : Span). q.work) here in
+    omega (arith, sum_by-cons (λ (q : Span). q.work) r [])
+works-more (suc i) (r ∷ spans) s at =
+    let more : suc i + 1 ≡ suc (i + 1) = omega arith in
+    ap (λ n. works (take n (r ∷ spans))) more
+    ∙ omega (
+      arith,
+      works-more i spans s at,
+      sum_by-cons (λ (q : Span). q.work) r (take (i + 1) spans),
+      sum_by-cons (λ (q : Span). q.work) r (take i spans),
+    )
+
+-- a span is rising, with a work of at most 2 ^ 40, after the time and by the last end
+pub record Stands (t : ℕ) (spans : List Span) (s : Span) : Type 0 where
+  pub after : t ≤ s.start
+  pub rising : s.start ≤ s.end
+  pub work : s.work ≤ 2 ^ 40
+  pub within : s.end ≤ last_end t spans
+
+pub Stands-at : (t i : ℕ) (spans : List Span) (s : Span) → FollowOn t spans → slice_get spans i ≡ Some s → Stands t spans s
+Stands-at t i [] s follow at = absurd (cc at)
+Stands-at t zero (r ∷ spans) s follow at =
+    let same : r ≡ s = cc at in
+    rw (← same) (record {
+      after = omega (arith, follow.0);
+      rising = follow.1;
+      work = follow.3;
+      within = last_end-above r.end spans follow.4;
+    })
+Stands-at t (suc i) (r ∷ spans) s follow at =
+    let rest = Stands-at r.end i spans s follow.4 at in
+    record {
+      after = omega (arith, follow.0, follow.1, rest.after);
+      rising = rest.rising;
+      work = rest.work;
+      within = rest.within;
+    }
+
+-- within a span the works before it are due
+pub work_until-inside : (t i : ℕ) (spans : List Span) (s : Span) (x : ℕ) → FollowOn t spans → slice_get spans i ≡ Some s → s.start ≤ x → x < s.end → work_until spans x ≡ works (take i spans)
+work_until-inside t i [] s x follow at low high = absurd (cc at)
+work_until-inside t zero (r ∷ spans) s x follow at low high =
+    let here : r ≡ s = cc at in
+    let same : r.end ≡ s.end = ap (λ (q : Span). q.end) here in
+    work_until-running r spans x (omega arith) ∙ work_until-before r.end spans x (omega arith) follow.4
+work_until-inside t (suc i) (r ∷ spans) s x follow at low high =
+    let rest = Stands-at r.end i spans s follow.4 at in
+    omega (
+      arith,
+      work_until-ended r spans x (omega (arith, rest.after)),
+      work_until-inside r.end i spans s x follow.4 at low high,
+      sum_by-cons (λ (q : Span). q.work) r (take i spans),
+    )
+
+-- from the last end on all works are
+pub work_until-all : (t : ℕ) (spans : List Span) (x : ℕ) → FollowOn t spans → last_end t spans ≤ x → work_until spans x ≡ works spans
+work_until-all t [] x follow late = refl
+work_until-all t (s ∷ ss) x follow late =
+    omega (
+      arith,
+      work_until-ended s ss x (omega (arith, last_end-above s.end ss follow.4)),
+      work_until-all s.end ss x follow.4 late,
+      sum_by-cons (λ (q : Span). q.work) s ss,
+    )
+
+-- the works of the first spans are small
+pub works-small : (t i : ℕ) (spans : List Span) → FollowOn t spans → works (take i spans) ≤ i * 2 ^ 40
+works-small t zero spans follow = omega arith
+works-small t (suc i) [] follow = omega arith
+works-small t (suc i) (s ∷ ss) follow =
+    omega (arith, follow.3, works-small s.end i ss follow.4, sum_by-cons (λ (q : Span). q.work) s (take i ss))
+
+-- from a span's end on the slack is no less than its capacity and the slack before it
+pub slack-at : (t i : ℕ) (spans : List Span) (s : Span) (x : ℕ) → FollowOn t spans → spans ≡ filled spans → slice_get spans i ≡ Some s → s.end ≤ x → x ≤ last_end t spans → ((pos (s.start - t) -ℤ pos (works (take i spans))) +ℤ s.spare) ≤ℤ slack t spans x
+slack-at t i [] s x follow full at low high = absurd (cc at)
+slack-at t zero (r ∷ spans) s x follow full at low high =
+    let same : r ≡ s = cc at in
+    let start : r.start ≡ s.start = ap (λ (q : Span). q.start) same in
+    let end : r.end ≡ s.end = ap (λ (q : Span). q.end) same in
+    let spare : r.spare ≡ s.spare = ap (λ (q : Span). q.spare) same in
+    let least = free-least t (r ∷ spans) r.end follow full (omega (arith, follow.0, follow.1)) (last_end-above r.end spans follow.4) in
+    let ended = free-ended r.end r spans (omega arith) in
+    let none = free-start r.end spans follow.4 (rest-filled r spans full) in
+    let bound = least.bound x (omega arith) high in
+    omega (arith, ints, clamps, follow.0)
+slack-at t (suc i) (r ∷ spans) s x follow full at low high =
+    let stands = Stands-at r.end i spans s follow.4 at in
+    let rest = slack-at r.end i spans s x follow.4 (rest-filled r spans full) at low high in
+    let ended = slack-ended t r spans x (omega (arith, stands.after, stands.rising)) follow in
+    let more : works (take (suc i) (r ∷ spans)) ≡ r.work + works (take i spans) = sum_by-cons (λ (q : Span). q.work) r (take i spans) in
+    omega (arith, ints, stands.after, follow.0, follow.1)
+
+-- a capacity is at most the length
+pub spare-small : (t i : ℕ) (spans : List Span) (s : Span) → FollowOn t spans → spans ≡ filled spans → slice_get spans i ≡ Some s → s.spare ≤ℤ pos (2 ^ 40)
+spare-small t i [] s follow full at = absurd (cc at)
+spare-small t zero (r ∷ spans) s follow full at =
+    let same : r ≡ s = cc at in
+    let spare = spare-filled r spans full in
+    let most : r.spare ≤ℤ pos (2 ^ 40) = omega (arith, ints, clamps, follow.2) in
+    rw same at most
+spare-small t (suc i) (r ∷ spans) s follow full at =
+    spare-small r.end i spans s follow.4 (rest-filled r spans full) at

@@ -1,0 +1,158 @@
+-- Rows stay rows: some, consecutive, proper, filled and few.
+use Rattle.std.proofs.Common.{◌≡◌, ℕ, suc, ◌+◌, ◌<◌, ◌≤◌, ◌^◌, List, [], ◌∷◌, length, map, eqb, refl, sym, subst, arith, ◌-◌, ◌∙◌, get_or, IsSomeAnd}
+use Rattle.std.proofs.lemmas.Bool.{cond_both, eqb-true, eqb-false}
+use Rattle.slot_core.specs.declared.jobs.Span.{Span}
+use Rattle.spare_capacity.specs.Recurrence.{filled, FollowOn, first_start, last_end}
+use Rattle.spare_capacity.proofs.Steps.{no_row}
+use Rattle.interval_row.specs.Tables.{AreProper, ArePlanSpans}
+use Rattle.interval_row.specs.Changes.{after_pass, appended, cut, moved, span_ending, with_less, with_more, with_work}
+use Rattle.interval_row.specs.Rows.{AreRows, place_of, with_work_at}
+use Rattle.interval_row.proofs.Cuts.{AreProper-cut, FollowOn-cut, length-cut, first_start-cut}
+use Rattle.interval_row.proofs.Cycles.{filled-appended, length-appended, last_end-some, FollowOn-append, FollowOn-moved, AreProper-append, AreProper-moved, first_start-append, AreCopies}
+use Rattle.spare_capacity.proofs.Stale.{filled-filled, FollowOn-filled}
+use Rattle.interval_row.proofs.Fillings.{length-filled, first_start-filled, AreProper-filled}
+use Rattle.interval_row.proofs.Places.{work-le, IsDueAt, IsDueAt-span_ending}
+use Rattle.interval_row.proofs.Works.{length-with_work_at, first_start-with_work_at, AreProper-with_work_at, FollowOn-with_work_at}
+
+-- what rows are before their capacities are set
+pub record AreBare (rows : List Span) : Type 0 where
+  pub some : 1 ≤ length rows
+  pub consecutive : FollowOn (first_start rows) rows
+  pub proper : AreProper rows
+  pub few : length rows ≤ 2 ^ 20
+
+pub AreRows-AreBare : (rows : List Span) → AreBare rows → AreRows (filled rows)
+AreRows-AreBare rows bare =
+    record {
+      some = omega (arith, bare.some, length-filled rows);
+      consecutive = rw (first_start-filled rows) (FollowOn-filled (first_start rows) rows bare.consecutive);
+      proper = AreProper-filled rows bare.proper;
+      filled = sym (filled-filled rows);
+      few = omega (arith, bare.few, length-filled rows);
+    }
+
+-- what follows on from 0 follows on from its start
+follow_from_zero : (rows : List Span) → FollowOn 0 rows → FollowOn (first_start rows) rows
+follow_from_zero [] h = h
+follow_from_zero (s ∷ ss) h = (refl, h.1, h.2, h.3, h.4)
+
+-- and starts there
+pub first_start-FollowOn : (start : ℕ) (rows : List Span) → FollowOn start rows → 1 ≤ length rows → first_start rows ≡ start
+first_start-FollowOn start [] h some = absurd (omega arith)
+first_start-FollowOn start (s ∷ ss) h some = h.0
+
+-- a plan's spans are rows
+pub AreRows-ArePlanSpans : (spans : List Span) → ArePlanSpans spans → length spans ≤ 2 ^ 20 → AreRows spans
+AreRows-ArePlanSpans spans plan few =
+    record { some = plan.some; consecutive = follow_from_zero spans plan.consecutive; proper = plan.proper; filled = plan.filled; few = few }
+
+-- a new work of one row
+pub AreBare-with_work_at : (place work : ℕ) (rows : List Span) → work ≤ 2 ^ 40 → AreRows rows → AreBare (with_work_at place work rows)
+AreBare-with_work_at place work rows few h =
+    record {
+      some = omega (arith, h.some, length-with_work_at place work rows);
+      consecutive = rw (first_start-with_work_at place work rows) (FollowOn-with_work_at place work (first_start rows) rows few h.consecutive);
+      proper = AreProper-with_work_at place work rows h.proper;
+      few = omega (arith, h.few, length-with_work_at place work rows);
+    }
+
+-- a cut row
+pub AreBare-cut : (at : ℕ) (rows : List Span) → length rows < 2 ^ 20 → AreRows rows → AreBare (cut at rows)
+AreBare-cut at rows few h =
+    record {
+      some = omega (arith, h.some, (length-cut at rows).0);
+      consecutive = rw (first_start-cut at rows) (FollowOn-cut (first_start rows) at rows h.consecutive);
+      proper = AreProper-cut at rows h.proper;
+      few = omega (arith, few, (length-cut at rows).1);
+    }
+
+-- the rows after the first, where there are some
+AreBare-rest : (s : Span) (ss : List Span) → AreRows (s ∷ ss) → s.end < last_end 0 (s ∷ ss) → AreBare ss
+AreBare-rest s [] h more = absurd (omega arith)
+AreBare-rest s (t ∷ ts) h more =
+    let rest = h.consecutive.4 in
+    record { some = omega arith; consecutive = (refl, rest.1, rest.2, rest.3, rest.4); proper = h.proper.1; few = omega (arith, h.few) }
+
+-- one slot later
+pub AreBare-after_pass : (rows : List Span) → AreRows rows → first_start rows + 1 < last_end 0 rows → AreBare (after_pass rows)
+AreBare-after_pass [] h more = absurd (omega (arith, h.some))
+AreBare-after_pass (s ∷ ss) h more =
+    cond_both (eqb (s.start + 1) s.end) ss (record s { start = s.start + 1 } ∷ ss) AreBare
+    (λ t. AreBare-rest s ss h (omega (arith, eqb-true (s.start + 1) s.end t)))
+    (λ t.
+    let other : s.start + 1 ≡ s.end → ⊥ = eqb-false (s.start + 1) s.end t in
+    let low : s.start < s.end = h.proper.0 in
+    let next : s.start + 1 < s.end = omega arith in
+    record {
+      some = omega arith;
+      consecutive = (refl, omega arith, omega (arith, h.consecutive.2), h.consecutive.3, h.consecutive.4);
+      proper = (next, h.proper.1);
+      few = omega (arith, h.few);
+    })
+
+-- and its rows start one slot later
+pub first_start-after_pass : (rows : List Span) → AreRows rows → first_start rows + 1 < last_end 0 rows → first_start (after_pass rows) ≡ first_start rows + 1
+first_start-after_pass [] h more = absurd (omega (arith, h.some))
+first_start-after_pass (s ∷ []) h more =
+    cond_both (eqb (s.start + 1) s.end) [] (record s { start = s.start + 1 } ∷ []) (λ xs. first_start xs ≡ s.start + 1)
+    (λ t. absurd (omega (arith, eqb-true (s.start + 1) s.end t)))
+    (λ t. refl)
+first_start-after_pass (s ∷ u ∷ us) h more =
+    cond_both (eqb (s.start + 1) s.end) (u ∷ us) (record s { start = s.start + 1 } ∷ u ∷ us) (λ xs. first_start xs ≡ s.start + 1)
+    (λ t. omega (arith, eqb-true (s.start + 1) s.end t, h.consecutive.4.0))
+    (λ t. refl)
+
+pub length-after_pass : (rows : List Span) → length (after_pass rows) ≤ length rows
+length-after_pass [] = omega arith
+length-after_pass (s ∷ ss) =
+    cond_both (eqb (s.start + 1) s.end) ss (record s { start = s.start + 1 } ∷ ss) (λ xs. length xs ≤ suc (length ss)) (λ t. omega arith) (λ t. omega arith)
+
+-- a plan's spans appended
+pub AreRows-appended : (spans rows : List Span) → ArePlanSpans spans → AreRows rows → length rows + length spans ≤ 2 ^ 20 → AreRows (appended spans rows)
+AreRows-appended spans rows plan h few =
+    let by = last_end 0 rows in
+    let same : last_end (first_start rows) rows ≡ by = last_end-some (first_start rows) 0 rows h.some in
+    let zero_by : 0 + by ≡ last_end (first_start rows) rows = omega (arith, same) in
+    let follow : FollowOn (last_end (first_start rows) rows) (map (moved by) spans) = subst (λ n. FollowOn n (map (moved by) spans)) zero_by (FollowOn-moved 0 by spans plan.consecutive) in
+    record {
+      some = omega (arith, h.some, length-appended spans rows);
+      consecutive = rw (first_start-append rows (map (moved by) spans) h.some) (FollowOn-append (first_start rows) rows (map (moved by) spans) h.consecutive follow);
+      proper = AreProper-append rows (map (moved by) spans) h.proper (AreProper-moved by spans plan.proper);
+      filled = filled-appended spans rows plan h.filled;
+      few = omega (arith, few, length-appended spans rows);
+    }
+
+-- rows that stay as many, from the same start
+pub record Stays (old new : List Span) : Type 0 where
+  pub rows : AreRows new
+  pub count : length new ≡ length old
+  pub start : first_start new ≡ first_start old
+
+-- with another work of the row that is due
+Stays-with_work : (f : ℕ → ℕ) (deadline : ℕ) (P : Span → Type 0) (rows : List Span) → AreRows rows → (due : IsDueAt deadline P rows (place_of deadline rows)) → f (get_or rows (place_of deadline rows) no_row).work ≤ 2 ^ 40 → Stays rows (filled (with_work f deadline rows))
+Stays-with_work f deadline P rows h due few =
+    let place = place_of deadline rows in
+    let work = f (get_or rows place no_row).work in
+    let changed : with_work f deadline rows ≡ with_work_at place work rows = due.changed f in
+    let bare = with_work_at place work rows in
+    rw changed (record {
+      rows = AreRows-AreBare bare (AreBare-with_work_at place work rows few h);
+      count = length-filled bare ∙ length-with_work_at place work rows;
+      start = first_start-filled bare ∙ first_start-with_work_at place work rows;
+    })
+
+pub Stays-with_more : (deadline slots : ℕ) (rows : List Span) → AreRows rows → IsSomeAnd (span_ending deadline rows) (λ (s : Span). s.work + slots ≤ 2 ^ 40) → Stays rows (filled (with_more deadline slots rows))
+Stays-with_more deadline slots rows h found =
+    let due = IsDueAt-span_ending (first_start rows) rows deadline (λ (s : Span). s.work + slots ≤ 2 ^ 40) h.consecutive found in
+    Stays-with_work (λ work. work + slots) deadline (λ (s : Span). s.work + slots ≤ 2 ^ 40) rows h due due.holds
+
+pub Stays-with_less : (deadline slots : ℕ) (rows : List Span) → AreRows rows → IsSomeAnd (span_ending deadline rows) (λ (s : Span). slots ≤ s.work) → Stays rows (filled (with_less deadline slots rows))
+Stays-with_less deadline slots rows h found =
+    let due = IsDueAt-span_ending (first_start rows) rows deadline (λ (s : Span). slots ≤ s.work) h.consecutive found in
+    let few : (get_or rows (place_of deadline rows) no_row).work ≤ 2 ^ 40 = work-le (first_start rows) rows (place_of deadline rows) h.consecutive due.within in
+    Stays-with_work (λ work. work - slots) deadline (λ (s : Span). slots ≤ s.work) rows h due (omega arith)
+
+-- copies of a plan's spans are rows
+pub AreRows-AreCopies : (spans : List Span) (n : ℕ) (rows : List Span) → 1 ≤ length rows → length rows ≤ 2 ^ 20 → AreCopies spans n rows → AreRows rows
+AreRows-AreCopies spans n rows some few h =
+    record { some = some; consecutive = follow_from_zero rows h.consecutive; proper = h.proper; filled = h.filled; few = few }

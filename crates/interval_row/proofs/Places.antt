@@ -1,0 +1,87 @@
+-- The place of the first row that ends at x or later.
+use Rattle.std.proofs.Common.{◌≡◌, ℕ, zero, suc, ◌<◌, ◌≤◌, ◌^◌, ltb, true, false, List, [], ◌∷◌, length, get_or, Option, Some, None, IsSome, IsSomeAnd, eqb, inl, inr, refl, ap, arith}
+use Rattle.std.specs.List.Sorted.{IsNonDecreasingBy, IsPartitionPoint}
+use Rattle.std.proofs.lemmas.Bool.{false≢true, cases_eq, eq-eqb, ne_eqb, lt-ltb, le-ltb}
+use Rattle.slot_core.specs.declared.jobs.Span.{Span}
+use Rattle.spare_capacity.specs.Recurrence.{FollowOn, last_end}
+use Rattle.spare_capacity.proofs.Steps.{no_row}
+use Rattle.interval_row.specs.Changes.{span_ending, with_work}
+use Rattle.interval_row.specs.Rows.{place_of, with_work_at}
+
+-- no row of consecutive ones ends before they start
+end-le : (start : ℕ) (rows : List Span) (k : ℕ) (d : Span) → FollowOn start rows → k < length rows → start ≤ (get_or rows k d).end
+end-le start [] k d h l = elim l [ ]
+end-le start (s ∷ ss) zero d h l = omega (arith, h.0, h.1)
+end-le start (s ∷ ss) (suc k) d h l = omega (arith, h.0, h.1, end-le s.end ss k d h.4 (omega arith))
+
+-- nor is the last end before the start
+pub last_end-ge : (start : ℕ) (rows : List Span) → FollowOn start rows → start ≤ last_end start rows
+last_end-ge start [] h = omega arith
+last_end-ge start (s ∷ ss) h = omega (arith, h.0, h.1, last_end-ge s.end ss h.4)
+
+-- no work is above 2 ^ 40
+pub work-le : (start : ℕ) (rows : List Span) (k : ℕ) → FollowOn start rows → k < length rows → (get_or rows k no_row).work ≤ 2 ^ 40
+work-le start [] k h l = elim l [ ]
+work-le start (s ∷ ss) zero h l = h.3
+work-le start (s ∷ ss) (suc k) h l = work-le s.end ss k h.4 (omega arith)
+
+-- a span neither starts nor ends after the last end
+pub end-le-last_end : (start : ℕ) (rows : List Span) (k : ℕ) → FollowOn start rows → k < length rows → ((get_or rows k no_row).start ≤ last_end start rows) × ((get_or rows k no_row).end ≤ last_end start rows)
+end-le-last_end start [] k h l = elim l [ ]
+end-le-last_end start (s ∷ ss) zero h l = (omega (arith, h.1, last_end-ge s.end ss h.4), last_end-ge s.end ss h.4)
+end-le-last_end start (s ∷ ss) (suc k) h l = end-le-last_end s.end ss k h.4 (omega arith)
+
+-- the ends rise
+pub IsNonDecreasingBy-end : (start : ℕ) (rows : List Span) → FollowOn start rows → IsNonDecreasingBy (λ (s : Span). s.end) rows
+IsNonDecreasingBy-end start [] h i j d l within = elim within [ ]
+IsNonDecreasingBy-end start (s ∷ ss) h zero zero d l within = omega arith
+IsNonDecreasingBy-end start (s ∷ ss) h zero (suc j) d l within = end-le s.end ss j d h.4 (omega arith)
+IsNonDecreasingBy-end start (s ∷ ss) h (suc i) zero d l within = absurd (omega arith)
+IsNonDecreasingBy-end start (s ∷ ss) h (suc i) (suc j) d l within = IsNonDecreasingBy-end s.end ss h.4 i j d (omega arith) (omega arith)
+
+-- where the rows before i end before x and the others do not, i is the place
+pub place_of-IsPartitionPoint : (x : ℕ) (rows : List Span) (i : ℕ) → i ≤ length rows → IsPartitionPoint (λ (s : Span). ltb s.end x ≡ true) (λ (s : Span). ltb s.end x ≡ false) rows i → i ≡ place_of x rows
+place_of-IsPartitionPoint x [] i l h = omega arith
+place_of-IsPartitionPoint x (s ∷ ss) zero l h =
+    let late : ltb s.end x ≡ false = h.1 zero s (omega arith) (omega arith) in
+    rw late refl
+place_of-IsPartitionPoint x (s ∷ ss) (suc i) l h =
+    let early : ltb s.end x ≡ true = h.0 zero s (omega arith) (omega arith) in
+    let rest : i ≡ place_of x ss = place_of-IsPartitionPoint x ss i (omega arith) (λ k d low high. h.0 (suc k) d (omega arith) (omega arith), λ k d low high. h.1 (suc k) d (omega arith) (omega arith)) in
+    rw early (ap suc rest)
+
+-- the row that ends at a deadline: where it stands, what holds of it, and how its work changes
+pub record IsDueAt (deadline : ℕ) (P : Span → Type 0) (rows : List Span) (place : ℕ) : Type 0 where
+  pub within : place < length rows
+  pub ends : (get_or rows place no_row).end ≡ deadline
+  pub holds : P (get_or rows place no_row)
+  pub changed : (f : ℕ → ℕ) → with_work f deadline rows ≡ with_work_at place (f (get_or rows place no_row).work) rows
+
+-- what is there meets what all meet
+IsSomeAnd-IsSome : (o : Option Span) → IsSome o → IsSomeAnd o (λ s. Unit {0})
+IsSomeAnd-IsSome None found = absurd (false≢true found)
+IsSomeAnd-IsSome (Some s) found = tt
+
+-- a row that is found ends at the deadline, so no row before it does
+pub IsDueAt-span_ending : (start : ℕ) (rows : List Span) (deadline : ℕ) (P : Span → Type 0) → FollowOn start rows → IsSomeAnd (span_ending deadline rows) P → IsDueAt deadline P rows (place_of deadline rows)
+IsDueAt-span_ending start [] deadline P h found = elim found [ ]
+IsDueAt-span_ending start (s ∷ ss) deadline P h found =
+    elim (cases_eq s.end deadline) [
+      | inl here ↦
+          let test : eqb s.end deadline ≡ true = eq-eqb s.end deadline here in
+          let holds : P s = rw test at found in
+          rw (le-ltb s.end deadline (omega arith)) (record { within = omega arith; ends = here; holds = holds; changed = λ f. rw test refl })
+      | inr other ↦
+          let test : eqb s.end deadline ≡ false = ne_eqb s.end deadline other in
+          let rest : IsDueAt deadline P ss (place_of deadline ss) = IsDueAt-span_ending s.end ss deadline P h.4 (rw test at found) in
+          let later : s.end ≤ (get_or ss (place_of deadline ss) no_row).end = end-le s.end ss (place_of deadline ss) no_row h.4 rest.within in
+          let before : s.end < deadline = omega (arith, rest.ends) in
+          rw (lt-ltb s.end deadline before)
+          (record { within = omega (arith, rest.within); ends = rest.ends; holds = rest.holds; changed = λ f. rw test (ap (λ xs. s ∷ xs) (rest.changed f)) })
+    ]
+
+-- a span that ends there is the one at its place
+pub ends-span_ending : (start : ℕ) (rows : List Span) (x : ℕ) → FollowOn start rows → IsSome (span_ending x rows) → (get_or rows (place_of x rows) no_row).end ≡ x
+ends-span_ending start rows x h found =
+    let due : IsDueAt x (λ s. Unit {0}) rows (place_of x rows) = IsDueAt-span_ending start rows x (λ s. Unit {0}) h (IsSomeAnd-IsSome (span_ending x rows) found) in
+    due.ends

@@ -1,0 +1,39 @@
+-- A new work of one row: only that row may then be wrong.
+use Rattle.std.proofs.Common.{◌≡◌, ℕ, zero, suc, ◌<◌, ◌≤◌, ◌^◌, List, [], ◌∷◌, length, get_or, set, refl, ap, arith}
+use Rattle.slot_core.specs.declared.jobs.Span.{Span}
+use Rattle.spare_capacity.specs.Recurrence.{filled, FollowOn, first_start}
+use Rattle.spare_capacity.proofs.Stale.{IsStaleAt-filled, IsStaleAt-set}
+use Rattle.spare_capacity.proofs.Steps.{no_row}
+use Rattle.spare_capacity.specs.Refill.{IsStaleAt}
+use Rattle.interval_row.specs.Tables.{AreProper}
+use Rattle.interval_row.specs.Rows.{with_work_at}
+
+-- to write the row with the work
+pub set-with_work_at : (place work : ℕ) (rows : List Span) → place < length rows → set rows place (record (get_or rows place no_row) { work = work }) ≡ with_work_at place work rows
+set-with_work_at place work [] l = elim l [ ]
+set-with_work_at zero work (s ∷ ss) l = refl
+set-with_work_at (suc place) work (s ∷ ss) l = ap (λ xs. s ∷ xs) (set-with_work_at place work ss (omega arith))
+
+pub length-with_work_at : (place work : ℕ) (rows : List Span) → length (with_work_at place work rows) ≡ length rows
+length-with_work_at place work [] = refl
+length-with_work_at zero work (s ∷ ss) = refl
+length-with_work_at (suc place) work (s ∷ ss) = ap suc (length-with_work_at place work ss)
+
+pub first_start-with_work_at : (place work : ℕ) (rows : List Span) → first_start (with_work_at place work rows) ≡ first_start rows
+first_start-with_work_at place work [] = refl
+first_start-with_work_at zero work (s ∷ ss) = refl
+first_start-with_work_at (suc place) work (s ∷ ss) = refl
+
+pub FollowOn-with_work_at : (place work start : ℕ) (rows : List Span) → work ≤ 2 ^ 40 → FollowOn start rows → FollowOn start (with_work_at place work rows)
+FollowOn-with_work_at place work start [] few h = h
+FollowOn-with_work_at zero work start (s ∷ ss) few h = (h.0, h.1, h.2, few, h.4)
+FollowOn-with_work_at (suc place) work start (s ∷ ss) few h = (h.0, h.1, h.2, h.3, FollowOn-with_work_at place work s.end ss few h.4)
+
+pub AreProper-with_work_at : (place work : ℕ) (rows : List Span) → AreProper rows → AreProper (with_work_at place work rows)
+AreProper-with_work_at place work [] h = h
+AreProper-with_work_at zero work (s ∷ ss) h = h
+AreProper-with_work_at (suc place) work (s ∷ ss) h = (h.0, AreProper-with_work_at place work ss h.1)
+
+pub IsStaleAt-with_work_at : (place work : ℕ) (rows : List Span) → place < length rows → rows ≡ filled rows → IsStaleAt place (with_work_at place work rows)
+IsStaleAt-with_work_at place work rows l e =
+    rw (← set-with_work_at place work rows l) (IsStaleAt-set rows place (record (get_or rows place no_row) { work = work }) (IsStaleAt-filled rows place e) refl)

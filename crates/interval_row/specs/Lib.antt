@@ -1,0 +1,5 @@
+pub mod Changes
+pub mod Examples
+pub mod RowTables
+pub mod Rows
+pub mod Tables

@@ -1,0 +1,18 @@
+//! Tables of spans that keep their spare capacities (Fohler 1995; Isovic and Fohler 2000).
+//!
+//! A table holds the consecutive spans from the time on. Each call changes the spans by one small
+//! function of `specs/Changes.antt`, and the capacities are those of the recurrence of slot
+//! shifting afterwards. Nothing here knows of jobs.
+#![tactic(auto)]
+
+#[cfg(test)]
+mod drawn_calls;
+mod live;
+pub mod row_table;
+mod rows;
+pub mod table;
+#[cfg(test)]
+mod tests;
+
+pub use row_table::RowTable;
+pub use table::{SpareTable, Spot};

@@ -1,0 +1,155 @@
+//! The rows of a list from a place on.
+
+ghost use Rattle.std.specs.Prelude.{◌≡◌, ◌+◌, ◌≤◌, ◌<◌, ◌^◌, [], ◌∷◌, ◌++◌, insert, length, drop, IsSomeAnd, vec_len, vec_capacity};
+ghost use Rattle.spare_capacity.specs.Recurrence.{filled, first_start, last_end};
+ghost use Rattle.interval_row.specs.Changes.{after_pass, appended, cut, moved, span_ending, with_less, with_more};
+ghost use Rattle.interval_row.specs.Rows.{AreRows};
+
+use crate::rows;
+use slot_core::Span;
+
+/// Takes the first slot from the first row, and returns where the rows begin afterwards: a row that
+/// had no other slot is left behind.
+pub fn pass(rows: &mut Vec<Span>, head: usize) -> usize
+    requires within { head ≤ vec_len rows.old }
+    requires rows { AreRows (drop head rows.old.items) }
+    requires goes_on { first_start (drop head rows.old.items) + 1
+        < last_end 0 (drop head rows.old.items) }
+    ensures rows { drop result rows.new.items ≡ filled (after_pass (drop head rows.old.items)) }
+    ensures room { vec_capacity rows.old ≤ vec_capacity rows.new }
+{
+    let ended = rows::pass(&mut rows.as_mut_slice()[head..]);
+    if ended { head + 1 } else { head }
+}
+
+/// More slots of work for the row that ends there.
+pub fn charge(rows: &mut Vec<Span>, head: usize, deadline: u64, slots: u32)
+    requires within { head ≤ vec_len rows.old }
+    requires rows { AreRows (drop head rows.old.items) }
+    requires due { IsSomeAnd (span_ending deadline (drop head rows.old.items))
+        (λ s. s.work + slots ≤ 2 ^ 40) }
+    ensures rows { drop head rows.new.items
+        ≡ filled (with_more deadline slots (drop head rows.old.items)) }
+    ensures room { vec_capacity rows.old ≤ vec_capacity rows.new }
+{
+    rows::charge(&mut rows.as_mut_slice()[head..], deadline, slots);
+}
+
+/// Fewer slots of work for the row that ends there.
+pub fn give_back(rows: &mut Vec<Span>, head: usize, deadline: u64, slots: u32)
+    requires within { head ≤ vec_len rows.old }
+    requires rows { AreRows (drop head rows.old.items) }
+    requires due { IsSomeAnd (span_ending deadline (drop head rows.old.items))
+        (λ s. slots ≤ s.work) }
+    ensures rows { drop head rows.new.items
+        ≡ filled (with_less deadline slots (drop head rows.old.items)) }
+    ensures room { vec_capacity rows.old ≤ vec_capacity rows.new }
+{
+    rows::give_back(&mut rows.as_mut_slice()[head..], deadline, slots);
+}
+
+/// Makes `at` the end of a row, and returns where the rows begin afterwards.
+pub fn split(rows: &mut Vec<Span>, head: usize, at: u64) -> usize
+    requires within { head ≤ vec_len rows.old }
+    requires rows { AreRows (drop head rows.old.items) }
+    requires free { length (drop head rows.old.items) < vec_capacity rows.old }
+    requires few { length (drop head rows.old.items) < 2 ^ 20 }
+    requires after { first_start (drop head rows.old.items) < at }
+    requires reached { at ≤ last_end 0 (drop head rows.old.items) }
+    ensures rows { drop result rows.new.items ≡ filled (cut at (drop head rows.old.items)) }
+    ensures room { vec_capacity rows.old ≤ vec_capacity rows.new }
+{
+    let place = rows::place_of(&rows.as_slice()[head..], at);
+    let row = rows[head + place];
+    if row.end == at {
+        return head;
+    }
+    let head = insert(rows, head, place, row);
+    rows::halve(&mut rows.as_mut_slice()[head..], place, at);
+    head
+}
+
+/// Puts the row in at this place of the rows from `head` on, and returns where they begin
+/// afterwards. Where there is a free place before them, the rows before it move there, else the
+/// others move back.
+fn insert(rows: &mut Vec<Span>, head: usize, place: usize, row: Span) -> usize
+    requires within { head + place ≤ vec_len rows.old }
+    requires free { vec_len rows.old < head + vec_capacity rows.old }
+    ensures rows { drop result rows.new.items ≡ insert (drop head rows.old.items) place row }
+    ensures room { vec_capacity rows.old ≤ vec_capacity rows.new }
+{
+    if head == 0 {
+        let _inserted = rows.insert(place, row);
+        return 0;
+    }
+    shift(&mut rows.as_mut_slice()[head - 1..head + place], row);
+    head - 1
+}
+
+/// Drops the first row, and puts this one last.
+fn shift(rows: &mut [Span], row: Span)
+    requires { 1 ≤ length rows.old }
+    ensures { rows.new ≡ drop 1 rows.old ++ row ∷ [] }
+{
+    rows.rotate_left(1);
+    let last = rows.len() - 1;
+    rows[last] = row;
+}
+
+/// Appends the spans to the rows from `head` on, moved to the last end, and returns where the rows
+/// begin afterwards. Where the list has no places left at its end, the rows move to its front.
+pub fn extend(rows: &mut Vec<Span>, head: usize, spans: &[Span]) -> usize
+    requires within { head ≤ vec_len rows.old }
+    requires rows { AreRows (drop head rows.old.items) }
+    requires spans { AreRows spans.now }
+    requires free { length (drop head rows.old.items) + length spans.now ≤ vec_capacity rows.old }
+    requires near { last_end 0 (drop head rows.old.items) + last_end 0 spans.now < 2 ^ 64 }
+    ensures rows { drop result rows.new.items
+        ≡ appended spans.now (drop head rows.old.items) }
+    ensures room { vec_capacity rows.old ≤ vec_capacity rows.new }
+{
+    if rows.len() + spans.len() <= rows.capacity() {
+        append(rows, spans);
+        return head;
+    }
+    drop_front(rows, head);
+    append(rows, spans);
+    0
+}
+
+/// Drops the rows before `head`.
+fn drop_front(rows: &mut Vec<Span>, head: usize)
+    requires { head ≤ vec_len rows.old }
+    ensures rows { rows.new.items ≡ drop head rows.old.items }
+    ensures room { vec_capacity rows.old ≤ vec_capacity rows.new }
+{
+    rows.rotate_left(head);
+    rows.truncate(rows.len() - head);
+}
+
+/// Appends the spans, moved to the last end.
+pub fn append(rows: &mut Vec<Span>, spans: &[Span])
+    requires free { vec_len rows.old + length spans.now ≤ vec_capacity rows.old }
+    requires spans { AreRows spans.now }
+    requires near { last_end 0 rows.old.items + last_end 0 spans.now < 2 ^ 64 }
+    ensures rows { rows.new.items ≡ appended spans.now rows.old.items }
+    ensures room { vec_capacity rows.old ≤ vec_capacity rows.new }
+{
+    let by = rows::last_end(rows.as_slice());
+    for span in spans {
+        let _pushed = rows.push(moved(*span, by));
+    }
+}
+
+/// The span, so many slots later.
+fn moved(span: Span, by: u64) -> Span
+    requires start { span.start + by < 2 ^ 64 }
+    requires end { span.end + by < 2 ^ 64 }
+    ensures { result ≡ moved by span }
+{
+    Span {
+        start: span.start + by,
+        end: span.end + by,
+        ..span
+    }
+}

@@ -1,0 +1,47 @@
+-- The rows of tasks that may all arrive from slot 0 on.
+use Rattle.std.proofs.Common.{◌≡◌, true, List, [], ◌∷◌, map, refl, ap, arith}
+use Rattle.std.specs.List.{list_all}
+use Rattle.std.proofs.lemmas.Bool.{and_parts}
+use Rattle.slot_core.specs.declared.TheConstants.{SLOT_LIMIT}
+use Rattle.slot_core.specs.declared.tasks.Sporadic.{Sporadic}
+use Rattle.slot_core.specs.Ranges.{sporadic_in_range}
+use Rattle.slot_facts.proofs.Sets.Ranges.{bounds, SporadicRanges-from_test}
+use Rattle.sporadic_reserve.specs.declared.rows.Row.{Row}
+use Rattle.sporadic_reserve.specs.Reserves.{without_name}
+use Rattle.sporadic_reserve.specs.Rows.{first_row, reserved, task_of, AreRows, IsRow}
+
+tasks_of-first : (ss : List Sporadic) → map task_of (map first_row ss) ≡ map without_name ss
+tasks_of-first [] = refl
+tasks_of-first (s ∷ ss) = ap (λ xs. without_name s ∷ xs) (tasks_of-first ss)
+
+nexts_of-first : (ss : List Sporadic) → map (λ (row : Row). row.next) (map first_row ss) ≡ map (λ (s : Sporadic). 0) ss
+nexts_of-first [] = refl
+nexts_of-first (s ∷ ss) = ap (λ xs. 0 ∷ xs) (nexts_of-first ss)
+
+-- they stand for the tasks without their names, and next arrivals of 0
+pub reserved-first : (ss : List Sporadic) → reserved (map first_row ss) ≡ record { sporadics = map without_name ss; nexts = map (λ (s : Sporadic). 0) ss }
+reserved-first ss =
+    let tasks = tasks_of-first ss in
+    let nexts = nexts_of-first ss in
+    cc
+
+IsRow-first : (s : Sporadic) → sporadic_in_range s ≡ true → IsRow (first_row s)
+IsRow-first s h =
+    let ranges = SporadicRanges-from_test s h in
+    let wcet = bounds 1 SLOT_LIMIT s.wcet ranges.wcet in
+    let separation = bounds 1 SLOT_LIMIT s.separation ranges.separation in
+    record {
+      some = wcet.0;
+      short = wcet.1;
+      apart = separation.0;
+      near = separation.1;
+      within = ranges.deadline.1;
+      soon = omega arith;
+    }
+
+-- and their numbers are in range where those of the tasks are
+pub AreRows-first : (ss : List Sporadic) → list_all sporadic_in_range ss ≡ true → AreRows (map first_row ss)
+AreRows-first [] h = tt
+AreRows-first (s ∷ ss) h =
+    let (here, later) = and_parts (sporadic_in_range s) (list_all sporadic_in_range ss) h in
+    (IsRow-first s here, AreRows-first ss later)

@@ -1,0 +1,5 @@
+pub mod Arrivals
+pub mod Counts
+pub mod Demands
+pub mod FirstRows
+pub mod Rises

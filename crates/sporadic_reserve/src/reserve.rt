@@ -1,0 +1,119 @@
+//! What sporadic tasks may still ask for.
+
+ghost use Rattle.std.specs.Prelude.{◌≡◌, ℕ, ◌↔◌, ◌+◌, ◌≤◌, ◌<◌, ◌^◌, [], length, map, Some, IsTrue, IfErr, IfOk, IfSome, MatchOption, OnErr, OnOk, slice_get, slice_index, slice_set, true};
+ghost use Rattle.std.specs.List.{list_all};
+ghost use Rattle.slot_core.specs.declared.tasks.Sporadic.{Sporadic};
+ghost use Rattle.slot_core.specs.Ranges.{sporadic_in_range};
+ghost use Rattle.slot_core.specs.Sporadics.{sporadic_demand};
+ghost use Rattle.sporadic_reserve.specs.Reserves.{without_name, IsNextRise};
+ghost use Rattle.sporadic_reserve.specs.Rows.{first_row};
+
+use crate::RESERVE_LIMIT;
+use crate::rows::{Row, demand_of, move_next, next_rise};
+use arrayvec::ArrayVec;
+use slot_core::Sporadic;
+use std::marker::Model;
+
+/// Sporadic tasks, at most `RESERVE_LIMIT`, each with its next legal arrival. No call takes memory.
+#[derive(Drop)]
+pub struct Reserve {
+    rows: ArrayVec<Row, RESERVE_LIMIT>,
+}
+
+impl Model for Reserve {
+    ghost use Rattle.sporadic_reserve.specs.Reserves.{Reserved};
+    ghost use Rattle.sporadic_reserve.specs.Rows.{reserved, AreRows};
+
+    ghost Value = { Reserved };
+
+    ghost view = { λ r. reserved r.rows.items };
+
+    ghost invariant = { λ r. AreRows r.rows.items };
+}
+
+impl Reserve {
+    /// The reserve of these tasks, which may all arrive from slot 0 on.
+    pub fn new(rows: &[Sporadic]) -> Reserve
+        requires few { length rows.now ≤ RESERVE_LIMIT }
+        requires in_range { list_all sporadic_in_range rows.now ≡ true }
+        ensures { result
+            ≡ record { sporadics = map without_name rows.now; nexts = map (λ (s : Sporadic). 0) rows.now } }
+    {
+        let mut kept = ArrayVec::new();
+        for task in rows {
+            kept.push(row_of(task));
+        }
+        Reserve { rows: kept }
+    }
+
+    /// Whether it has no task. Each task has one next legal arrival.
+    pub fn is_empty(&self) -> bool
+        ensures empty { IsTrue result ↔ (self.now.sporadics ≡ []) }
+        ensures as_many { length self.now.nexts ≡ length self.now.sporadics }
+    {
+        self.rows.is_empty()
+    }
+
+    /// The task of this index arrives at `t`. Ok is the deadline of its job, and its next legal
+    /// arrival is a separation later. Err is that next legal arrival, exactly where `t` is before
+    /// it.
+    pub fn arrive(&mut self, index: u8, t: u64) -> Result<u64, u64>
+        requires index { index < length self.old.sporadics }
+        requires near { t < 2 ^ 40 }
+        ensures came { OnOk result (slice_index self.old.nexts index ≤ t) }
+        ensures due { IfOk result (λ due.
+            IfSome (slice_get self.old.sporadics index) (λ s. due ≡ t + s.deadline)) }
+        ensures next { OnOk result (IfSome (slice_get self.old.sporadics index) (λ s.
+            self.new ≡ record self.old { nexts = slice_set self.old.nexts index (t + s.separation) })) }
+        ensures soon { IfErr result (λ next.
+            (next ≡ slice_index self.old.nexts index) × (t < next)) }
+        ensures stays { OnErr result (self.new ≡ self.old) }
+        ensures tasks { self.new.sporadics ≡ self.old.sporadics }
+    {
+        let row = self.rows[index as usize];
+        if t < row.next {
+            return Err(row.next);
+        }
+        move_next(
+            &mut self.rows,
+            index as usize,
+            t + u64::from(row.separation),
+        );
+        Ok(t + u64::from(row.deadline))
+    }
+
+    /// The slots that the densest legal arrivals from `r` on need by `x`.
+    pub fn demand(&self, r: u64, x: u64) -> u64
+        requires near { r < 2 ^ 41 }
+        requires soon { x < 2 ^ 41 }
+        ensures demand { result ≡ sporadic_demand self.now.sporadics self.now.nexts r x }
+        ensures small { result ≤ 2 ^ 56 }
+        ensures most { (z : ℕ) → z ≤ x
+            → sporadic_demand self.now.sporadics self.now.nexts r z ≤ result }
+    {
+        demand_of(&self.rows, r, x)
+    }
+
+    /// The first time after `x` at which that demand rises. None exactly where there is no task.
+    pub fn next_deadline(&self, r: u64, x: u64) -> Option<u64>
+        requires near { r < 2 ^ 41 }
+        requires soon { x < 2 ^ 41 }
+        ensures { MatchOption result
+            (self.now.sporadics ≡ [])
+            (λ y. IsNextRise (λ z. sporadic_demand self.now.sporadics self.now.nexts r z) x y) }
+    {
+        next_rise(&self.rows, r, x)
+    }
+}
+
+/// The row of a task that may arrive from slot 0 on.
+fn row_of(task: &Sporadic) -> Row
+    ensures { result ≡ first_row task.now }
+{
+    Row {
+        wcet: task.wcet,
+        separation: task.separation,
+        deadline: task.deadline,
+        next: 0,
+    }
+}

@@ -1,0 +1,107 @@
+//! The demand of sporadic tasks, over rows of their numbers.
+
+ghost use Rattle.std.specs.Prelude.{◌≡◌, ℕ, ◌+◌, ◌*◌, ◌≤◌, ◌<◌, ◌^◌, [], length, max, min, slice_set, MatchOption};
+ghost use Rattle.slot_core.specs.Sporadics.{arrivals_due, sporadic_demand};
+ghost use Rattle.sporadic_reserve.specs.Reserves.{IsNextRise};
+ghost use Rattle.sporadic_reserve.specs.Rows.{reserved, task_of, AreRows, IsRow};
+
+use crate::RESERVE_LIMIT;
+
+/// The numbers of a sporadic task, and its next legal arrival.
+#[derive(Clone, Copy, PartialEq, Eq, Default, Debug)]
+pub struct Row {
+    pub wcet: u32,
+    pub separation: u32,
+    pub deadline: u32,
+    pub next: u64,
+}
+
+/// The deadline of the first arrival from `r` on.
+fn first_due(row: Row, r: u64) -> u64
+    requires row { IsRow row }
+    requires near { r < 2 ^ 41 }
+    ensures due { result ≡ max r row.next + row.deadline }
+    ensures near { result < 2 ^ 42 }
+{
+    r.max(row.next) + u64::from(row.deadline)
+}
+
+/// How many of the densest arrivals from `r` on are due by `x`.
+fn arrivals_due(row: Row, r: u64, x: u64) -> u64
+    requires row { IsRow row }
+    requires near { r < 2 ^ 41 }
+    requires soon { x < 2 ^ 41 }
+    ensures due { result ≡ arrivals_due (task_of row) row.next r x }
+    ensures few { result ≤ x + 1 }
+{
+    let first = first_due(row, r);
+    if x < first {
+        return 0;
+    }
+    (x - first) / u64::from(row.separation) + 1
+}
+
+/// The deadline of the first of them that is due after `x`.
+fn next_due(row: Row, r: u64, x: u64) -> u64
+    requires row { IsRow row }
+    requires near { r < 2 ^ 41 }
+    requires soon { x < 2 ^ 41 }
+    ensures { IsNextRise (λ z. arrivals_due (task_of row) row.next r z) x result }
+{
+    first_due(row, r) + arrivals_due(row, r, x) * u64::from(row.separation)
+}
+
+/// The slots that the densest arrivals from `r` on need by `x`.
+pub fn demand_of(rows: &[Row], r: u64, x: u64) -> u64
+    requires rows { AreRows rows.now }
+    requires few { length rows.now ≤ RESERVE_LIMIT }
+    requires near { r < 2 ^ 41 }
+    requires soon { x < 2 ^ 41 }
+    ensures demand { let reserve = reserved rows.now in
+        result ≡ sporadic_demand reserve.sporadics reserve.nexts r x }
+    ensures small { result ≤ 2 ^ 56 }
+    ensures most { let reserve = reserved rows.now in
+        (z : ℕ) → z ≤ x → sporadic_demand reserve.sporadics reserve.nexts r z ≤ result }
+{
+    let mut needed = 0;
+    for row in rows {
+        needed += u64::from(row.wcet) * arrivals_due(*row, r, x);
+    }
+    needed
+}
+
+/// The first time after `x` at which that demand rises, or none without rows.
+pub fn next_rise(rows: &[Row], r: u64, x: u64) -> Option<u64>
+    requires rows { AreRows rows.now }
+    requires near { r < 2 ^ 41 }
+    requires soon { x < 2 ^ 41 }
+    ensures { let reserve = reserved rows.now in
+        MatchOption result
+        (rows.now ≡ [])
+        (λ y. IsNextRise (λ z. sporadic_demand reserve.sporadics reserve.nexts r z) x y) }
+{
+    let mut first = None;
+    for row in rows {
+        first = Some(earlier(first, next_due(*row, r, x)));
+    }
+    first
+}
+
+/// The earlier of two times, the second where there is no first.
+fn earlier(first: Option<u64>, due: u64) -> u64
+    ensures { MatchOption first (result ≡ due) (λ y. result ≡ min y due) }
+{
+    first.map_or(due, |y| y.min(due))
+}
+
+/// From now on the next legal arrival of the row at this place is `next`.
+pub fn move_next(rows: &mut [Row], at: usize, next: u64)
+    requires rows { AreRows rows.old }
+    requires within { at < length rows.old }
+    requires near { next ≤ 2 ^ 41 }
+    ensures rows { AreRows rows.new }
+    ensures tasks { (reserved rows.new).sporadics ≡ (reserved rows.old).sporadics }
+    ensures nexts { (reserved rows.new).nexts ≡ slice_set (reserved rows.old).nexts at next }
+{
+    rows[at].next = next;
+}
