@@ -15,16 +15,6 @@ use Rattle.demand_test.specs.Verdicts.{verdict_of}
 use Rattle.slot_facts.proofs.Demand.Feasible.{IsFeasible-from_none}
 use Rattle.interval_build.specs.FirstJobs.{AreFirstJobs}
 
--- the jobs of a plan are those of the first cycle of its set
-pub AreFirstJobs-from_plan : (plan : PlanParts) → IsPlan plan → AreFirstJobs plan.tasks plan.jobs
-AreFirstJobs-from_plan plan is_plan =
-    record {
-      sound = is_plan.sound;
-      feasible = subst (IsFeasible plan.tasks) is_plan.cycle is_plan.feasible;
-      listed = subst (λ n. IsPermutation (cycle_jobs plan.tasks n 0) plan.jobs) is_plan.cycle is_plan.jobs;
-      ordered = is_plan.ordered;
-    }
-
 -- a verdict that fits says that there is no counterexample
 pub none-from_fits : (o : Option Window) → Fits ≡ verdict_of o → o ≡ None
 none-from_fits None e = refl

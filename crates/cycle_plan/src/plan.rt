@@ -1,6 +1,6 @@
 //! Plans and how they are made.
 
-ghost use Rattle.std.specs.Prelude.{◌≡◌, ℕ, ◌≤◌, ◌<◌, true, Some, length, slice_get, IfOk, IfSome, IsPermutation};
+ghost use Rattle.std.specs.Prelude.{◌≡◌, ℕ, ◌≤◌, ◌<◌, true, All, Some, length, slice_get, IfOk, IfSome, IsPermutation};
 ghost use Rattle.slot_core.specs.declared.TheConstants.{CYCLES_LIMIT};
 ghost use Rattle.slot_core.specs.declared.jobs.Job.{Job};
 ghost use Rattle.slot_core.specs.declared.jobs.Window.{Window};
@@ -11,6 +11,9 @@ ghost use Rattle.slot_core.specs.OfflineJobs.{cycle_jobs, later_job};
 ghost use Rattle.slot_core.specs.Plans.{AreInDeadlineOrder, IsPlan};
 ghost use Rattle.slot_core.specs.Ranges.{is_sound};
 ghost use Rattle.demand_test.specs.Verdicts.{verdict_of};
+ghost use Rattle.cycle_plan.specs.NearJobs.{IsNear};
+ghost use Rattle.spare_capacity.specs.PlanSpans.{ArePlanSpans};
+ghost use Rattle.spare_capacity.specs.Recurrence.{last_end};
 ghost use Rattle.cycle_plan.specs.StartOrder.{AreInStartOrder, StartsRise};
 ghost use Rattle.cycle_plan.specs.declared.plan.PlanFault.TheVariants.{Memory as MemoryFault};
 
@@ -181,6 +184,8 @@ impl Plan {
         ensures items { IsPermutation self.now.jobs result.now }
         ensures ordered { AreInStartOrder result.now }
         ensures starts { StartsRise result.now }
+        ensures near { All IsNear result.now }
+        ensures plan { IsPlan self.now }
     {
         self.by_start.as_slice()
     }
@@ -189,6 +194,8 @@ impl Plan {
     pub fn spans(&self) -> &[Span]
         ensures spans { result.now ≡ self.now.spans }
         ensures plan { IsPlan self.now }
+        ensures proper { ArePlanSpans self.now.spans }
+        ensures whole { last_end 0 self.now.spans ≡ self.now.cycle }
     {
         self.spans.as_slice()
     }
@@ -198,6 +205,15 @@ impl Plan {
         ensures sporadics { result.now ≡ self.now.tasks.sporadics }
     {
         self.tasks.sporadics.items()
+    }
+
+    /// A job of the first cycle, as it stands so many cycles later.
+    pub fn later_job(&self, job: Job, cycles: u64) -> Job
+        requires near { IsNear job }
+        requires few { cycles ≤ CYCLES_LIMIT }
+        ensures { result ≡ later_job self.now.tasks self.now.cycle cycles job }
+    {
+        later_job(&self.tasks, self.cycle, cycles, job)
     }
 
     /// The job at this place of the first cycle, as it stands so many cycles later.

@@ -1,18 +1,33 @@
 //! Plans of small sets, and sets that have none.
 
 use crate::{PlanFault, make_plan};
-use slot_core::{Job, Key, Span, Window};
-use slot_examples::{crowded_set, overlong_set, unmanned_flight_set};
+use sample_sets::{crowded_set, overlong_set, unmanned_flight_set};
+use slot_core::{Job, Key, Window};
 use std::test::Fail;
 
-fn span(start: u64, end: u64, work: u64, spare: i64) -> Span {
-    Span {
-        start,
-        end,
-        work,
-        spare,
-    }
-}
+/// The start, the end, the work and the capacity of each span of the flight controller's plan.
+const FLIGHT_SPANS: [(u64, u64, u64, i64); 15] = [
+    (0, 8, 1, 7),
+    (8, 9, 1, 0),
+    (9, 10, 1, 0),
+    (10, 17, 1, 3),
+    (17, 18, 1, -3),
+    (18, 19, 3, -3),
+    (19, 20, 2, -1),
+    (20, 28, 1, 4),
+    (28, 29, 1, -3),
+    (29, 30, 1, -3),
+    (30, 36, 2, -3),
+    (36, 37, 1, -7),
+    (37, 38, 1, -7),
+    (38, 39, 6, -7),
+    (39, 40, 3, -2),
+];
+
+/// When its jobs of one cycle start.
+const FLIGHT_STARTS: [u64; 21] = [
+    0, 0, 0, 1, 1, 2, 2, 3, 5, 10, 11, 12, 20, 20, 21, 21, 22, 23, 30, 31, 32,
+];
 
 #[test]
 fn plans_a_flight_controller(rt: HostRuntime) -> Result<(), Fail> {
@@ -22,24 +37,10 @@ fn plans_a_flight_controller(rt: HostRuntime) -> Result<(), Fail> {
         .ok_or("no plan")?;
     assert_eq!(rt; plan.cycle(), 40);
     assert_eq!(rt; plan.jobs().len(), 21);
-    let expected = [
-        span(0, 8, 1, 7),
-        span(8, 9, 1, 0),
-        span(9, 10, 1, 0),
-        span(10, 17, 1, 3),
-        span(17, 18, 1, -3),
-        span(18, 19, 3, -3),
-        span(19, 20, 2, -1),
-        span(20, 28, 1, 4),
-        span(28, 29, 1, -3),
-        span(29, 30, 1, -3),
-        span(30, 36, 2, -3),
-        span(36, 37, 1, -7),
-        span(37, 38, 1, -7),
-        span(38, 39, 6, -7),
-        span(39, 40, 3, -2),
-    ];
-    assert_eq!(rt; plan.spans(), expected.as_slice());
+    assert_eq!(rt; plan.spans().len(), FLIGHT_SPANS.len());
+    for (span, want) in plan.spans().iter().zip(&FLIGHT_SPANS) {
+        assert_eq!(rt; (span.start, span.end, span.work, span.spare), *want);
+    }
     let last = plan.jobs().len().checked_sub(1).ok_or("no job")?;
     let later = Job {
         key: Key::Offline(2, 2, 2),
@@ -49,11 +50,10 @@ fn plans_a_flight_controller(rt: HostRuntime) -> Result<(), Fail> {
         declared: 1,
     };
     assert_eq!(rt; plan.job_in_cycle(last, 2), later);
-    let starts = [
-        0, 0, 0, 1, 1, 2, 2, 3, 5, 10, 11, 12, 20, 20, 21, 21, 22, 23, 30, 31, 32,
-    ];
-    assert_eq!(rt; plan.jobs_by_start().len(), starts.len());
-    for (job, start) in plan.jobs_by_start().iter().zip(&starts) {
+    let ninth = plan.jobs_by_start().get(8).copied().ok_or("no job")?;
+    assert_eq!(rt; plan.later_job(ninth, 2), later);
+    assert_eq!(rt; plan.jobs_by_start().len(), FLIGHT_STARTS.len());
+    for (job, start) in plan.jobs_by_start().iter().zip(&FLIGHT_STARTS) {
         assert_eq!(rt; job.est, *start);
     }
     Ok(())

@@ -14,7 +14,7 @@ use Rattle.slot_core.specs.declared.tasks.Sporadic.{Sporadic}
 use Rattle.slot_core.specs.Sporadics.{sporadic_demand}
 use Rattle.slot_core.specs.Feasible.{declared_within, window_demand, failing_window, first_some, first_failing_from}
 use Rattle.demand_test.specs.EndTables.{ending_at, first_end, next_end, IsEndTable, failing_in}
-use Rattle.slot_facts.proofs.Demand.Arrivals.{sporadic_demand-moved}
+use Rattle.slot_facts.proofs.Demand.Arrivals.{sporadic_demand-shifted_to_zero}
 use Rattle.slot_facts.proofs.Demand.Feasible.{fits-from_first_failing}
 use Rattle.slot_facts.proofs.Lists.FirstSome.{first_some-agree}
 use Rattle.slot_facts.proofs.Lists.Sums.{sum_by-agree, sum_by-none, sum_by-plus}
@@ -157,7 +157,7 @@ arrivals-from_zero jobs ss cycle zero b none low high positive =
     let same : b - 0 ≡ b = omega arith in
     ap (λ x. sporadic_demand ss [] 0 x) (sym same)
 arrivals-from_zero jobs ss cycle (suc a) b none low high positive =
-    sporadic_demand-moved
+    sporadic_demand-shifted_to_zero
     ss
     (suc a)
     b

@@ -28,7 +28,7 @@ pub record AreOfSet (set : TaskSet) (jobs : List Job) (sporadics : List Sporadic
 pub record MeansSchedules (set : TaskSet) (verdict : Verdict) : Type 0 where
   -- a set that fits: any number of its cycles can be served, whatever legal arrivals come
   pub fits : verdict ≡ Fits → (cycles : ℕ) → CyclesCanBeServed set cycles
-  -- a set that fails: three of its cycles can not
+  -- a set that fails: three of its cycles cannot
   pub fails : (window : Window) → verdict ≡ Fails window → ¬ (CyclesCanBeServed set 3)
   -- and the arrivals that show it are the densest from the start of the failing window on
   pub shown : (window : Window) → verdict ≡ Fails window → DensestLeavesNone set window.from

@@ -3,8 +3,8 @@
 ghost use Rattle.std.specs.Prelude.{◌+◌, ◌*◌, ◌^◌, ◌<◌};
 
 use crate::{cycle_of, unroll};
+use sample_sets::two_periods_set;
 use slot_core::{Key, RawJob};
-use slot_examples::two_periods_set;
 use std::test::Fail;
 
 #[test]

@@ -53,9 +53,9 @@ pub SumStands-later : (dl : ℕ) (spans : List Span) (i sum part : ℕ) (s : Spa
 SumStands-later dl spans i sum part s stands at within gives before =
     let same = get_or_from_slice_get spans i s no_row at in
     let turn = SumStands-turn dl spans i sum s stands at within in
-    let passed : drop i spans ≡ s ∷ drop (i + 1) spans = drop_more spans i no_row within ∙ ap (λ (r : Span). r ∷ drop (i + 1) spans) same in
+    let split : drop i spans ≡ s ∷ drop (i + 1) spans = drop_more spans i no_row within ∙ ap (λ (r : Span). r ∷ drop (i + 1) spans) same in
     let count : ends_before dl (drop i spans) ≡ 1 + ends_before dl (drop (i + 1) spans) =
-    ap (ends_before dl) passed
+    ap (ends_before dl) split
     ∙ sum_by-cons (λ (r : Span). cond (nat_lt r.end dl) 1 0) s (drop (i + 1) spans)
     ∙ ap (λ b. cond b 1 0 + ends_before dl (drop (i + 1) spans)) (lt-ltb s.end dl before) in
     record {

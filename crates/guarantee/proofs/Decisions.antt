@@ -14,7 +14,7 @@ use Rattle.spare_capacity.specs.Recurrence.{filled, first_spare, last_end, Follo
 use Rattle.spare_capacity.specs.Available.{available}
 use Rattle.spare_capacity.proofs.Free.{free, free-ended, free-holds, rest-filled}
 use Rattle.spare_capacity.proofs.Slack.{slack, free-least, free-start, IsLeastFrom}
-use Rattle.interval_row.specs.Tables.{AreProper}
+use Rattle.spare_capacity.specs.PlanSpans.{AreProper}
 use Rattle.sporadic_reserve.specs.Reserves.{Reserved}
 use Rattle.guarantee.specs.declared.Answer.TheVariants.{Accept, Refuse}
 use Rattle.guarantee.specs.Offers.{answer_to, evidence_at, first_short, is_short, need_until, soft_fits}

@@ -1,4 +1,4 @@
--- The least slack obeys the recurrence between neighbouring ends.
+-- The least slack obeys the recurrence between neighbouring points.
 use Rattle.std.proofs.Common.{◌≡◌, ℕ, ◌+◌, ◌<◌, ◌≤◌, ◌⊎◌, ℤ, pos, ◌+ℤ◌, ◌≤ℤ◌, ◌&&◌, cond, ltb, leb, List, [], ◌∷◌, refl, subst, ⊎_elim, arith}
 use Rattle.std.specs.Int.{int_min}
 use Rattle.std.specs.List.{AllByRecursion}
@@ -11,7 +11,7 @@ use Rattle.slot_core.specs.Spans.{slack, spare_capacity}
 use Rattle.interval_build.proofs.Due.{work_of_first, work_between-cons}
 use Rattle.interval_build.proofs.Least.{IsLeast, IsLeast-unique, IsLeast-least}
 
--- no job is due between two neighbouring ends
+-- no job is due between two neighbouring points
 abbrev pub NoneBetween : List Job → ℕ → ℕ → Type 0
 NoneBetween jobs e next = AllByRecursion (λ (j : Job). (j.dl ≤ e) ⊎ (next ≤ j.dl)) jobs
 
@@ -70,7 +70,7 @@ IsLeast-before jobs s e next last m rising over within none h = record { bound =
         (x, omega (arith, h.reached.1), h.reached.2, omega (arith, ints, clamps)))
         (λ l. (e, omega arith, omega arith, omega (arith, ints, clamps)))
 
--- the least slack of a span up to the last end is its own, less what the next span lacks
+-- the least slack of a span up to the last point is its own, less what the next span lacks
 pub capacity_before : (jobs : List Job) (s e next last : ℕ) → s ≤ e → e < next → next ≤ last → NoneBetween jobs e next → spare_capacity jobs last s e ≡ slack jobs s e +ℤ int_min (pos 0) (spare_capacity jobs last e next)
 capacity_before jobs s e next last rising over within none =
     IsLeast-unique (slack jobs s) e last _ _

@@ -5,6 +5,6 @@ pub mod FirstJobFacts
 pub mod Least
 pub mod OneCycle
 pub mod PlanSpans
-pub mod RisingEnds
+pub mod RisingPoints
 pub mod RowSteps
 pub mod SpansOfCycle

@@ -28,11 +28,11 @@ later_windows : (set : TaskSet) (n : ℕ) (job : Job) → is_sound set ≡ true 
 later_windows set n job sound feasible at =
     let cycle = cycle_of set in
     let first = cycle_jobs set cycle 0 in
-    let moved = Has-map_cases (later_job set cycle (suc n)) first job (subst (λ js. Has js job) (cycle_jobs-are_later set (suc n) sound feasible) at) in
-    let own = moved.0 in
-    let fits = FitsInCycle-from_first set own sound feasible (Contains-from_Has first own moved.1) in
-    let est : own.est + suc n * cycle ≡ job.est = ap (λ (j : Job). j.est) moved.2 in
-    let dl : own.dl + suc n * cycle ≡ job.dl = ap (λ (j : Job). j.dl) moved.2 in
+    let found = Has-map_cases (later_job set cycle (suc n)) first job (subst (λ js. Has js job) (cycle_jobs-are_later set (suc n) sound feasible) at) in
+    let own = found.0 in
+    let fits = FitsInCycle-from_first set own sound feasible (Contains-from_Has first own found.1) in
+    let est : own.est + suc n * cycle ≡ job.est = ap (λ (j : Job). j.est) found.2 in
+    let dl : own.dl + suc n * cycle ≡ job.dl = ap (λ (j : Job). j.dl) found.2 in
     (omega arith, omega (arith, fits.some, fits.room))
 
 -- so no work of a later cycle is due in the first
@@ -104,12 +104,12 @@ capacity_of_one_cycle set s e sound feasible rising within =
     (IsLeast-least (slack all s) e (3 * cycle_of set) (omega arith))
 
 -- and so are the spans of the first cycle
-pub spans_of_one_cycle : (set : TaskSet) (s : ℕ) (ends : List ℕ) → is_sound set ≡ true → IsFeasible set (cycle_of set) → AreRising s ends → last_point s ends ≤ cycle_of set → spans_between (cycle_jobs set (cycle_of set) 0) (cycle_of set) s ends ≡ spans_between (offline_jobs set (cycle_of set) 3) (3 * cycle_of set) s ends
+pub spans_of_one_cycle : (set : TaskSet) (s : ℕ) (points : List ℕ) → is_sound set ≡ true → IsFeasible set (cycle_of set) → AreRising s points → last_point s points ≤ cycle_of set → spans_between (cycle_jobs set (cycle_of set) 0) (cycle_of set) s points ≡ spans_between (offline_jobs set (cycle_of set) 3) (3 * cycle_of set) s points
 spans_of_one_cycle set s [] sound feasible rising last = refl
-spans_of_one_cycle set s (e ∷ ends) sound feasible rising last =
-    let within : e ≤ cycle_of set = omega (arith, last_point-above e ends rising.1) in
+spans_of_one_cycle set s (e ∷ points) sound feasible rising last =
+    let within : e ≤ cycle_of set = omega (arith, last_point-above e points rising.1) in
     let low : s ≤ e = omega (arith, rising.0) in
     let work = sym (first_work set s e sound feasible within) in
     let spare = capacity_of_one_cycle set s e sound feasible low within in
-    let rest = spans_of_one_cycle set e ends sound feasible rising.1 last in
+    let rest = spans_of_one_cycle set e points sound feasible rising.1 last in
     λ i. record { start = s; end = e; work = work i; spare = spare i } ∷ rest i

@@ -1,34 +1,33 @@
--- The plan's spans are the spans of a cycle.
-use Rattle.std.proofs.Common.{◌≡◌, ℕ, ◌<◌, ◌≤◌, pos, ◌≤ℤ◌, ◌&&◌, cond, ltb, leb, List, [], ◌∷◌, length, refl, sym, ap, ◌∙◌, subst, arith}
+-- The spans of a plan are as its calls ask, and fill its cycle.
+use Rattle.std.proofs.Common.{◌≡◌, ℕ, ◌≤◌, pos, ◌≤ℤ◌, ◌&&◌, cond, ltb, leb, List, [], ◌∷◌, length, refl, sym, ap, ◌∙◌, subst, arith}
 use Rattle.std.specs.Prelude.{nat_le, nat_lt}
-use Rattle.std.specs.List.{AllByRecursion}
 use Rattle.std.proofs.lemmas.Bool.Decides.{nat_tests}
 use Rattle.std.proofs.lemmas.Int.{ints}
 use Rattle.std.proofs.lemmas.List.Sums.{sum_by-le-sum_by}
 use Rattle.slot_core.specs.declared.TheConstants.{SLOT_LIMIT}
 use Rattle.slot_core.specs.declared.jobs.Job.{Job}
-use Rattle.slot_core.specs.declared.jobs.Span.{Span}
 use Rattle.slot_core.specs.declared.tasks.TaskSet.{TaskSet}
 use Rattle.slot_core.specs.Cycles.{cycle_of}
 use Rattle.slot_core.specs.OfflineJobs.{cycle_jobs}
 use Rattle.slot_core.specs.Demand.{work_between, work_from}
-use Rattle.slot_core.specs.Plans.{plan_spans}
+use Rattle.slot_core.specs.Plans.{PlanParts, plan_spans, IsPlan}
 use Rattle.slot_core.specs.Rising.{AreRising, last_point}
 use Rattle.slot_core.specs.Spans.{slack, spans_between}
 use Rattle.slot_facts.proofs.Bounds.SafeStart.{offline_jobs-fit}
 use Rattle.slot_facts.proofs.Lists.SameItems.{same-from_permutation}
 use Rattle.slot_facts.proofs.Offline.Jobs.{cycle-positive, cycle-at_most}
 use Rattle.slot_facts.proofs.Plans.SpanSums.{work_between-same}
+use Rattle.spare_capacity.specs.PlanSpans.{AreProper, ArePlanSpans}
 use Rattle.spare_capacity.specs.Recurrence.{filled, first_spare, last_end, FollowOn}
 use Rattle.spare_capacity.proofs.Stale.{filled-filled, FollowOn-filled}
-use Rattle.interval_build.specs.CycleSpans.{AreCycleSpans}
 use Rattle.interval_build.specs.FirstJobs.{AreFirstJobs}
 use Rattle.interval_build.specs.Rows.{rows_between}
 use Rattle.interval_build.proofs.Filled.{AreDueAt-from_All, filled-rows_between, last_point-above, FollowOn-rows_between}
-use Rattle.interval_build.proofs.FirstJobFacts.{all_at_ends, first_small}
+use Rattle.interval_build.proofs.FirstJobFacts.{AreFirstJobs-from_plan, all_at_points, first_small}
 use Rattle.interval_build.proofs.Least.{IsLeast-least}
-use Rattle.interval_build.proofs.PlanSpans.{ends_of, ends_rise, last_of_ends, plan_spans-first}
+use Rattle.interval_build.proofs.PlanSpans.{first_points, first_points-rise, last_of_first_points, plan_spans-first}
 
+-- a job that is due after 0 starts at 0 or later
 counts_from_0 : (left est dl x : ℕ) → cond (ltb 0 dl && leb dl x) left 0 ≤ cond (leb 0 est && leb dl x) left 0
 counts_from_0 left est dl x = grind (arith, nat_tests)
 
@@ -41,46 +40,63 @@ slack_from_0 set jobs x these =
     omega (arith, ints, offline_jobs-fit set 1 [] 0 x these.sound these.feasible (omega arith))
 
 -- so the first capacity is at least 0, and there is one
-first_capacity : (set : TaskSet) (jobs : List Job) (last : ℕ) (ends : List ℕ) → AreFirstJobs set jobs → AreRising 0 ends → last_point 0 ends ≡ last → pos 0 ≤ℤ first_spare (spans_between jobs last 0 ends)
+first_capacity : (set : TaskSet) (jobs : List Job) (last : ℕ) (points : List ℕ) → AreFirstJobs set jobs → AreRising 0 points → last_point 0 points ≡ last → pos 0 ≤ℤ first_spare (spans_between jobs last 0 points)
 first_capacity set jobs last [] these rising at = omega (arith, ints)
-first_capacity set jobs last (e ∷ ends) these rising at =
-    let within : e ≤ last = omega (arith, last_point-above e ends rising.1) in
+first_capacity set jobs last (e ∷ points) these rising at =
+    let within : e ≤ last = omega (arith, last_point-above e points rising.1) in
     let least = IsLeast-least (slack jobs 0) e last within in
     let x = least.reached.0 in
     subst (λ z. pos 0 ≤ℤ z) (sym least.reached.3) (slack_from_0 set jobs x these)
 
-proper : (jobs : List Job) (last start : ℕ) (ends : List ℕ) → AreRising start ends → AllByRecursion (λ (s : Span). s.start < s.end) (spans_between jobs last start ends)
+-- each span between rising points has its end above its start
+proper : (jobs : List Job) (last start : ℕ) (points : List ℕ) → AreRising start points → AreProper (spans_between jobs last start points)
 proper jobs last start [] rising = tt
-proper jobs last start (e ∷ ends) rising = (rising.0, proper jobs last e ends rising.1)
+proper jobs last start (e ∷ points) rising = (rising.0, proper jobs last e points rising.1)
 
-last_of_spans : (jobs : List Job) (last start : ℕ) (ends : List ℕ) → last_end start (spans_between jobs last start ends) ≡ last_point start ends
+-- the last span ends at the last point
+last_of_spans : (jobs : List Job) (last start : ℕ) (points : List ℕ) → last_end start (spans_between jobs last start points) ≡ last_point start points
 last_of_spans jobs last start [] = refl
-last_of_spans jobs last start (e ∷ ends) = last_of_spans jobs last e ends
+last_of_spans jobs last start (e ∷ points) = last_of_spans jobs last e points
 
-some_ends : (ends : List ℕ) (jobs : List Job) (last cycle : ℕ) → 1 ≤ cycle → last_point 0 ends ≡ cycle → 1 ≤ length (spans_between jobs last 0 ends)
-some_ends [] jobs last cycle some at = absurd (omega arith)
-some_ends (e ∷ ends) jobs last cycle some at = omega arith
+-- where the last point is above 0 there is a span
+some_points : (points : List ℕ) (jobs : List Job) (last cycle : ℕ) → 1 ≤ cycle → last_point 0 points ≡ cycle → 1 ≤ length (spans_between jobs last 0 points)
+some_points [] jobs last cycle some at = absurd (omega arith)
+some_points (e ∷ points) jobs last cycle some at = omega arith
 
 -- the spans between the points of the jobs in their cycle
-AreCycleSpans-between : (set : TaskSet) (jobs : List Job) → AreFirstJobs set jobs → AreCycleSpans (cycle_of set) (spans_between jobs (cycle_of set) 0 (ends_of set jobs))
-AreCycleSpans-between set jobs these =
+ArePlanSpans-between : (set : TaskSet) (jobs : List Job) → AreFirstJobs set jobs → ArePlanSpans (spans_between jobs (cycle_of set) 0 (first_points set jobs))
+ArePlanSpans-between set jobs these =
     let cycle = cycle_of set in
-    let ends = ends_of set jobs in
-    let rising = ends_rise set jobs in
-    let last : last_point 0 ends ≡ cycle = last_of_ends set jobs these in
+    let points = first_points set jobs in
+    let rising = first_points-rise set jobs in
+    let last : last_point 0 points ≡ cycle = last_of_first_points set jobs these in
     let most : cycle ≤ SLOT_LIMIT = cycle-at_most set these.sound in
-    let rows = rows_between jobs 0 ends in
+    let rows = rows_between jobs 0 points in
     let small = first_small set jobs these in
-    let is : filled rows ≡ spans_between jobs cycle 0 ends = filled-rows_between jobs 0 ends rising (AreDueAt-from_All jobs 0 ends (all_at_ends set jobs these)) ∙ ap (λ n. spans_between jobs n 0 ends) last in
+    let is : filled rows ≡ spans_between jobs cycle 0 points = filled-rows_between jobs 0 points rising (AreDueAt-from_All jobs 0 points (all_at_points set jobs these)) ∙ ap (λ n. spans_between jobs n 0 points) last in
     record {
-      some = some_ends ends jobs cycle cycle (cycle-positive set these.sound) last;
-      consecutive = subst (FollowOn 0) is (FollowOn-filled 0 rows (FollowOn-rows_between jobs 0 ends rising (omega arith) (omega arith)));
-      proper = proper jobs cycle 0 ends rising;
-      whole = last_of_spans jobs cycle 0 ends ∙ last;
+      some = some_points points jobs cycle cycle (cycle-positive set these.sound) last;
+      consecutive = subst (FollowOn 0) is (FollowOn-filled 0 rows (FollowOn-rows_between jobs 0 points rising (omega arith) (omega arith)));
+      proper = proper jobs cycle 0 points rising;
       filled = sym (ap filled (sym is) ∙ filled-filled rows ∙ is);
-      first = first_capacity set jobs cycle ends these rising last;
+      first = first_capacity set jobs cycle points these rising last;
     }
 
-pub AreCycleSpans-plan : (set : TaskSet) (jobs : List Job) → AreFirstJobs set jobs → AreCycleSpans (cycle_of set) (plan_spans set (cycle_of set))
-AreCycleSpans-plan set jobs these =
-    subst (AreCycleSpans (cycle_of set)) (plan_spans-first set jobs these) (AreCycleSpans-between set jobs these)
+-- so the spans of a plan are plan spans
+pub ArePlanSpans-plan_spans : (set : TaskSet) (jobs : List Job) → AreFirstJobs set jobs → ArePlanSpans (plan_spans set (cycle_of set))
+ArePlanSpans-plan_spans set jobs these =
+    subst ArePlanSpans (plan_spans-first set jobs these) (ArePlanSpans-between set jobs these)
+
+-- and the last of them ends with the cycle
+pub last_end-plan_spans : (set : TaskSet) (jobs : List Job) → AreFirstJobs set jobs → last_end 0 (plan_spans set (cycle_of set)) ≡ cycle_of set
+last_end-plan_spans set jobs these =
+    ap (last_end 0) (sym (plan_spans-first set jobs these)) ∙ (last_of_spans jobs (cycle_of set) 0 (first_points set jobs) ∙ last_of_first_points set jobs these)
+
+-- this holds of each plan
+pub ArePlanSpans-from_plan : (plan : PlanParts) → IsPlan plan → ArePlanSpans plan.spans × (last_end 0 plan.spans ≡ plan.cycle)
+ArePlanSpans-from_plan plan is_plan =
+    let these = AreFirstJobs-from_plan plan is_plan in
+    let spans : plan.spans ≡ plan_spans plan.tasks (cycle_of plan.tasks) = is_plan.spans ∙ ap (plan_spans plan.tasks) is_plan.cycle in (
+      subst ArePlanSpans (sym spans) (ArePlanSpans-plan_spans plan.tasks plan.jobs these),
+      ap (last_end 0) spans ∙ (last_end-plan_spans plan.tasks plan.jobs these ∙ sym is_plan.cycle),
+    )

@@ -1,3 +1,2 @@
-pub mod CycleSpans
 pub mod FirstJobs
 pub mod Rows

@@ -4,9 +4,9 @@ use Rattle.slot_core.specs.declared.jobs.Job.{Job}
 use Rattle.slot_core.specs.declared.jobs.Span.{Span}
 use Rattle.slot_core.specs.Demand.{work_between}
 
--- the spans between neighbouring ends, the first from s, each with the work due in it
+-- the spans between neighbouring points, the first from s, each with the work due in it
 abbrev pub rows_between : List Job → ℕ → List ℕ → List Span
 rows_between jobs s [] = []
-rows_between jobs s (e ∷ ends) =
+rows_between jobs s (e ∷ points) =
     record { start = s; end = e; work = work_between jobs s e; spare = pos 0 }
-    ∷ rows_between jobs e ends
+    ∷ rows_between jobs e points

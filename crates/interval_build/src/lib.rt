@@ -1,4 +1,4 @@
-//! Spans built from their ends and the jobs due in them (Fohler 1995). All times are in slots.
+//! Spans built from the points and the jobs due in them (Fohler 1995). All times are in slots.
 #![tactic(auto)]
 
 ghost use Rattle.std.specs.Prelude.{◌≡◌, ◌≤◌, ◌<◌, ◌^◌, length, sum_by, nat_le, All, Contains, IfOk};
@@ -9,7 +9,8 @@ ghost use Rattle.slot_core.specs.Cycles.{cycle_of};
 ghost use Rattle.slot_core.specs.Plans.{AreInDeadlineOrder, plan_spans};
 ghost use Rattle.slot_core.specs.Spans.{spans_between};
 ghost use Rattle.slot_core.specs.Rising.{AreRising, last_point};
-ghost use Rattle.interval_build.specs.CycleSpans.{AreCycleSpans};
+ghost use Rattle.spare_capacity.specs.PlanSpans.{ArePlanSpans};
+ghost use Rattle.spare_capacity.specs.Recurrence.{last_end};
 ghost use Rattle.interval_build.specs.FirstJobs.{AreFirstJobs, IsFirstCycle};
 ghost use Rattle.interval_build.specs.Rows.{rows_between};
 
@@ -17,79 +18,80 @@ mod points;
 #[cfg(test)]
 mod tests;
 
-use crate::points::cycle_ends;
+use crate::points::cycle_points;
 use slot_core::{Job, Memory, Span};
 use std::alloc::Global;
 
 /// The spans of a cycle before its first slot: between the points of its jobs, each with the work
 /// due in it and its spare capacity as the least slack from its start up to the end of the third
 /// cycle. The jobs are those of the first cycle of a feasible set, in deadline order, and no others
-/// are looked at, since the slack of the next cycle is at least 0. Each job is looked at three times,
-/// and each slot twice.
+/// are looked at, since the slack of the next cycle is at least 0. Each job is looked at three
+/// times, and each slot twice.
 pub fn build(alloc: Global, jobs: &[Job], cycle: u32) -> Result<Vec<Span>, Memory>
     requires { IsFirstCycle cycle jobs.now }
     ensures spans { (set : TaskSet) → cycle ≡ cycle_of set → AreFirstJobs set jobs.now
         → IfOk result (λ spans. spans.items ≡ plan_spans set cycle) }
-    ensures cycle { IfOk result (λ spans. AreCycleSpans cycle spans.items) }
+    ensures proper { IfOk result (λ spans. ArePlanSpans spans.items) }
+    ensures whole { IfOk result (λ spans. last_end 0 spans.items ≡ cycle) }
 {
-    let ends = cycle_ends(alloc, jobs, cycle)?;
-    spans_until(alloc, 0, &ends, jobs)
+    let points = cycle_points(alloc, jobs, cycle)?;
+    spans_until(alloc, 0, &points, jobs)
 }
 
-/// The spans between neighbouring ends, the first from `start`, each with the work due in it and
-/// its spare capacity as the least slack up to the last end. The jobs are in deadline order, and
-/// each is due at one of the ends. Each job is looked at twice, and each end once.
+/// The spans between neighbouring points, the first from `start`, each with the work due in it and
+/// its spare capacity as the least slack up to the last point. The jobs are in deadline order, and
+/// each is due at one of the points. Each job is looked at twice, and each point once.
 pub fn spans_until(
     alloc: Global,
     start: u64,
-    ends: &[u64],
+    points: &[u64],
     jobs: &[Job],
 ) -> Result<Vec<Span>, Memory>
-    requires rising { AreRising start ends.now }
-    requires near { last_point start ends.now ≤ 2 ^ 40 }
-    requires few { length ends.now ≤ 2 ^ 20 }
+    requires rising { AreRising start points.now }
+    requires near { last_point start points.now ≤ 2 ^ 40 }
+    requires few { length points.now ≤ 2 ^ 20 }
     requires ordered { AreInDeadlineOrder jobs.now }
-    requires due { All (λ (j : Job). Contains ends.now j.dl) jobs.now }
+    requires due { All (λ (j : Job). Contains points.now j.dl) jobs.now }
     requires small { sum_by (λ (j : Job). j.left) jobs.now ≤ 2 ^ 40 }
     ensures { IfOk result (λ spans.
-        spans.items ≡ spans_between jobs.now (last_point start ends.now) start ends.now) }
+        spans.items ≡ spans_between jobs.now (last_point start points.now) start points.now) }
 {
-    let mut rows = rows_until(alloc, start, ends, jobs)?;
+    let mut rows = rows_until(alloc, start, points, jobs)?;
     spare_capacity::fill(&mut rows);
     Ok(rows)
 }
 
-/// The spans between neighbouring ends with the work due in each, and with no capacities yet.
-fn rows_until(alloc: Global, start: u64, ends: &[u64], jobs: &[Job]) -> Result<Vec<Span>, Memory>
-    requires rising { AreRising start ends.now }
+/// The spans between neighbouring points with the work due in each, and with no capacities yet.
+fn rows_until(alloc: Global, start: u64, points: &[u64], jobs: &[Job]) -> Result<Vec<Span>, Memory>
+    requires rising { AreRising start points.now }
     requires ordered { AreInDeadlineOrder jobs.now }
     requires later { All (λ (j : Job). start < j.dl) jobs.now }
     requires small { sum_by (λ (j : Job). j.left) jobs.now ≤ 2 ^ 40 }
-    ensures { IfOk result (λ rows. rows.items ≡ rows_between jobs.now start ends.now) }
+    ensures { IfOk result (λ rows. rows.items ≡ rows_between jobs.now start points.now) }
 {
     let mut rows = Vec::new(alloc);
     let mut from = start;
     let mut rest = jobs;
-    for end in ends {
-        let (due, later) = rest.split_at(count_due(rest, *end));
+    for point in points {
+        let (due, later) = rest.split_at(count_due(rest, *point));
         rows.push(Span {
             start: from,
-            end: *end,
+            end: *point,
             work: work_of(due),
             spare: 0,
         })?;
-        from = *end;
+        from = *point;
         rest = later;
     }
     Ok(rows)
 }
 
-/// The number of jobs at the front that are due by `end`.
-fn count_due(jobs: &[Job], end: u64) -> usize
-    ensures count { result ≡ prefix_len (λ (j : Job). nat_le j.dl end) jobs.now }
+/// The number of jobs at the front that are due by `point`.
+fn count_due(jobs: &[Job], point: u64) -> usize
+    ensures count { result ≡ prefix_len (λ (j : Job). nat_le j.dl point) jobs.now }
     ensures within { result ≤ length jobs.now }
 {
-    jobs.iter().take_while(|job| job.dl <= end).count()
+    jobs.iter().take_while(|job| job.dl <= point).count()
 }
 
 /// The slots that the jobs have still to run.

@@ -10,27 +10,27 @@ use std::alloc::Global;
 
 /// The points of the first cycle, rising, of its jobs: the ends of their intervals, the starts of
 /// these above 0, and the cycle. One pass over the jobs, and one over the slots.
-pub fn cycle_ends(alloc: Global, jobs: &[Job], cycle: u32) -> Result<Vec<u64>, Memory>
+pub fn cycle_points(alloc: Global, jobs: &[Job], cycle: u32) -> Result<Vec<u64>, Memory>
     requires some { 1 ≤ cycle }
     requires started { All (λ (j : Job). j.est < j.dl) jobs.now }
     requires due { All (λ (j : Job). j.dl ≤ cycle) jobs.now }
-    ensures { IfOk result (λ ends.
-        ends.items ≡ filter (is_point cycle (plan_points cycle jobs.now) []) (range_with_len 1 cycle)) }
+    ensures { IfOk result (λ points. points.items
+        ≡ filter (is_point cycle (plan_points cycle jobs.now) []) (range_with_len 1 cycle)) }
 {
     let starts = least_starts(alloc, jobs, cycle)?;
-    let mut ends = Vec::new(alloc);
+    let mut points = Vec::new(alloc);
     let mut before = 0;
     for (end, start) in starts.iter().enumerate() {
         let end = end as u64;
         if *start < end {
-            push_interval(&mut ends, before, *start, end)?;
+            push_interval(&mut points, before, *start, end)?;
             before = end;
         }
     }
     if before < u64::from(cycle) {
-        ends.push(u64::from(cycle))?;
+        points.push(u64::from(cycle))?;
     }
-    Ok(ends)
+    Ok(points)
 }
 
 /// For each slot of the cycle, and its end, the least start of the jobs due there, or the slot
@@ -60,13 +60,13 @@ fn slots_before(alloc: Global, end: u64) -> Result<Vec<u64>, Memory>
 }
 
 /// Appends an interval's start where it is above the end before it, and then its end.
-fn push_interval(ends: &mut Vec<u64>, before: u64, start: u64, end: u64) -> Result<(), Memory>
-    ensures { OnOk result (ends.new.items
-        ≡ ends.old.items ++ (cond (nat_lt before start) (start ∷ []) [] ++ end ∷ [])) }
+fn push_interval(points: &mut Vec<u64>, before: u64, start: u64, end: u64) -> Result<(), Memory>
+    ensures { OnOk result (points.new.items
+        ≡ points.old.items ++ (cond (nat_lt before start) (start ∷ []) [] ++ end ∷ [])) }
 {
     if before < start {
-        ends.push(start)?;
+        points.push(start)?;
     }
-    ends.push(end)?;
+    points.push(end)?;
     Ok(())
 }

@@ -9,7 +9,7 @@ use std::test::Fail;
 
 #[test]
 fn builds_spans_that_borrow(rt: HostRuntime) -> Result<(), Fail> {
-    let ends = [4, 10, 14, 20, 24, 30];
+    let points = [4, 10, 14, 20, 24, 30];
     let jobs = [
         job(1, 4, 1),
         job(2, 10, 8),
@@ -18,7 +18,7 @@ fn builds_spans_that_borrow(rt: HostRuntime) -> Result<(), Fail> {
         job(5, 24, 1),
         job(6, 30, 8),
     ];
-    let spans = spans_until(rt.alloc(), 0, &ends, &jobs)?;
+    let spans = spans_until(rt.alloc(), 0, &points, &jobs)?;
     let rows = [
         (0, 4, 1, 1),
         (4, 10, 8, -2),

@@ -7,7 +7,7 @@ use Rattle.slot_core.specs.declared.jobs.Span.{Span}
 use Rattle.spare_capacity.specs.Recurrence.{filled, first_spare, with_spare, FollowOn, first_start, last_end}
 use Rattle.spare_capacity.proofs.Free.{rest-filled}
 use Rattle.spare_capacity.proofs.Steps.{no_row}
-use Rattle.interval_row.specs.Tables.{AreProper}
+use Rattle.spare_capacity.specs.PlanSpans.{AreProper}
 use Rattle.interval_row.specs.Changes.{apart_from, cut, part_before, part_from}
 use Rattle.interval_row.specs.Rows.{place_of, HoldsInside}
 use Rattle.interval_row.proofs.Fillings.{filled-first, with_spare-LendsSame, LendsSame}

@@ -6,29 +6,29 @@ use Rattle.std.proofs.lemmas.List.{length-append, length-map, drop-append-le}
 use Rattle.slot_core.specs.declared.jobs.Span.{Span}
 use Rattle.spare_capacity.specs.Recurrence.{filled, first_spare, with_spare, FollowOn, first_start, last_end}
 use Rattle.spare_capacity.proofs.Steps.{no_row}
-use Rattle.interval_row.specs.Tables.{AreProper, ArePlanSpans}
-use Rattle.interval_row.specs.Changes.{appended, copies_of, moved}
+use Rattle.spare_capacity.specs.PlanSpans.{AreProper, ArePlanSpans}
+use Rattle.interval_row.specs.Changes.{appended, copies_of, shifted}
 use Rattle.interval_row.proofs.Fillings.{with_spare-LendsSame, LendsSame}
 
--- a moved span has its capacity where the one that is not moved has it
-with_spare-moved : (by : ℕ) (s : Span) (later : ℤ) → with_spare (moved by s) later ≡ moved by (with_spare s later)
-with_spare-moved by s later =
+-- a shifted span has its capacity where the one that is not shifted has it
+with_spare-shifted : (by : ℕ) (s : Span) (later : ℤ) → with_spare (shifted by s) later ≡ shifted by (with_spare s later)
+with_spare-shifted by s later =
     let same : (s.end + by) - (s.start + by) ≡ s.end - s.start = omega arith in
     rw same refl
 
-first_spare-moved : (by : ℕ) (spans : List Span) → first_spare (map (moved by) spans) ≡ first_spare spans
-first_spare-moved by [] = refl
-first_spare-moved by (s ∷ ss) = refl
+first_spare-shifted : (by : ℕ) (spans : List Span) → first_spare (map (shifted by) spans) ≡ first_spare spans
+first_spare-shifted by [] = refl
+first_spare-shifted by (s ∷ ss) = refl
 
--- moved spans have their capacities
-filled-moved : (by : ℕ) (spans : List Span) → filled (map (moved by) spans) ≡ map (moved by) (filled spans)
-filled-moved by [] = refl
-filled-moved by (s ∷ ss) =
-    let rest : filled (map (moved by) ss) ≡ map (moved by) (filled ss) = filled-moved by ss in
-    let later : first_spare (filled (map (moved by) ss)) ≡ first_spare (filled ss) = ap first_spare rest ∙ first_spare-moved by (filled ss) in
-    ap (λ m. with_spare (moved by s) m ∷ filled (map (moved by) ss)) later
-    ∙ ap (λ xs. with_spare (moved by s) (first_spare (filled ss)) ∷ xs) rest
-    ∙ ap (λ x. x ∷ map (moved by) (filled ss)) (with_spare-moved by s (first_spare (filled ss)))
+-- shifted spans have their capacities
+filled-shifted : (by : ℕ) (spans : List Span) → filled (map (shifted by) spans) ≡ map (shifted by) (filled spans)
+filled-shifted by [] = refl
+filled-shifted by (s ∷ ss) =
+    let rest : filled (map (shifted by) ss) ≡ map (shifted by) (filled ss) = filled-shifted by ss in
+    let later : first_spare (filled (map (shifted by) ss)) ≡ first_spare (filled ss) = ap first_spare rest ∙ first_spare-shifted by (filled ss) in
+    ap (λ m. with_spare (shifted by s) m ∷ filled (map (shifted by) ss)) later
+    ∙ ap (λ xs. with_spare (shifted by s) (first_spare (filled ss)) ∷ xs) rest
+    ∙ ap (λ x. x ∷ map (shifted by) (filled ss)) (with_spare-shifted by s (first_spare (filled ss)))
 
 -- what borrows nothing changes no capacity before it
 LendsSame-append : (xs ys : List Span) → pos 0 ≤ℤ first_spare ys → LendsSame (first_spare (xs ++ ys)) (first_spare xs)
@@ -46,17 +46,17 @@ pub FollowOn-append : (start : ℕ) (xs ys : List Span) → FollowOn start xs �
 FollowOn-append start [] ys h g = g
 FollowOn-append start (s ∷ ss) ys h g = (h.0, h.1, h.2, h.3, FollowOn-append s.end ss ys h.4 g)
 
-pub FollowOn-moved : (start by : ℕ) (spans : List Span) → FollowOn start spans → FollowOn (start + by) (map (moved by) spans)
-FollowOn-moved start by [] h = h
-FollowOn-moved start by (s ∷ ss) h = (ap (λ n. n + by) h.0, omega (arith, h.1), omega (arith, h.2), h.3, FollowOn-moved s.end by ss h.4)
+pub FollowOn-shifted : (start by : ℕ) (spans : List Span) → FollowOn start spans → FollowOn (start + by) (map (shifted by) spans)
+FollowOn-shifted start by [] h = h
+FollowOn-shifted start by (s ∷ ss) h = (ap (λ n. n + by) h.0, omega (arith, h.1), omega (arith, h.2), h.3, FollowOn-shifted s.end by ss h.4)
 
 pub AreProper-append : (xs ys : List Span) → AreProper xs → AreProper ys → AreProper (xs ++ ys)
 AreProper-append [] ys h g = g
 AreProper-append (s ∷ ss) ys h g = (h.0, AreProper-append ss ys h.1 g)
 
-pub AreProper-moved : (by : ℕ) (spans : List Span) → AreProper spans → AreProper (map (moved by) spans)
-AreProper-moved by [] h = h
-AreProper-moved by (s ∷ ss) h = (omega (arith, h.0), AreProper-moved by ss h.1)
+pub AreProper-shifted : (by : ℕ) (spans : List Span) → AreProper spans → AreProper (map (shifted by) spans)
+AreProper-shifted by [] h = h
+AreProper-shifted by (s ∷ ss) h = (omega (arith, h.0), AreProper-shifted by ss h.1)
 
 -- the last end does not depend on the start where there is a span
 pub last_end-some : (a b : ℕ) (spans : List Span) → 1 ≤ length spans → last_end a spans ≡ last_end b spans
@@ -84,10 +84,10 @@ first_start-append (s ∷ ss) ys l = refl
 pub filled-appended : (spans rows : List Span) → ArePlanSpans spans → rows ≡ filled rows → appended spans rows ≡ filled (appended spans rows)
 filled-appended spans rows plan e =
     let by = last_end 0 rows in
-    let own : filled (map (moved by) spans) ≡ map (moved by) spans = filled-moved by spans ∙ ap (map (moved by)) (sym plan.filled) in
-    let first : first_spare (filled (map (moved by) spans)) ≡ first_spare spans = ap first_spare own ∙ first_spare-moved by spans in
-    let high : pos 0 ≤ℤ first_spare (filled (map (moved by) spans)) = rw first plan.first in
-    ap (λ xs. xs ++ map (moved by) spans) e ∙ ap (λ ys. filled rows ++ ys) (sym own) ∙ sym (filled-append rows (map (moved by) spans) high)
+    let own : filled (map (shifted by) spans) ≡ map (shifted by) spans = filled-shifted by spans ∙ ap (map (shifted by)) (sym plan.filled) in
+    let first : first_spare (filled (map (shifted by) spans)) ≡ first_spare spans = ap first_spare own ∙ first_spare-shifted by spans in
+    let high : pos 0 ≤ℤ first_spare (filled (map (shifted by) spans)) = rw first plan.first in
+    ap (λ xs. xs ++ map (shifted by) spans) e ∙ ap (λ ys. filled rows ++ ys) (sym own) ∙ sym (filled-append rows (map (shifted by) spans) high)
 
 pub length-appended : (spans rows : List Span) → length (appended spans rows) ≡ length rows + length spans
 length-appended spans rows = simp (length-append, length-map)
@@ -101,7 +101,7 @@ last_end-drop (suc n) start (s ∷ ss) l = last_end-drop n s.end ss l ∙ last_e
 -- to append to the rows from a place on is to append to all
 pub drop-appended : (n : ℕ) (spans rows : List Span) → n ≤ length rows → 1 ≤ length (drop n rows) → drop n (appended spans rows) ≡ appended spans (drop n rows)
 drop-appended n spans rows within some =
-    drop-append-le n rows (map (moved (last_end 0 rows)) spans) within ∙ ap (λ by. drop n rows ++ map (moved by) spans) (last_end-drop n 0 rows some)
+    drop-append-le n rows (map (shifted (last_end 0 rows)) spans) within ∙ ap (λ by. drop n rows ++ map (shifted by) spans) (last_end-drop n 0 rows some)
 
 -- copies of a plan's spans: consecutive from 0, proper, with their capacities, as many as they should be
 pub record AreCopies (spans : List Span) (n : ℕ) (rows : List Span) : Type 0 where
@@ -113,10 +113,10 @@ pub record AreCopies (spans : List Span) (n : ℕ) (rows : List Span) : Type 0 w
 AreCopies-appended : (spans : List Span) (n : ℕ) (rows : List Span) → ArePlanSpans spans → AreCopies spans n rows → AreCopies spans (suc n) (appended spans rows)
 AreCopies-appended spans n rows plan h =
     let by = last_end 0 rows in
-    let follow : FollowOn by (map (moved by) spans) = subst (λ k. FollowOn k (map (moved by) spans)) (zero-add by) (FollowOn-moved 0 by spans plan.consecutive) in
+    let follow : FollowOn by (map (shifted by) spans) = subst (λ k. FollowOn k (map (shifted by) spans)) (zero-add by) (FollowOn-shifted 0 by spans plan.consecutive) in
     record {
-      consecutive = FollowOn-append 0 rows (map (moved by) spans) h.consecutive follow;
-      proper = AreProper-append rows (map (moved by) spans) h.proper (AreProper-moved by spans plan.proper);
+      consecutive = FollowOn-append 0 rows (map (shifted by) spans) h.consecutive follow;
+      proper = AreProper-append rows (map (shifted by) spans) h.proper (AreProper-shifted by spans plan.proper);
       filled = filled-appended spans rows plan h.filled;
       count = omega (arith, h.count, length-appended spans rows);
     }

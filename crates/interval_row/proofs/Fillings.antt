@@ -4,7 +4,7 @@ use Rattle.std.specs.Int.{int_min}
 use Rattle.slot_core.specs.declared.jobs.Span.{Span}
 use Rattle.spare_capacity.specs.Recurrence.{AreConsecutive, FollowOn, filled, first_spare, first_start, last_end, room, with_spare}
 use Rattle.spare_capacity.proofs.Stale.{IsStaleAt-filled}
-use Rattle.interval_row.specs.Tables.{AreProper}
+use Rattle.spare_capacity.specs.PlanSpans.{AreProper}
 
 -- capacities change no length, and leave rows proper
 pub length-filled : (rows : List Span) → length (filled rows) ≡ length rows

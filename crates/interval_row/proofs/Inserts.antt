@@ -38,8 +38,8 @@ put_from rows written k =
     ap (λ xs. take k rows ++ (written ++ xs)) none ∙ ap (λ xs. take k rows ++ xs) (append-nil written)
 
 -- what a place before the rows becomes
-moved_front : (x : Span) (rows : List Span) (place : ℕ) (row : Span) → (drop 1 (take (suc place) (x ∷ rows)) ++ row ∷ []) ++ drop (suc place) (x ∷ rows) ≡ insert rows place row
-moved_front x rows place row = append_assoc (take place rows) (row ∷ []) (drop place rows)
+insert-after_first : (x : Span) (rows : List Span) (place : ℕ) (row : Span) → (drop 1 (take (suc place) (x ∷ rows)) ++ row ∷ []) ++ drop (suc place) (x ∷ rows) ≡ insert rows place row
+insert-after_first x rows place row = append_assoc (take place rows) (row ∷ []) (drop place rows)
 
 inserted_after : (items : List Span) (k place n : ℕ) (row : Span) → n ≡ length items → suc k + place ≤ length items → let all = put_mid k (suc place) items (drop 1 (take (suc place) (drop k items)) ++ row ∷ []) in drop k (take n (all ++ drop (length all) items)) ≡ insert (drop (suc k) items) place row
 inserted_after items k place n row count within =
@@ -51,7 +51,7 @@ inserted_after items k place n row count within =
     let front : drop k all ≡ written ++ drop (suc place) (drop k items) = drop_at (take k items) (written ++ drop (suc place) (drop k items)) k (length-take-le k items (omega arith)) in
     let split : drop k items ≡ get_or items k no_row ∷ drop (suc k) items = rw (← add-one) (drop_more items k no_row (omega arith)) in
     let parts = λ (xs : List Span). (drop 1 (take (suc place) xs) ++ row ∷ []) ++ drop (suc place) xs in
-    ap (drop k) back ∙ front ∙ ap parts split ∙ moved_front (get_or items k no_row) (drop (suc k) items) place row
+    ap (drop k) back ∙ front ∙ ap parts split ∙ insert-after_first (get_or items k no_row) (drop (suc k) items) place row
 
 -- a row put in where the ones before it move to the front
 pub inserted : (items : List Span) (head place n : ℕ) (row : Span) → n ≡ length items → (head ≡ 0 → ⊥) → head + place ≤ length items → let mid = take (head + place - (head - 1)) (drop (head - 1) items) in let all = put_mid (head - 1) (head + place - (head - 1)) items (drop 1 mid ++ row ∷ []) in drop (head - 1) (take n (all ++ drop (length all) items)) ≡ insert (drop head items) place row

@@ -4,11 +4,11 @@ use Rattle.std.proofs.lemmas.Bool.{cond_both, eqb-true, eqb-false}
 use Rattle.slot_core.specs.declared.jobs.Span.{Span}
 use Rattle.spare_capacity.specs.Recurrence.{filled, FollowOn, first_start, last_end}
 use Rattle.spare_capacity.proofs.Steps.{no_row}
-use Rattle.interval_row.specs.Tables.{AreProper, ArePlanSpans}
-use Rattle.interval_row.specs.Changes.{after_pass, appended, cut, moved, span_ending, with_less, with_more, with_work}
+use Rattle.spare_capacity.specs.PlanSpans.{AreProper, ArePlanSpans}
+use Rattle.interval_row.specs.Changes.{after_pass, appended, cut, shifted, span_ending, with_less, with_more, with_work}
 use Rattle.interval_row.specs.Rows.{AreRows, place_of, with_work_at}
 use Rattle.interval_row.proofs.Cuts.{AreProper-cut, FollowOn-cut, length-cut, first_start-cut}
-use Rattle.interval_row.proofs.Cycles.{filled-appended, length-appended, last_end-some, FollowOn-append, FollowOn-moved, AreProper-append, AreProper-moved, first_start-append, AreCopies}
+use Rattle.interval_row.proofs.Cycles.{filled-appended, length-appended, last_end-some, FollowOn-append, FollowOn-shifted, AreProper-append, AreProper-shifted, first_start-append, AreCopies}
 use Rattle.spare_capacity.proofs.Stale.{filled-filled, FollowOn-filled}
 use Rattle.interval_row.proofs.Fillings.{length-filled, first_start-filled, AreProper-filled}
 use Rattle.interval_row.proofs.Places.{work-le, IsDueAt, IsDueAt-span_ending}
@@ -113,11 +113,11 @@ AreRows-appended spans rows plan h few =
     let by = last_end 0 rows in
     let same : last_end (first_start rows) rows ≡ by = last_end-some (first_start rows) 0 rows h.some in
     let zero_by : 0 + by ≡ last_end (first_start rows) rows = omega (arith, same) in
-    let follow : FollowOn (last_end (first_start rows) rows) (map (moved by) spans) = subst (λ n. FollowOn n (map (moved by) spans)) zero_by (FollowOn-moved 0 by spans plan.consecutive) in
+    let follow : FollowOn (last_end (first_start rows) rows) (map (shifted by) spans) = subst (λ n. FollowOn n (map (shifted by) spans)) zero_by (FollowOn-shifted 0 by spans plan.consecutive) in
     record {
       some = omega (arith, h.some, length-appended spans rows);
-      consecutive = rw (first_start-append rows (map (moved by) spans) h.some) (FollowOn-append (first_start rows) rows (map (moved by) spans) h.consecutive follow);
-      proper = AreProper-append rows (map (moved by) spans) h.proper (AreProper-moved by spans plan.proper);
+      consecutive = rw (first_start-append rows (map (shifted by) spans) h.some) (FollowOn-append (first_start rows) rows (map (shifted by) spans) h.consecutive follow);
+      proper = AreProper-append rows (map (shifted by) spans) h.proper (AreProper-shifted by spans plan.proper);
       filled = filled-appended spans rows plan h.filled;
       few = omega (arith, few, length-appended spans rows);
     }

@@ -4,7 +4,8 @@ use Rattle.slot_core.specs.declared.jobs.Span.{Span}
 use Rattle.spare_capacity.proofs.Steps.{no_row}
 use Rattle.interval_row.specs.declared.table.Spot.{Spot}
 use Rattle.spare_capacity.specs.Recurrence.{filled, first_start, last_end}
-use Rattle.interval_row.specs.Tables.{spans_of_pairs, span_at, spot_at, ArePlanSpans, IsTable}
+use Rattle.spare_capacity.specs.PlanSpans.{ArePlanSpans}
+use Rattle.interval_row.specs.Tables.{spans_of_pairs, span_at, spot_at, IsTable}
 use Rattle.interval_row.specs.Changes.{after_pass, appended, copies_of, cut}
 use Rattle.interval_row.specs.RowTables.{numbered, AreKept, RowParts}
 use Rattle.interval_row.specs.Rows.{AreRows}

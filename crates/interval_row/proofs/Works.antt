@@ -5,7 +5,7 @@ use Rattle.spare_capacity.specs.Recurrence.{filled, FollowOn, first_start}
 use Rattle.spare_capacity.proofs.Stale.{IsStaleAt-filled, IsStaleAt-set}
 use Rattle.spare_capacity.proofs.Steps.{no_row}
 use Rattle.spare_capacity.specs.Refill.{IsStaleAt}
-use Rattle.interval_row.specs.Tables.{AreProper}
+use Rattle.spare_capacity.specs.PlanSpans.{AreProper}
 use Rattle.interval_row.specs.Rows.{with_work_at}
 
 -- to write the row with the work

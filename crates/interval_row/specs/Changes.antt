@@ -51,12 +51,12 @@ abbrev pub apart_from : ℕ → List Span → List Span
 apart_from at spans = filter (λ (s : Span). nat_lt s.end at || nat_lt at s.start) spans
 
 -- the span, so many slots later
-abbrev pub moved : ℕ → Span → Span
-moved by s = record s { start = s.start + by; end = s.end + by }
+abbrev pub shifted : ℕ → Span → Span
+shifted by s = record s { start = s.start + by; end = s.end + by }
 
--- the rows, and then the spans moved to their last end
+-- the rows, and then the spans shifted to their last end
 abbrev pub appended : List Span → List Span → List Span
-appended spans rows = rows ++ map (moved (last_end 0 rows)) spans
+appended spans rows = rows ++ map (shifted (last_end 0 rows)) spans
 
 -- so many copies of the spans, one after the other
 abbrev pub copies_of : List Span → ℕ → List Span

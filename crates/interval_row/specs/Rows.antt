@@ -2,7 +2,7 @@
 use Rattle.std.specs.Prelude.{◌≡◌, ℕ, zero, suc, ◌≤◌, ◌<◌, ◌^◌, List, [], ◌∷◌, length, nat_lt, if◌then◌else◌}
 use Rattle.slot_core.specs.declared.jobs.Span.{Span}
 use Rattle.spare_capacity.specs.Recurrence.{filled, first_start, FollowOn}
-use Rattle.interval_row.specs.Tables.{AreProper}
+use Rattle.spare_capacity.specs.PlanSpans.{AreProper}
 
 -- some rows, consecutive, proper, with their capacities by the recurrence, and at most 2 ^ 20
 pub record AreRows (rows : List Span) : Type 0 where

@@ -1,8 +1,8 @@
--- What a table of spans is, and what a plan's spans are.
-use Rattle.std.specs.Prelude.{◌≡◌, ℕ, ◌≤◌, ◌<◌, ◌^◌, pos, ◌≤ℤ◌, List, length, map, Option, Some, slice_get}
-use Rattle.std.specs.List.{AllByRecursion}
+-- What a table of spans is.
+use Rattle.std.specs.Prelude.{◌≡◌, ℕ, ◌≤◌, ◌^◌, List, length, map, Option, Some, slice_get}
 use Rattle.slot_core.specs.declared.jobs.Span.{Span}
-use Rattle.spare_capacity.specs.Recurrence.{filled, first_spare, FollowOn}
+use Rattle.spare_capacity.specs.PlanSpans.{AreProper}
+use Rattle.spare_capacity.specs.Recurrence.{filled, FollowOn}
 use Rattle.interval_row.specs.declared.table.Spot.{Spot}
 
 -- the spans without their spots
@@ -20,19 +20,6 @@ span_at pairs i = slice_get (spans_of_pairs pairs) i
 -- the spot names one of the spans
 abbrev pub IsLive : List (Spot × Span) → Spot → Type 0
 IsLive pairs spot = (i : ℕ) × (spot_at pairs i ≡ Some spot)
-
--- each span has its end above its start
-abbrev pub AreProper : List Span → Type 0
-AreProper spans = AllByRecursion (λ (s : Span). s.start < s.end) spans
-
--- a plan's spans: some, consecutive from 0, proper, with their capacities by the recurrence, the
--- first of which is at least 0
-pub record ArePlanSpans (spans : List Span) : Type 0 where
-  pub some : 1 ≤ length spans
-  pub consecutive : FollowOn 0 spans
-  pub proper : AreProper spans
-  pub filled : spans ≡ filled spans
-  pub first : pos 0 ≤ℤ first_spare spans
 
 -- a table at a time: some spans, each with a spot of its own, consecutive from the time, proper,
 -- with their capacities by the recurrence, and no more than it has room for

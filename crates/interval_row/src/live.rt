@@ -2,7 +2,7 @@
 
 ghost use Rattle.std.specs.Prelude.{◌≡◌, ◌+◌, ◌≤◌, ◌<◌, ◌^◌, [], ◌∷◌, ◌++◌, insert, length, drop, IsSomeAnd, vec_len, vec_capacity};
 ghost use Rattle.spare_capacity.specs.Recurrence.{filled, first_start, last_end};
-ghost use Rattle.interval_row.specs.Changes.{after_pass, appended, cut, moved, span_ending, with_less, with_more};
+ghost use Rattle.interval_row.specs.Changes.{after_pass, appended, cut, shifted, span_ending, with_less, with_more};
 ghost use Rattle.interval_row.specs.Rows.{AreRows};
 
 use crate::rows;
@@ -96,8 +96,8 @@ fn shift(rows: &mut [Span], row: Span)
     rows[last] = row;
 }
 
-/// Appends the spans to the rows from `head` on, moved to the last end, and returns where the rows
-/// begin afterwards. Where the list has no places left at its end, the rows move to its front.
+/// Appends the spans to the rows from `head` on, shifted to the last end, and returns where the
+/// rows begin afterwards. Where the list has no places left at its end, the rows move to its front.
 pub fn extend(rows: &mut Vec<Span>, head: usize, spans: &[Span]) -> usize
     requires within { head ≤ vec_len rows.old }
     requires rows { AreRows (drop head rows.old.items) }
@@ -127,7 +127,7 @@ fn drop_front(rows: &mut Vec<Span>, head: usize)
     rows.truncate(rows.len() - head);
 }
 
-/// Appends the spans, moved to the last end.
+/// Appends the spans, shifted to the last end.
 pub fn append(rows: &mut Vec<Span>, spans: &[Span])
     requires free { vec_len rows.old + length spans.now ≤ vec_capacity rows.old }
     requires spans { AreRows spans.now }
@@ -137,15 +137,15 @@ pub fn append(rows: &mut Vec<Span>, spans: &[Span])
 {
     let by = rows::last_end(rows.as_slice());
     for span in spans {
-        let _pushed = rows.push(moved(*span, by));
+        let _pushed = rows.push(shifted(*span, by));
     }
 }
 
 /// The span, so many slots later.
-fn moved(span: Span, by: u64) -> Span
+fn shifted(span: Span, by: u64) -> Span
     requires start { span.start + by < 2 ^ 64 }
     requires end { span.end + by < 2 ^ 64 }
-    ensures { result ≡ moved by span }
+    ensures { result ≡ shifted by span }
 {
     Span {
         start: span.start + by,

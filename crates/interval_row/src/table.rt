@@ -2,10 +2,11 @@
 
 ghost use Rattle.std.specs.Prelude.{◌≡◌, ℕ, ◌+◌, ◌*◌, ◌≤◌, ◌<◌, ◌^◌, Bool, List, length, Option, Some, IfOk, IsSome, IsSomeAnd, IsTrue};
 ghost use Rattle.slot_core.specs.declared.jobs.Span.{Span};
+ghost use Rattle.spare_capacity.specs.PlanSpans.{ArePlanSpans};
 ghost use Rattle.spare_capacity.specs.Recurrence.{filled, last_end};
 ghost use Rattle.interval_row.specs.declared.table.Spot.{Spot};
 ghost use Rattle.interval_row.specs.Changes.{after_pass, appended, apart_from, copies_of, cut, ends_before, span_ending, with_less, with_more};
-ghost use Rattle.interval_row.specs.Tables.{ArePlanSpans, IsLive, IsTable, span_at, spans_of_pairs, spot_at};
+ghost use Rattle.interval_row.specs.Tables.{IsLive, IsTable, span_at, spans_of_pairs, spot_at};
 
 use slot_core::{Memory, Span, Steps};
 use std::alloc::Global;
@@ -138,7 +139,7 @@ pub trait SpareTable: Drop {
         ensures few_steps { IsTrue counted
             → steps.new ≤ steps.old + ends_before at (spans_of_pairs (pairs self.old)) + 5 };
 
-    /// Appends a plan's spans, moved to the last end. At most two steps an appended span.
+    /// Appends a plan's spans, shifted to the last end. At most two steps an appended span.
     fn append_cycle<L: Ledger>(&mut self, spans: &[Span], steps: &mut Steps<L>)
         requires plan { ArePlanSpans spans.now }
         requires free { length (pairs self.old) + length spans.now ≤ limit self.old }

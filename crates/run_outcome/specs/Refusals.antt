@@ -3,7 +3,10 @@ use Rattle.std.specs.Prelude.{ℕ, Bool, true, false, List, [], ◌∷◌, ◌++
 use Rattle.slot_core.specs.FaultTexts.{task_fault_text, infeasible_text}
 use Rattle.slot_core.specs.Texts.{worded}
 use Rattle.slot_core.specs.declared.faults.TaskFault.{TaskFault}
-use Rattle.slot_core.specs.declared.faults.TaskFault.TheVariants.{Memory as NoMemory}
+use Rattle.slot_core.specs.declared.faults.TaskFault.TheVariants.{Memory as TasksMemory}
+use Rattle.arrival_csv.specs.FaultTexts.{arrival_fault_text}
+use Rattle.arrival_csv.specs.declared.faults.ArrivalFault.{ArrivalFault}
+use Rattle.arrival_csv.specs.declared.faults.ArrivalFault.TheVariants.{Memory as ArrivalsMemory}
 use Rattle.run_outcome.specs.declared.status.Status.{Status}
 use Rattle.run_outcome.specs.declared.file.File.{File}
 use Rattle.run_outcome.specs.declared.file.File.TheVariants.{Tasks, Arrivals}
@@ -28,10 +31,14 @@ abbrev pub limit_of : File → ℕ
 limit_of Tasks = TASK_FILE_LIMIT
 limit_of Arrivals = ARRIVALS_FILE_LIMIT
 
--- the refusal of a fault of the task file
-abbrev pub refusal_of_fault : TaskFault → Refusal
-refusal_of_fault NoMemory = Memory
-refusal_of_fault fault = BadTasks fault
+-- the refusal of a fault of the task file, and of the arrivals file
+abbrev pub refusal_of_task_fault : TaskFault → Refusal
+refusal_of_task_fault TasksMemory = Memory
+refusal_of_task_fault fault = BadTasks fault
+
+abbrev pub refusal_of_arrival_fault : ArrivalFault → Refusal
+refusal_of_arrival_fault ArrivalsMemory = Memory
+refusal_of_arrival_fault fault = BadArrivals fault
 
 -- the status of a refusal, and of a run
 abbrev pub refusal_status : Refusal → Status
@@ -40,7 +47,7 @@ refusal_status (Unreadable file) = Status.FileFault
 refusal_status (TooLarge file) = Status.TooLarge
 refusal_status (BadTasks fault) = Status.BadTasks
 refusal_status (Infeasible window) = Status.Infeasible
-refusal_status BadArrivals = Status.BadArrivals
+refusal_status (BadArrivals fault) = Status.BadArrivals
 refusal_status WriteFault = Status.WriteFault
 refusal_status Memory = Status.Memory
 
@@ -57,7 +64,7 @@ reason_of words (Unreadable file) = codes "cannot read " ++ name_of words file
 reason_of words (TooLarge file) = codes "too large " ++ worded (name_of words file) (limit_of file)
 reason_of words (BadTasks fault) = codes "tasks " ++ task_fault_text fault
 reason_of words (Infeasible window) = infeasible_text window
-reason_of words BadArrivals = codes "arrivals too many"
+reason_of words (BadArrivals fault) = codes "arrivals " ++ arrival_fault_text fault
 reason_of words WriteFault = codes "cannot write"
 reason_of words Memory = codes "out of memory"
 
@@ -85,19 +92,17 @@ abbrev pub is_found : Refusal → Bool
 is_found (TooLarge file) = true
 is_found (BadTasks fault) = true
 is_found (Infeasible window) = true
-is_found BadArrivals = true
+is_found (BadArrivals fault) = true
 is_found _ = false
 
 -- the refusal leaves the output as it was
 abbrev pub leaves_output : Refusal → Bool
 leaves_output WriteFault = false
-leaves_output Memory = false
 leaves_output _ = true
 
 -- the line of the refusal tells no value, so that it takes no memory
 abbrev pub has_fixed_line : Refusal → Bool
 has_fixed_line Usage = true
-has_fixed_line BadArrivals = true
 has_fixed_line WriteFault = true
 has_fixed_line Memory = true
 has_fixed_line _ = false

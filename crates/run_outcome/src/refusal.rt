@@ -1,10 +1,11 @@
 //! Every way in which a run ends that is not Done.
 
 ghost use Rattle.std.specs.Prelude.{◌≡◌};
-ghost use Rattle.run_outcome.specs.Refusals.{refusal_status, refusal_of_fault};
+ghost use Rattle.run_outcome.specs.Refusals.{refusal_status, refusal_of_task_fault, refusal_of_arrival_fault};
 ghost use Rattle.run_outcome.specs.declared.refusal.Refusal.TheVariants.{WriteFault as WriteRefusal, Memory as MemoryRefusal};
 
 use crate::{File, Status};
+use arrival_csv::ArrivalFault;
 use slot_core::{Failed, Memory, TaskFault, Window};
 use std::error::Error;
 use std::fmt;
@@ -22,8 +23,8 @@ pub enum Refusal {
     BadTasks(TaskFault),
     /// A window has more demand than slots.
     Infeasible(Window),
-    /// The arrivals file has a byte.
-    BadArrivals,
+    /// The bytes of the arrivals file write no arrivals that fit the set and the slots.
+    BadArrivals(ArrivalFault),
     /// The output takes no more.
     WriteFault,
     /// Memory ran out.
@@ -41,7 +42,7 @@ impl Refusal {
             Refusal::TooLarge(_) => Status::TooLarge,
             Refusal::BadTasks(_) => Status::BadTasks,
             Refusal::Infeasible(_) => Status::Infeasible,
-            Refusal::BadArrivals => Status::BadArrivals,
+            Refusal::BadArrivals(_) => Status::BadArrivals,
             Refusal::WriteFault => Status::WriteFault,
             Refusal::Memory => Status::Memory,
         }
@@ -64,7 +65,7 @@ impl fmt::Display for Refusal {
             Refusal::TooLarge(file) => write!(f, "too large {file} {}", file.limit()),
             Refusal::BadTasks(fault) => write!(f, "tasks {fault}"),
             Refusal::Infeasible(w) => write!(f, "infeasible {} {} {}", w.from, w.until, w.demand),
-            Refusal::BadArrivals => write!(f, "arrivals too many"),
+            Refusal::BadArrivals(fault) => write!(f, "arrivals {fault}"),
             Refusal::WriteFault => write!(f, "cannot write"),
             Refusal::Memory => write!(f, "out of memory"),
         }
@@ -90,12 +91,23 @@ impl From<Failed> for Refusal {
 }
 
 impl From<TaskFault> for Refusal {
-    ghost from_gives = { λ fault refusal. refusal ≡ refusal_of_fault fault };
+    ghost from_gives = { λ fault refusal. refusal ≡ refusal_of_task_fault fault };
 
     fn from(fault: TaskFault) -> Refusal {
         match fault {
             TaskFault::Memory => Refusal::Memory,
             other => Refusal::BadTasks(other),
+        }
+    }
+}
+
+impl From<ArrivalFault> for Refusal {
+    ghost from_gives = { λ fault refusal. refusal ≡ refusal_of_arrival_fault fault };
+
+    fn from(fault: ArrivalFault) -> Refusal {
+        match fault {
+            ArrivalFault::Memory => Refusal::Memory,
+            other => Refusal::BadArrivals(other),
         }
     }
 }

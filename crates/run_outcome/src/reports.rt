@@ -3,11 +3,13 @@
 ghost use Rattle.std.specs.Prelude.{◌≡◌, ◌++◌, ℕ, List, false, IfOk, IfSome, OnOk, codes, is_some, string_bytes};
 ghost use Rattle.slot_core.specs.FaultTexts.{task_fault_text};
 ghost use Rattle.slot_core.specs.Texts.{worded};
+ghost use Rattle.arrival_csv.specs.FaultTexts.{arrival_fault_text};
 ghost use Rattle.run_outcome.specs.Refusals.{reason_of, refusal_line, has_fixed_line};
 ghost use Rattle.run_outcome.specs.Reports.{IsTold, IsReport};
 
 use crate::append::{push, push_window, push_worded};
 use crate::{OUT_OF_MEMORY, Refusal};
+use arrival_csv::ArrivalFault;
 use slot_core::{Memory, TaskFault, Words};
 use slot_io::Sink;
 use std::alloc::Global;
@@ -55,7 +57,6 @@ fn fixed_line(refusal: Refusal) -> Option<&'static [u8]>
         Refusal::Usage => Some(
             b"usage: slotshift check T, table T, show B, replay T A N, replay-table B A N, gantt T A N, selfrun N\n",
         ),
-        Refusal::BadArrivals => Some(b"arrivals too many\n"),
         Refusal::WriteFault => Some(b"cannot write\n"),
         Refusal::Memory => Some(OUT_OF_MEMORY),
         _ => None,
@@ -84,20 +85,21 @@ fn push_reason(
     ensures { OnOk result (line.new.items ≡ line.old.items ++ reason_of words.now refusal) }
 {
     match refusal {
-        Refusal::Unreadable(file) => push_unreadable(line, file.name(words).as_bytes()),
+        Refusal::Unreadable(file) => push_both(line, b"cannot read ", file.name(words).as_bytes()),
         Refusal::TooLarge(file) => push_too_large(line, file.name(words).as_bytes(), file.limit()),
         Refusal::BadTasks(fault) => push_bad_tasks(alloc, line, fault),
+        Refusal::BadArrivals(fault) => push_bad_arrivals(alloc, line, fault),
         Refusal::Infeasible(window) => push_window(line, window),
         _ => Ok(()),
     }
 }
 
-/// Appends that the file of this name cannot be read.
-fn push_unreadable(line: &mut Vec<u8>, name: &[u8]) -> Result<(), Memory>
-    ensures { OnOk result (line.new.items ≡ line.old.items ++ (codes "cannot read " ++ name.now)) }
+/// Appends the bytes of both.
+fn push_both(line: &mut Vec<u8>, first: &[u8], second: &[u8]) -> Result<(), Memory>
+    ensures { OnOk result (line.new.items ≡ line.old.items ++ (first.now ++ second.now)) }
 {
-    push(line, b"cannot read ")?;
-    push(line, name)
+    push(line, first)?;
+    push(line, second)
 }
 
 /// Appends that the file of this name has more bytes than its limit.
@@ -114,14 +116,30 @@ fn push_bad_tasks(alloc: Global, line: &mut Vec<u8>, fault: TaskFault) -> Result
     ensures { OnOk result
         (line.new.items ≡ line.old.items ++ (codes "tasks " ++ task_fault_text fault)) }
 {
-    let words = fault_words(alloc, fault)?;
-    push(line, b"tasks ")?;
-    push(line, words.as_bytes())
+    let words = task_fault_words(alloc, fault)?;
+    push_both(line, b"tasks ", words.as_bytes())
+}
+
+/// Appends what is wrong with the arrivals file.
+fn push_bad_arrivals(alloc: Global, line: &mut Vec<u8>, fault: ArrivalFault) -> Result<(), Memory>
+    ensures { OnOk result
+        (line.new.items ≡ line.old.items ++ (codes "arrivals " ++ arrival_fault_text fault)) }
+{
+    let words = arrival_fault_words(alloc, fault)?;
+    push_both(line, b"arrivals ", words.as_bytes())
 }
 
 /// The words of a fault of a task file.
-fn fault_words(alloc: Global, fault: TaskFault) -> Result<String, Memory>
+fn task_fault_words(alloc: Global, fault: TaskFault) -> Result<String, Memory>
     ensures { IfOk result (λ words. string_bytes words ≡ task_fault_text fault) }
+{
+    let words = format!(in alloc; "{fault}")?;
+    Ok(words)
+}
+
+/// The words of a fault of an arrivals file.
+fn arrival_fault_words(alloc: Global, fault: ArrivalFault) -> Result<String, Memory>
+    ensures { IfOk result (λ words. string_bytes words ≡ arrival_fault_text fault) }
 {
     let words = format!(in alloc; "{fault}")?;
     Ok(words)

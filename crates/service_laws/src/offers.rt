@@ -23,8 +23,8 @@ pub fn room_gives_a_schedule()
     ensures { RoomGivesASchedule }
 {}
 
-/// Where there is no room, the arrivals that come as soon as they may from now on leave no slot
-/// schedule.
+/// Where there is no room, the arrivals that come as soon as they may from now on are legal and
+/// leave no slot schedule.
 pub fn the_densest_pattern_shows_it()
     ensures { TheDensestPatternShowsIt }
 {}

@@ -20,7 +20,7 @@ use Rattle.run_outcome.specs.Refusals.{Outcome, name_of, limit_of}
 use Rattle.slot_cli.specs.declared.command.Command.{Command}
 use Rattle.slot_cli.specs.declared.command.Command.TheVariants.{Check, Replay}
 use Rattle.slot_cli.specs.Commands.{command_of}
-use Rattle.slot_cli.specs.Due.{limited_bytes, bytes_of, sound_set, feasible_set, planned_set, arrivals_of, due_of, expected}
+use Rattle.slot_cli.specs.Due.{limited_bytes, bytes_of, sound_set, feasible_set, planned_set, recorded_arrivals, due_of, expected}
 use Rattle.slot_cli.specs.Runs.{stage_due}
 use Rattle.slot_cli.proofs.StageLemmas.{stage-traced, traced}
 
@@ -58,7 +58,7 @@ planned-due held words None window is = cc
 planned-due held words (Some Check) window is =
     planned-refuses (planned_set held words) (λ set. Ok (check_line set)) window (λ set. omega arith) is
 planned-due held words (Some (Replay slots)) window is =
-    planned-refuses (planned_set held words) (λ set. arrivals_of held words >>= traced slots set) window (stage-traced held words slots) is
+    planned-refuses (planned_set held words) (λ set. recorded_arrivals held words slots set >>= traced slots set) window (stage-traced held words slots) is
 
 -- where a run is due to be refused as infeasible, the task file writes a set with this counterexample
 pub infeasible-expected : (held : Held) (words : List (List ℕ)) (window : Window) → expected held words ≡ Err (Infeasible window) → (bytes : List ℕ) × (set : TaskSet) × (bytes_of held words Tasks ≡ Ok bytes) × (sound_set bytes ≡ Ok set) × (counterexample set (cycle_of set) ≡ Some window)

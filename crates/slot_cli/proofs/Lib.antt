@@ -1,6 +1,7 @@
 pub mod InfeasibleRuns
 pub mod NumberLemmas
 pub mod PlannedSets
+pub mod RecordedArrivals
 pub mod ServedRuns
 pub mod StageLemmas
 pub mod StatusLemmas

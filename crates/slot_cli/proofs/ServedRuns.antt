@@ -1,18 +1,15 @@
 -- The plan's set is sound and feasible, so that every trace of it is served.
-use Rattle.std.proofs.Common.{◌≡◌, ℕ, ◌≤◌, true, List, [], ◌∷◌, length, Option, None, Some, Ok, Err, refl, subst, arith}
-use Rattle.std.specs.Prelude.{nat_le, is_none}
-use Rattle.std.specs.List.{list_all}
+use Rattle.std.proofs.Common.{◌≡◌, ℕ, true, List, Option, None, Some, Ok, Err, refl, subst}
 use Rattle.std.specs.Option.{option_map_or}
 use Rattle.std.specs.Result.{result_map_both}
-use Rattle.std.proofs.lemmas.Bool.{and_parts, leb-true}
 use Rattle.slot_core.specs.Results.{◌>>=◌}
-use Rattle.slot_core.specs.declared.TheConstants.{SPORADIC_LIMIT}
+use Rattle.slot_core.specs.declared.events.Arrival.{Arrival}
+use Rattle.slot_core.specs.Arrivals.{are_fitting}
 use Rattle.slot_core.specs.declared.jobs.Window.{Window}
 use Rattle.slot_core.specs.declared.tasks.TaskSet.{TaskSet}
 use Rattle.slot_core.specs.Cycles.{cycle_of}
-use Rattle.slot_core.specs.Faults.{set_fault}
 use Rattle.slot_core.specs.Feasible.{IsFeasible, counterexample}
-use Rattle.slot_core.specs.Ranges.{sporadic_in_range, is_in_range, is_sound}
+use Rattle.slot_core.specs.Ranges.{is_sound}
 use Rattle.slot_core.specs.Service.{IsServed, IsOrdered}
 use Rattle.slot_core.specs.Traces.{trace, history_of}
 use Rattle.slot_io.specs.Files.{Held}
@@ -56,20 +53,8 @@ pub IsPlanned-read : (read : Outcome (List ℕ)) (tested : TaskSet) → (read >>
 IsPlanned-read (Ok bytes) tested is = IsPlanned-loaded bytes (sound_set bytes) tested refl is
 IsPlanned-read (Err refusal) tested is = cc
 
-no_items : {X : Type 0} (xs : List X) → length xs ≤ 0 → xs ≡ []
-no_items [] short = refl
-no_items (x ∷ xs) short = absurd (omega arith)
-
--- a sound set has no sporadic task today
-pub no_sporadics : (set : TaskSet) → is_sound set ≡ true → set.sporadics ≡ []
-no_sporadics set sound =
-    let (in_range, _) = and_parts (is_in_range set) (is_none (set_fault set)) sound in
-    let (front, _) = and_parts _ (list_all sporadic_in_range set.sporadics) in_range in
-    let (_, few) = and_parts _ (nat_le (length set.sporadics) SPORADIC_LIMIT) front in
-    no_items set.sporadics (leb-true (length set.sporadics) SPORADIC_LIMIT few)
-
--- every trace of the plan's set is served and ordered
-pub served-planned : (held : Held) (words : List (List ℕ)) (set : TaskSet) (slots : ℕ) → planned_set held words ≡ Ok set → IsServed set (cycle_of set) (history_of (trace set [] slots)) × IsOrdered set (cycle_of set) (history_of (trace set [] slots))
-served-planned held words set slots is =
+-- every trace of the plan's set with arrivals that fit is served and ordered
+pub served-planned : (held : Held) (words : List (List ℕ)) (set : TaskSet) (slots : ℕ) (arrivals : List Arrival) → planned_set held words ≡ Ok set → are_fitting set slots arrivals ≡ true → IsServed set (cycle_of set) (history_of (trace set arrivals slots)) × IsOrdered set (cycle_of set) (history_of (trace set arrivals slots))
+served-planned held words set slots arrivals is fits =
     let planned = IsPlanned-read (bytes_of held words Tasks) set is in
-    every_trace_is_served set [] slots planned.sound planned.feasible refl
+    every_trace_is_served set arrivals slots planned.sound planned.feasible fits

@@ -1,5 +1,6 @@
 -- What a status says of the files.
 use Rattle.std.proofs.Common.{◌≡◌, ◌⊎◌, ℕ, true, false, List, Option, None, Some, IfSome, Err, refl, sym, ap, subst, ◌∙◌, inl, inr}
+use Rattle.arrival_csv.specs.declared.faults.ArrivalFault.{ArrivalFault}
 use Rattle.slot_core.specs.declared.faults.TaskFault.{TaskFault}
 use Rattle.slot_core.specs.declared.jobs.Window.{Window}
 use Rattle.slot_io.specs.Files.{Held}
@@ -19,7 +20,7 @@ Tells Status.FileFault e = (file : File) × (e ≡ Unreadable file)
 Tells Status.TooLarge e = (file : File) × (e ≡ TooLarge file)
 Tells Status.BadTasks e = (fault : TaskFault) × (e ≡ BadTasks fault)
 Tells Status.Infeasible e = (window : Window) × (e ≡ Infeasible window)
-Tells Status.BadArrivals e = e ≡ BadArrivals
+Tells Status.BadArrivals e = (fault : ArrivalFault) × (e ≡ BadArrivals fault)
 Tells Status.WriteFault e = e ≡ WriteFault
 Tells Status.Memory e = e ≡ Memory
 Tells Status.Done e = ⊥
@@ -31,7 +32,7 @@ tells (Unreadable file) = (file, refl)
 tells (TooLarge file) = (file, refl)
 tells (BadTasks fault) = (fault, refl)
 tells (Infeasible window) = (window, refl)
-tells BadArrivals = refl
+tells (BadArrivals fault) = (fault, refl)
 tells WriteFault = refl
 tells Memory = refl
 
@@ -60,15 +61,15 @@ not_host : (command : Option Command) (e : Refusal) → is_found e ≡ true → 
 not_host None (TooLarge file) found host = host
 not_host None (BadTasks fault) found host = host
 not_host None (Infeasible window) found host = host
-not_host None BadArrivals found host = host
+not_host None (BadArrivals fault) found host = host
 not_host (Some Check) (TooLarge file) found host = host
 not_host (Some Check) (BadTasks fault) found host = host
 not_host (Some Check) (Infeasible window) found host = host
-not_host (Some Check) BadArrivals found host = host
+not_host (Some Check) (BadArrivals fault) found host = host
 not_host (Some (Replay slots)) (TooLarge file) found host = host
 not_host (Some (Replay slots)) (BadTasks fault) found host = host
 not_host (Some (Replay slots)) (Infeasible window) found host = host
-not_host (Some (Replay slots)) BadArrivals found host = host
+not_host (Some (Replay slots)) (BadArrivals fault) found host = host
 not_host command Usage found host = cc
 not_host command (Unreadable file) found host = cc
 not_host command WriteFault found host = cc

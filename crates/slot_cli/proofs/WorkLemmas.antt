@@ -1,8 +1,9 @@
 -- How the work of a command ends.
-use Rattle.std.proofs.Common.{◌≡◌, ℕ, ◌≤◌, true, false, List, [], Option, None, Some, Ok, Err, refl, sym, ap, subst, ◌∙◌, inl, inr, arith}
+use Rattle.std.proofs.Common.{◌≡◌, ℕ, ◌≤◌, true, false, List, Option, None, Some, Ok, Err, refl, sym, ap, subst, ◌∙◌, inl, inr, arith}
 use Rattle.std.proofs.KnownBytes.{Appends-nil}
 use Rattle.std.specs.Io.KnownBytes.{Appends}
 use Rattle.slot_core.specs.Results.{◌>>=◌}
+use Rattle.slot_core.specs.declared.events.Arrival.{Arrival}
 use Rattle.slot_core.specs.declared.tasks.TaskSet.{TaskSet}
 use Rattle.slot_core.specs.Reports.{check_line}
 use Rattle.slot_core.specs.Texts.{trace_text}
@@ -16,7 +17,7 @@ use Rattle.run_outcome.specs.declared.refusal.Refusal.TheVariants.{Usage, Unread
 use Rattle.run_outcome.specs.Refusals.{Outcome, is_found}
 use Rattle.slot_cli.specs.declared.command.Command.{Command}
 use Rattle.slot_cli.specs.declared.command.Command.TheVariants.{Check, Replay}
-use Rattle.slot_cli.specs.Due.{text_of, planned_set, arrivals_of}
+use Rattle.slot_cli.specs.Due.{text_of, planned_set, recorded_arrivals}
 use Rattle.slot_cli.specs.Runs.{stage_of, stage_due, Reads, IsHostFault}
 use Rattle.slot_cli.specs.Steps.{IsOfReading, IsReading, IsWriting, IsWork}
 use Rattle.slot_cli.proofs.StageLemmas.{stage-text, stage-traced, traced}
@@ -24,6 +25,9 @@ use Rattle.slot_cli.proofs.StageLemmas.{stage-text, stage-traced, traced}
 -- nothing is a part of any text
 part_of_nothing : (o : Option (List ℕ)) (text : List ℕ) → AppendsPart o o text
 part_of_nothing o text = (0, Appends-nil o)
+
+part_of_same : {T : Type 0} (written : T → Option (List ℕ)) (before after : T) (text : List ℕ) → after ≡ before → AppendsPart (written before) (written after) text
+part_of_same written before after text same = rw same (part_of_nothing (written before) text)
 
 -- a refusal that comes of reading is none of the words and none of the output
 not_found : (e other : Refusal) → is_found other ≡ false → is_found e ≡ true → e ≡ other → ⊥
@@ -74,27 +78,27 @@ work-refused held faults blamed written failed old new out words command file du
 -- the way from the task file to the text
 pub way-planned : (files : Held) (words : List (List ℕ)) (command : Command) → IsOnTheWay Tasks (planned_set files words) (text_of files words command)
 way-planned files words Check = record { passes = λ e is. ap (λ (o : Outcome TaskSet). o >>= (λ set. let line : Outcome (List ℕ) = Ok (check_line set) in line)) is; reached = stage-text files words Check }
-way-planned files words (Replay slots) = record { passes = λ e is. ap (λ (o : Outcome TaskSet). o >>= (λ set. arrivals_of files words >>= traced slots set)) is; reached = stage-text files words (Replay slots) }
+way-planned files words (Replay slots) = record { passes = λ e is. ap (λ (o : Outcome TaskSet). o >>= (λ set. recorded_arrivals files words slots set >>= traced slots set)) is; reached = stage-text files words (Replay slots) }
 
-text-planned : (files : Held) (words : List (List ℕ)) (slots : ℕ) (set : TaskSet) → planned_set files words ≡ Ok set → text_of files words (Replay slots) ≡ (arrivals_of files words >>= traced slots set)
+text-planned : (files : Held) (words : List (List ℕ)) (slots : ℕ) (set : TaskSet) → planned_set files words ≡ Ok set → text_of files words (Replay slots) ≡ (recorded_arrivals files words slots set >>= traced slots set)
 text-planned files words slots set planned =
-    ap (λ (o : Outcome TaskSet). o >>= (λ set. arrivals_of files words >>= traced slots set)) planned
+    ap (λ (o : Outcome TaskSet). o >>= (λ set. recorded_arrivals files words slots set >>= traced slots set)) planned
 
 -- the way from the arrivals file to the text, where the plan's set is due
-pub way-arrivals : (files : Held) (words : List (List ℕ)) (slots : ℕ) (set : TaskSet) → planned_set files words ≡ Ok set → IsOnTheWay Arrivals (arrivals_of files words) (text_of files words (Replay slots))
+pub way-arrivals : (files : Held) (words : List (List ℕ)) (slots : ℕ) (set : TaskSet) → planned_set files words ≡ Ok set → IsOnTheWay Arrivals (recorded_arrivals files words slots set) (text_of files words (Replay slots))
 way-arrivals files words slots set planned =
-    let way : IsOnTheWay Arrivals (arrivals_of files words) (arrivals_of files words >>= traced slots set) = record { passes = λ e is. ap (λ o. o >>= traced slots set) is; reached = stage-traced files words slots set } in
-    subst (IsOnTheWay Arrivals (arrivals_of files words)) (sym (text-planned files words slots set planned)) way
+    let way : IsOnTheWay Arrivals (recorded_arrivals files words slots set) (recorded_arrivals files words slots set >>= traced slots set) = record { passes = λ e is. ap (λ o. o >>= traced slots set) is; reached = stage-traced files words slots set } in
+    subst (IsOnTheWay Arrivals (recorded_arrivals files words slots set)) (sym (text-planned files words slots set planned)) way
 
 -- the text of a check is due where the plan's set is
 pub text-checked : (files : Held) (words : List (List ℕ)) (set : TaskSet) → planned_set files words ≡ Ok set → text_of files words Check ≡ Ok (check_line set)
 text-checked files words set planned =
     ap (λ (o : Outcome TaskSet). o >>= (λ set. let line : Outcome (List ℕ) = Ok (check_line set) in line)) planned
 
--- the text of a replay is due where the plan's set is, and no arrivals
-pub text-replayed : (files : Held) (words : List (List ℕ)) (slots : ℕ) (set : TaskSet) → planned_set files words ≡ Ok set → arrivals_of files words ≡ Ok [] → text_of files words (Replay slots) ≡ Ok (trace_text set (trace set [] slots))
-text-replayed files words slots set planned arrivals =
-    text-planned files words slots set planned ∙ ap (λ o. o >>= traced slots set) arrivals
+-- the text of a replay is due where the plan's set and the recorded arrivals are
+pub text-replayed : (files : Held) (words : List (List ℕ)) (slots : ℕ) (set : TaskSet) (arrivals : List Arrival) → planned_set files words ≡ Ok set → recorded_arrivals files words slots set ≡ Ok arrivals → text_of files words (Replay slots) ≡ Ok (trace_text set (trace set arrivals slots))
+text-replayed files words slots set arrivals planned recorded =
+    text-planned files words slots set planned ∙ ap (λ o. o >>= traced slots set) recorded
 
 -- a text that is due is what is written
 same_text : (due : Outcome (List ℕ)) (text other : List ℕ) → due ≡ Ok text → due ≡ Ok other → text ≡ other
@@ -112,7 +116,7 @@ host_writing Check = tt
 host_writing (Replay slots) = tt
 
 -- where the text that is due is written the work ends so
-pub work-writing : {S T X : Type 0} (held : S → Option Held) (faults : S → ℕ) (blamed : S → Option (List ℕ)) (written : T → Option (List ℕ)) (failed : T → ℕ) (old new : S) (out_old out_new : T) (words : List (List ℕ)) (command : Command) (text : List ℕ) (result : Outcome X) → ((files : Held) → held old ≡ Some files → text_of files words command ≡ Ok text) → IsWriting text result (written out_old) (written out_new) (failed out_old) (failed out_new) → IsWork held faults blamed written failed old new out_old out_new words (Some command) result
+pub work-writing : {S T X : Type 0} (held : S → Option Held) (faults : S → ℕ) (blamed : S → Option (List ℕ)) (written : T → Option (List ℕ)) (failed : T → ℕ) (old new : S) (out_old out_new : T) (words : List (List ℕ)) (command : Command) (text : List ℕ) (result : Outcome X) → ((files : Held) → held old ≡ Some files → text_of files words command ≡ Ok text) → IsWriting written failed text result out_old out_new → IsWork held faults blamed written failed old new out_old out_new words (Some command) result
 work-writing held faults blamed written failed old new out_old out_new words command text (Ok done) due writing =
     record {
       answers = λ files told. (text, due files told);
@@ -138,9 +142,9 @@ work-writing held faults blamed written failed old new out_old out_new words com
       answers = λ files told. inr (inl refl);
       usage = ((λ is. cc), (λ none. cc));
       blames = λ file is. cc;
-      writes = λ files told other is. part_of_due (text_of files words command) text other (written out_old) (written out_new) (due files told) is writing;
+      writes = λ files told other is. part_of_same written out_old out_new other writing;
       counts = λ is. cc;
-      output = λ leaves. cc;
+      output = λ leaves. writing;
       files = λ is. cc;
     }
 work-writing held faults blamed written failed old new out_old out_new words command text (Err Usage) due writing = absurd writing
@@ -148,7 +152,7 @@ work-writing held faults blamed written failed old new out_old out_new words com
 work-writing held faults blamed written failed old new out_old out_new words command text (Err (TooLarge file)) due writing = absurd writing
 work-writing held faults blamed written failed old new out_old out_new words command text (Err (BadTasks fault)) due writing = absurd writing
 work-writing held faults blamed written failed old new out_old out_new words command text (Err (Infeasible window)) due writing = absurd writing
-work-writing held faults blamed written failed old new out_old out_new words command text (Err BadArrivals) due writing = absurd writing
+work-writing held faults blamed written failed old new out_old out_new words command text (Err (BadArrivals fault)) due writing = absurd writing
 
 -- words that write no command are refused for them
 pub work-usage : {S T X : Type 0} (held : S → Option Held) (faults : S → ℕ) (blamed : S → Option (List ℕ)) (written : T → Option (List ℕ)) (failed : T → ℕ) (files : S) (out : T) (words : List (List ℕ)) → IsWork {X = X} held faults blamed written failed files files out out words None (Err Usage)

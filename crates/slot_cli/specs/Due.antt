@@ -1,8 +1,9 @@
 -- What is due of a run, where the files tell what they hold.
-use Rattle.std.specs.Prelude.{ℕ, List, [], ◌∷◌, length, nat_lt, if◌then◌else◌, Option, Ok, Err}
+use Rattle.std.specs.Prelude.{ℕ, List, length, nat_lt, if◌then◌else◌, Option, Ok, Err}
 use Rattle.std.specs.Option.{option_map_or}
 use Rattle.std.specs.Result.{result_map_both}
 use Rattle.slot_core.specs.Results.{◌>>=◌}
+use Rattle.slot_core.specs.declared.events.Arrival.{Arrival}
 use Rattle.slot_core.specs.declared.tasks.TaskSet.{TaskSet}
 use Rattle.slot_core.specs.Cycles.{cycle_of}
 use Rattle.slot_core.specs.Feasible.{counterexample}
@@ -10,6 +11,7 @@ use Rattle.slot_core.specs.Reports.{check_line}
 use Rattle.slot_core.specs.Texts.{trace_text}
 use Rattle.slot_core.specs.Traces.{trace}
 use Rattle.slot_io.specs.Files.{Held, first_bytes}
+use Rattle.arrival_csv.specs.Reading.{reading_of_arrivals}
 use Rattle.task_toml.specs.Reading.{reading_of_tasks}
 use Rattle.run_outcome.specs.declared.file.File.{File}
 use Rattle.run_outcome.specs.declared.file.File.TheVariants.{Tasks, Arrivals}
@@ -45,16 +47,16 @@ planned_set held words = do
   set ← sound_set bytes
   feasible_set set
 
--- an arrivals file without a byte
-abbrev pub no_arrivals : List ℕ → Outcome (List ℕ)
-no_arrivals [] = Ok []
-no_arrivals (byte ∷ bytes) = Err BadArrivals
+-- the arrivals that the bytes of the arrivals file write, for so many slots of the set
+abbrev pub fitting_arrivals : List ℕ → ℕ → TaskSet → Outcome (List Arrival)
+fitting_arrivals bytes slots set =
+    result_map_both (λ arrivals. arrivals) BadArrivals (reading_of_arrivals bytes slots set)
 
--- the arrivals file is read, and has no byte
-abbrev pub arrivals_of : Held → List (List ℕ) → Outcome (List ℕ)
-arrivals_of held words = do
+-- the recorded arrivals: the arrivals file is read, and its bytes are read as arrivals
+abbrev pub recorded_arrivals : Held → List (List ℕ) → ℕ → TaskSet → Outcome (List Arrival)
+recorded_arrivals held words slots set = do
   bytes ← bytes_of held words Arrivals
-  no_arrivals bytes
+  fitting_arrivals bytes slots set
 
 -- the text that a command writes, or the refusal that ends the run before it
 abbrev pub text_of : Held → List (List ℕ) → Command → Outcome (List ℕ)
@@ -63,8 +65,8 @@ text_of held words Check = do
   Ok (check_line set)
 text_of held words (Replay slots) = do
   set ← planned_set held words
-  arrivals ← arrivals_of held words
-  Ok (trace_text set (trace set [] slots))
+  arrivals ← recorded_arrivals held words slots set
+  Ok (trace_text set (trace set arrivals slots))
 
 -- the same of the words' command, if they write one
 abbrev pub due_of : Held → List (List ℕ) → Option Command → Outcome (List ℕ)

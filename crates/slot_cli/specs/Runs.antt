@@ -25,7 +25,7 @@ stage_of (BadTasks fault) = 3
 stage_of (Infeasible window) = 4
 stage_of (Unreadable Arrivals) = 5
 stage_of (TooLarge Arrivals) = 6
-stage_of BadArrivals = 7
+stage_of (BadArrivals fault) = 7
 stage_of WriteFault = 8
 stage_of Memory = 9
 

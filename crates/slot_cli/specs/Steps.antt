@@ -45,18 +45,19 @@ pub record IsReading {S A X : Type 0} (held : S → Option Held) (faults : S →
   pub keeps : held after ≡ held before
   pub counts : IfOk result (λ _. faults after ≡ faults before)
 
--- how the writing of a text ends: all of it is written, or a part where memory ran out or a fault
--- is counted
-abbrev pub IsWriting : {X : Type 0} → List ℕ → Outcome X
-    → Option (List ℕ) → Option (List ℕ) → ℕ → ℕ → Type 0
-IsWriting text (Ok done) before after faults_before faults_after = Appends before after text
-IsWriting text (Err WriteFault) before after faults_before faults_after =
-    AppendsPart before after text × Rose faults_before faults_after
-IsWriting text (Err Memory) before after faults_before faults_after = AppendsPart before after text
-IsWriting text (Err _) before after faults_before faults_after = ⊥
+-- how the writing of a text ends, over an output of which contracts see `written` and `failed`: all
+-- of it is written, or a part where a fault is counted, or nothing is done to the output where
+-- memory ran out
+abbrev pub IsWriting : {T X : Type 0} → (T → Option (List ℕ)) → (T → ℕ)
+    → List ℕ → Outcome X → T → T → Type 0
+IsWriting written failed text (Ok done) before after =
+    Appends (written before) (written after) text
+IsWriting written failed text (Err WriteFault) before after =
+    AppendsPart (written before) (written after) text × Rose (failed before) (failed after)
+IsWriting written failed text (Err Memory) before after = after ≡ before
+IsWriting written failed text (Err _) before after = ⊥
 
--- the work of a command, over files as above and an output of which contracts see `written` and
--- `failed`
+-- the work of a command, over files and an output as above
 pub record IsWork {S T X : Type 0} (held : S → Option Held) (faults : S → ℕ)
     (blamed : S → Option (List ℕ)) (written : T → Option (List ℕ)) (failed : T → ℕ)
     (files_before files_after : S) (out_before out_after : T) (words : List (List ℕ))
@@ -76,7 +77,7 @@ pub record IsWork {S T X : Type 0} (held : S → Option Held) (faults : S → �
       → IsWritten result text (written out_before) (written out_after)
   -- a write that fails is counted
   pub counts : result ≡ Err WriteFault → Rose (failed out_before) (failed out_after)
-  -- what stays untouched: the output on a refusal before the writing, and the files on one for the
-  -- words
+  -- what stays untouched: the output on a refusal other than a failed write, and the files on one
+  -- for the words
   pub output : IfErr result (λ e. leaves_output e ≡ true → out_after ≡ out_before)
   pub files : result ≡ Err Usage → files_after ≡ files_before

@@ -26,7 +26,7 @@ pub record IsInfeasibleRun (words : List (List ℕ)) (held : Held)
   -- the line on standard error tells it
   pub told : IsTold (refusal_line words (Infeasible window))
       err_before err_after faults_before faults_after
-  -- three cycles of the set can not be served, whatever the scheduler
+  -- three cycles of the set cannot be served, whatever the scheduler
   pub fails : ¬ (CyclesCanBeServed set 3)
   -- and the arrivals that show it are the densest from the start of the window on
   pub shown : DensestLeavesNone set window.from
@@ -39,7 +39,7 @@ pub record RunMeansSchedules (words : List (List ℕ)) (held : Held)
   -- arrivals come
   pub fits : (set : TaskSet) → planned_set held words ≡ Ok set
       → (cycles : ℕ) → CyclesCanBeServed set cycles
-  -- one that is refused as infeasible: three of its cycles can not, and the window tells from when
+  -- one that is refused as infeasible: three of its cycles cannot, and the window tells from when
   -- on the arrivals show it
   pub fails : status ≡ Status.Infeasible
       → IsInfeasibleRun words held err_before err_after faults_before faults_after

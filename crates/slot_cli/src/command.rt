@@ -20,6 +20,7 @@ pub enum Command {
 /// The command that the words write, or None where they are none of the forms.
 pub fn command_of(words: &Words) -> Option<Command>
     ensures command { result ≡ command_of words.now }
+    ensures some { (slots : ℕ) → result ≡ Some (Command.Replay slots) → 1 ≤ slots }
     ensures few { (slots : ℕ) → result ≡ Some (Command.Replay slots) → slots ≤ REPLAY_LIMIT }
 {
     if words.len() == 2 && words.word(0) == "check" {
@@ -34,6 +35,7 @@ pub fn command_of(words: &Words) -> Option<Command>
 /// The number that a word writes, from 1 to the limit: 1 to 6 digits, the first not 0.
 fn number_up_to(limit: u32, word: &str) -> Option<u32>
     ensures number { result ≡ number_up_to limit word.now }
+    ensures some { IfSome result (λ n. 1 ≤ n) }
     ensures within { IfSome result (λ n. n ≤ limit) }
 {
     if !is_number(word.as_bytes()) {
@@ -47,7 +49,8 @@ fn number_up_to(limit: u32, word: &str) -> Option<u32>
 #[tactic(auto, using(crate::proofs::NumberLemmas::parse_number))]
 fn value_of(word: &str) -> u32
     requires { is_number word.now ≡ true }
-    ensures { result ≡ digits_value 10 word.now }
+    ensures value { result ≡ digits_value 10 word.now }
+    ensures some { 1 ≤ result }
 {
     word.parse::<u32>().unwrap()
 }

@@ -1,11 +1,14 @@
 //! The commands of slotshift, over any files and sinks.
 #![tactic(auto)]
 
-ghost use Rattle.std.specs.Prelude.{◌≡◌, ◌≢◌, ◌↔◌, ℕ, List, [], None, Some, Ok, Err, IfSome};
+ghost use Rattle.std.specs.Prelude.{◌≡◌, ◌≢◌, ◌↔◌, ℕ, true, List, None, Some, Ok, Err, IfSome};
 ghost use Rattle.std.specs.Io.KnownBytes.{Appends};
+ghost use Rattle.arrival_csv.specs.declared.faults.ArrivalFault.{ArrivalFault};
+ghost use Rattle.slot_core.specs.declared.events.Arrival.{Arrival};
 ghost use Rattle.slot_core.specs.declared.faults.TaskFault.{TaskFault};
 ghost use Rattle.slot_core.specs.declared.jobs.Window.{Window};
 ghost use Rattle.slot_core.specs.declared.tasks.TaskSet.{TaskSet};
+ghost use Rattle.slot_core.specs.Arrivals.{are_fitting};
 ghost use Rattle.slot_core.specs.Cycles.{cycle_of};
 ghost use Rattle.slot_core.specs.Service.{IsServed, IsOrdered};
 ghost use Rattle.slot_core.specs.Traces.{trace, history_of};
@@ -13,10 +16,12 @@ ghost use Rattle.slot_core.specs.Counts.{Rose};
 ghost use Rattle.run_outcome.specs.declared.file.File.{File};
 ghost use Rattle.run_outcome.specs.declared.refusal.Refusal.{Refusal};
 ghost use Rattle.slot_cli.specs.Commands.{command_of};
-ghost use Rattle.slot_cli.specs.Due.{expected, planned_set};
+ghost use Rattle.slot_cli.specs.Due.{expected, planned_set, recorded_arrivals};
 ghost use Rattle.slot_cli.specs.Runs.{IsRun};
 ghost use Rattle.slot_cli.specs.Verdicts.{RunMeansSchedules};
 
+#[cfg(test)]
+mod arrival_lines;
 pub mod command;
 #[cfg(test)]
 mod fault_lines;
@@ -34,7 +39,7 @@ use work::work;
 
 /// Does what the words ask for: reads the files that they name, writes to `out`, and puts one line
 /// on `err` where it ends otherwise than Done. The order of work is that of `expected`: tasks read,
-/// set read, cycle test, arrivals read, replay.
+/// set read, cycle test, arrivals read, replay. All memory is taken before the first put on `out`.
 pub fn run<F: Files, K: Sink, E: Sink>(
     alloc: Global,
     words: &Words,
@@ -60,7 +65,8 @@ pub fn run<F: Files, K: Sink, E: Sink>(
     ensures infeasible { result ≡ Status.Infeasible → IfSome (F.held files.old)
         (λ held. (window : Window) × (expected held words.now ≡ Err (Refusal.Infeasible window))) }
     ensures bad_arrivals { result ≡ Status.BadArrivals → IfSome (F.held files.old)
-        (λ held. expected held words.now ≡ Err Refusal.BadArrivals) }
+        (λ held. (fault : ArrivalFault)
+        × (expected held words.now ≡ Err (Refusal.BadArrivals fault))) }
     ensures write_fault { result ≡ Status.WriteFault → Rose (K.faults out.old) (K.faults out.new) }
     ensures no_table { result ≢ Status.BadTable }
 
@@ -69,17 +75,22 @@ pub fn run<F: Files, K: Sink, E: Sink>(
     ensures usage_touches_nothing { result ≡ Status.Usage
         → (files.new ≡ files.old) × (out.new ≡ out.old) }
     ensures refusal_writes_nothing { result ≢ Status.Done → result ≢ Status.WriteFault
-        → result ≢ Status.Memory → out.new ≡ out.old }
+        → out.new ≡ out.old }
 
     // What the outcome of the cycle test means over slot schedules, whatever the scheduler.
     ensures verdict { IfSome (F.held files.old) (λ held. RunMeansSchedules words.now held
         (E.written err.old) (E.written err.new) (E.faults err.old) (E.faults err.new) result) }
 
-    // The printed trace serves every job.
-    ensures served { IfSome (F.held files.old) (λ held. (set : TaskSet) (slots : ℕ)
-        → planned_set held words.now ≡ Ok set
-        → IsServed set (cycle_of set) (history_of (trace set [] slots))
-        × IsOrdered set (cycle_of set) (history_of (trace set [] slots))) }
+    // Every trace of the set serves every job, whatever arrivals fit it; the recorded ones do.
+    ensures served { IfSome (F.held files.old) (λ held.
+        (set : TaskSet) (slots : ℕ) (arrivals : List Arrival)
+        → planned_set held words.now ≡ Ok set → are_fitting set slots arrivals ≡ true
+        → IsServed set (cycle_of set) (history_of (trace set arrivals slots))
+        × IsOrdered set (cycle_of set) (history_of (trace set arrivals slots))) }
+    ensures fitting { IfSome (F.held files.old) (λ held.
+        (set : TaskSet) (slots : ℕ) (arrivals : List Arrival)
+        → recorded_arrivals held words.now slots set ≡ Ok arrivals
+        → are_fitting set slots arrivals ≡ true) }
 {
     match work(alloc, words, files, out) {
         Ok(()) => Status::Done,

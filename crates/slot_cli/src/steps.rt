@@ -1,14 +1,20 @@
 //! The steps of the work up to the output. Each gives a value, or the refusal that ends the run.
 
-ghost use Rattle.std.specs.Prelude.{◌≡◌, true, [], IfOk};
+ghost use Rattle.std.specs.Prelude.{◌≡◌, ◌≤◌, true, IfOk};
+ghost use Rattle.std.specs.List.{list_all};
+ghost use Rattle.slot_core.specs.declared.TheConstants.{REPLAY_LIMIT};
+ghost use Rattle.slot_core.specs.declared.events.Arrival.{Arrival};
+ghost use Rattle.slot_core.specs.Arrivals.{are_fitting};
 ghost use Rattle.slot_core.specs.Plans.{IsPlan};
 ghost use Rattle.slot_core.specs.Ranges.{is_sound};
-ghost use Rattle.slot_cli.specs.Due.{bytes_of, sound_set, feasible_set, planned_set, no_arrivals, arrivals_of};
+ghost use Rattle.arrival_replay.specs.Replays.{is_answered};
+ghost use Rattle.slot_cli.specs.Due.{bytes_of, sound_set, feasible_set, planned_set, fitting_arrivals, recorded_arrivals};
 ghost use Rattle.slot_cli.specs.Steps.{IsStep, IsReading};
 
+use arrival_csv::read_arrivals;
 use cycle_plan::{Plan, PlanFault, make_plan};
 use run_outcome::{File, Refusal};
-use slot_core::{TaskSet, Words};
+use slot_core::{Arrival, TaskSet, Words};
 use slot_io::{Files, ReadFault};
 use std::alloc::Global;
 
@@ -67,22 +73,44 @@ pub fn planned<F: Files>(alloc: Global, words: &Words, files: &mut F) -> Result<
     plan_of(alloc, set)
 }
 
-/// Refuses an arrivals file with a byte.
-pub fn read_arrivals<F: Files>(alloc: Global, words: &Words, files: &mut F) -> Result<(), Refusal>
-    ensures { IsReading F.held F.faults F.blamed files.old files.new words.now File.Arrivals
-        (λ held. arrivals_of held words.now) result (λ _. []) }
+/// The arrivals that the bytes of the arrivals file write, for so many slots of the set.
+pub fn load_arrivals(
+    alloc: Global,
+    bytes: &[u8],
+    slots: u64,
+    tasks: &TaskSet,
+) -> Result<Vec<Arrival>, Refusal>
+    requires some { 1 ≤ slots }
+    requires few { slots ≤ REPLAY_LIMIT }
+    requires sound { is_sound tasks.now ≡ true }
+    ensures due { IsStep (fitting_arrivals bytes.now slots tasks.now) result
+        (λ arrivals. arrivals.items) }
+    ensures fitting { IfOk result (λ arrivals. are_fitting tasks.now slots arrivals.items ≡ true) }
+    ensures answered { IfOk result (λ arrivals.
+        list_all (λ (a : Arrival). is_answered a.event) arrivals.items ≡ true) }
 {
-    let bytes = read_file(alloc, words, files, File::Arrivals)?;
-    no_arrivals(bytes.as_slice())
+    let arrivals = read_arrivals(alloc, bytes, slots, tasks)?;
+    Ok(arrivals)
 }
 
-/// Refuses bytes of an arrivals file.
-fn no_arrivals(bytes: &[u8]) -> Result<(), Refusal>
-    ensures { IsStep (no_arrivals bytes.now) result (λ _. []) }
+/// The recorded arrivals in the arrivals file.
+pub fn recorded<F: Files>(
+    alloc: Global,
+    words: &Words,
+    files: &mut F,
+    slots: u64,
+    tasks: &TaskSet,
+) -> Result<Vec<Arrival>, Refusal>
+    requires some { 1 ≤ slots }
+    requires few { slots ≤ REPLAY_LIMIT }
+    requires sound { is_sound tasks.now ≡ true }
+    ensures reading { IsReading F.held F.faults F.blamed files.old files.new words.now File.Arrivals
+        (λ held. recorded_arrivals held words.now slots tasks.now) result
+        (λ arrivals. arrivals.items) }
+    ensures fitting { IfOk result (λ arrivals. are_fitting tasks.now slots arrivals.items ≡ true) }
+    ensures answered { IfOk result (λ arrivals.
+        list_all (λ (a : Arrival). is_answered a.event) arrivals.items ≡ true) }
 {
-    if bytes.is_empty() {
-        Ok(())
-    } else {
-        Err(Refusal::BadArrivals)
-    }
+    let bytes = read_file(alloc, words, files, File::Arrivals)?;
+    load_arrivals(alloc, bytes.as_slice(), slots, tasks)
 }

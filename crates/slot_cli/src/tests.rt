@@ -1,8 +1,9 @@
 //! Runs over files and sinks in memory.
 
+use crate::arrival_lines::{ARRIVAL_LINES, SPELLINGS};
 use crate::fault_lines::FAULT_LINES;
 use crate::{Status, run};
-use slot_core::{ARRIVALS_FILE_LIMIT, TASK_FILE_LIMIT, Words};
+use slot_core::{ARRIVAL_LIMIT, ARRIVALS_FILE_LIMIT, TASK_FILE_LIMIT, Words};
 use slot_io::{Files, MemoryFiles, MemorySink, ReadFault};
 use std::alloc::Global;
 use std::process::Abort;
@@ -48,6 +49,10 @@ wcet = 1
 after = ['a']
 ";
 
+/// The same, where one soft job may wait.
+const NARROW: &str = "soft = 1
+graph = [{ name = 'g', period = 8, task = [{ name = 'a', wcet = 2 }, { name = 'b', wcet = 1, after = ['a'] }] }]";
+
 /// A flight controller without its sporadic task.
 const FLIGHT: &str = "[[graph]]
 name = 'imu'
@@ -85,6 +90,8 @@ const OVERLOAD: &str = "graph = [{ name = 'g', period = 2, task = [{ name = 'a',
 const CHECK: &str = "check a.toml";
 
 const REPLAY: &str = "replay a.toml none.csv 1";
+
+const REPLAY_4: &str = "replay a.toml none.csv 4";
 
 const USAGE: &str =
     "usage: slotshift check T, table T, show B, replay T A N, replay-table B A N, gantt T A N, selfrun N\n";
@@ -142,13 +149,35 @@ const PAIR_17: &str = "0 start | 0-7:5 7-8:0 8-15:5 15-16:0 16-23:5 23-24:0
 17 end
 ";
 
+const EARLY_END_3: &str = "0 start | 0-7:5 7-8:0 8-15:5 15-16:0 16-23:5 23-24:0
+0 run g.a#0 | 1-7:5 7-8:0 8-15:5 15-16:0 16-23:5 23-24:0
+1 done 1 g.a#0 freed 1 | 1-7:6 7-8:0 8-15:5 15-16:0 16-23:5 23-24:0
+1 idle | 2-7:5 7-8:0 8-15:5 15-16:0 16-23:5 23-24:0
+2 run g.b#0 | 3-7:4 7-8:1 8-15:5 15-16:0 16-23:5 23-24:0
+3 end
+";
+
+const SOFT_4: &str = "0 start | 0-7:5 7-8:0 8-15:5 15-16:0 16-23:5 23-24:0
+0 soft 1 3 taken | 0-7:5 7-8:0 8-15:5 15-16:0 16-23:5 23-24:0
+0 soft 2 1 full 1 | 0-7:5 7-8:0 8-15:5 15-16:0 16-23:5 23-24:0
+0 run soft:1 | 1-7:4 7-8:0 8-15:5 15-16:0 16-23:5 23-24:0
+1 run soft:1 | 2-7:3 7-8:0 8-15:5 15-16:0 16-23:5 23-24:0
+2 run soft:1 | 3-7:2 7-8:0 8-15:5 15-16:0 16-23:5 23-24:0
+3 run g.a#0 | 4-7:2 7-8:0 8-15:5 15-16:0 16-23:5 23-24:0
+4 end
+";
+
+const SOFT_4_CUT: &str = "0 start | 0-7:5 7-8:0 8-15:5 15-16:0 16-23:5 23-24:0
+0 soft 1 3 taken | 0-7:5 7-8:0 8-15:5 15-16:0 16-23:5 23-24:0
+";
+
 /// A run over `a.toml` and `none.csv`, and what comes of it.
 #[derive(Clone, Copy)]
 struct Case<'t> {
     /// The words, with a space between each two.
     words: &'t str,
     tasks: &'t str,
-    arrivals: &'t str,
+    arrivals: &'t [u8],
     /// The read and the put that fail, counted from 1; none where it is 0.
     failing: (u32, u32),
     status: Status,
@@ -163,7 +192,7 @@ fn done<'t>(words: &'t str, reads: u32, tasks: &'t str, out: &'t str) -> Case<'t
     Case {
         words,
         tasks,
-        arrivals: "",
+        arrivals: b"",
         failing: (0, 0),
         status: Status::Done,
         reads,
@@ -177,7 +206,7 @@ fn refused<'t>(words: &'t str, status: Status, reads: u32, err: &'t str) -> Case
     Case {
         words,
         tasks: OFFSET,
-        arrivals: "",
+        arrivals: b"",
         failing: (0, 0),
         status,
         reads,
@@ -192,6 +221,19 @@ fn infeasible<'t>(words: &'t str, tasks: &'t str, err: &'t str) -> Case<'t> {
         tasks,
         ..refused(words, Status::Infeasible, 1, err)
     }
+}
+
+/// The bytes that the text writes, in which `/` ends a line and `~` is a byte of no UTF-8.
+fn bytes_of(alloc: Global, text: &str) -> Result<Vec<u8>, Fail> {
+    let mut bytes = Vec::new(alloc);
+    for byte in text.bytes() {
+        bytes.push(match byte {
+            b'/' => b'\n',
+            b'~' => 0xff,
+            other => other,
+        })?;
+    }
+    Ok(bytes)
 }
 
 /// The words of the line.
@@ -218,7 +260,7 @@ fn files_of(alloc: Global, tasks: &[u8], arrivals: &[u8]) -> Result<MemoryFiles,
 /// those of the run is the one of the next number.
 fn expect(rt: &impl Abort, alloc: Global, case: &Case) -> Result<(), Fail> {
     let (read, put) = case.failing;
-    let mut files = files_of(alloc, case.tasks.as_bytes(), case.arrivals.as_bytes())?;
+    let mut files = files_of(alloc, case.tasks.as_bytes(), case.arrivals)?;
     files.fail_read(read)?;
     let words = words_of(alloc, case.words)?;
     let mut out = MemorySink::with_room(alloc, 4096)?;
@@ -267,8 +309,23 @@ fn runs_as_the_files_call_for(rt: HostRuntime) -> Result<(), Fail> {
             "cannot read b.csv\n",
         ),
         Case {
-            arrivals: "\n",
-            ..refused(REPLAY, Status::BadArrivals, 2, "arrivals too many\n")
+            arrivals: b"\n",
+            ..done(REPLAY, 2, OFFSET, OFFSET_1)
+        },
+        Case {
+            arrivals: b"1,done,g.a#0\n",
+            ..done("replay a.toml none.csv 3", 2, PAIR, EARLY_END_3)
+        },
+        Case {
+            arrivals: b"0,soft,3\n0,soft,1\n",
+            ..done(REPLAY_4, 2, NARROW, SOFT_4)
+        },
+        Case {
+            tasks: NARROW,
+            arrivals: b"0,soft,3\n0,soft,1\n",
+            failing: (0, 3),
+            out: SOFT_4_CUT,
+            ..refused(REPLAY_4, Status::WriteFault, 2, "cannot write\n")
         },
         Case {
             failing: (1, 0),
@@ -331,12 +388,66 @@ fn tells_the_first_fault(rt: HostRuntime) -> Result<(), Fail> {
 }
 
 #[test]
+fn tells_the_first_fault_of_arrivals(rt: HostRuntime) -> Result<(), Fail> {
+    for row in ARRIVAL_LINES.lines() {
+        let (file, line) = row.split_once(" => ").ok_or("no arrow")?;
+        let arrivals = bytes_of(rt.alloc(), file)?;
+        let mut err = String::from_str(rt.alloc(), line)?;
+        err.push_str("\n")?;
+        let case = Case {
+            tasks: PAIR,
+            arrivals: arrivals.as_slice(),
+            ..refused(REPLAY_4, Status::BadArrivals, 2, err.as_str())
+        };
+        expect(&rt, rt.alloc(), &case)?;
+    }
+    Ok(())
+}
+
+#[test]
+fn reads_each_spelling_of_rows(rt: HostRuntime) -> Result<(), Fail> {
+    for file in SPELLINGS.lines() {
+        let arrivals = bytes_of(rt.alloc(), file)?;
+        let case = Case {
+            arrivals: arrivals.as_slice(),
+            ..done(REPLAY_4, 2, NARROW, SOFT_4)
+        };
+        expect(&rt, rt.alloc(), &case)?;
+    }
+    Ok(())
+}
+
+#[test]
+fn refuses_more_rows_than_may_be(rt: HostRuntime) -> Result<(), Fail> {
+    let alloc = rt.alloc();
+    let ends = [
+        ("x", "arrivals bad row 65535\n"),
+        ("0,soft,1\n0,soft,1\n", "arrivals too many\n"),
+        ("0,soft,1\nx", "arrivals too many\n"),
+    ];
+    for (end, err) in ends {
+        let mut arrivals = Vec::new(alloc);
+        for _ in 1..ARRIVAL_LIMIT {
+            arrivals.extend_from_slice(b"0,soft,1\n")?;
+        }
+        arrivals.extend_from_slice(end.as_bytes())?;
+        let case = Case {
+            tasks: PAIR,
+            arrivals: arrivals.as_slice(),
+            ..refused(REPLAY_4, Status::BadArrivals, 2, err)
+        };
+        expect(&rt, alloc, &case)?;
+    }
+    Ok(())
+}
+
+#[test]
 fn refuses_large_files(rt: HostRuntime) -> Result<(), Fail> {
     let alloc = rt.alloc();
     let rows = [
         (CHECK, TASK_FILE_LIMIT, "tasks missing top graph\n"),
         (CHECK, TASK_FILE_LIMIT + 1, "too large a.toml 1048576\n"),
-        (REPLAY, ARRIVALS_FILE_LIMIT, "arrivals too many\n"),
+        (REPLAY, ARRIVALS_FILE_LIMIT, "arrivals bad row 1\n"),
         (
             REPLAY,
             ARRIVALS_FILE_LIMIT + 1,

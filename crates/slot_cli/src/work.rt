@@ -1,21 +1,26 @@
 //! The work of the commands.
 
-ghost use Rattle.std.specs.Prelude.{◌≡◌, ◌≤◌, [], true, Some, IfOk};
-ghost use Rattle.slot_core.specs.Ranges.{is_sound};
+ghost use Rattle.std.specs.Prelude.{◌≡◌, ◌≤◌, true, Some, IfOk};
+ghost use Rattle.std.specs.List.{list_all};
+ghost use Rattle.slot_core.specs.declared.TheConstants.{REPLAY_LIMIT};
+ghost use Rattle.slot_core.specs.declared.events.Arrival.{Arrival};
+ghost use Rattle.slot_core.specs.Arrivals.{are_fitting};
 ghost use Rattle.slot_core.specs.Reports.{check_line, counts_line};
 ghost use Rattle.slot_core.specs.Texts.{trace_text};
 ghost use Rattle.slot_core.specs.Traces.{trace};
+ghost use Rattle.arrival_replay.specs.Replays.{is_answered};
 ghost use Rattle.slot_cli.specs.declared.command.Command.{Command};
 ghost use Rattle.slot_cli.specs.Commands.{command_of};
 ghost use Rattle.slot_cli.specs.Steps.{IsWriting, IsWork};
 
 use crate::command::{Command, command_of};
-use crate::steps::{planned, read_arrivals};
+use crate::steps::{planned, recorded};
 use cycle_plan::Plan;
-use plain_replay::ReplayFault;
+use interval_row::RowTable;
 use run_outcome::Refusal;
 use run_outcome::append::{push, push_worded};
-use slot_core::{Memory, REPLAY_LIMIT, Words};
+use slot_core::{Arrival, Memory, Words};
+use slot_exec::Exec;
 use slot_io::{Files, Sink};
 use std::alloc::Global;
 
@@ -50,7 +55,7 @@ fn check<F: Files, K: Sink>(
     check_plan(alloc, &plan, out)
 }
 
-/// Writes the trace of so many slots.
+/// Writes the trace of so many slots with the recorded arrivals.
 fn replay<F: Files, K: Sink>(
     alloc: Global,
     words: &Words,
@@ -58,19 +63,20 @@ fn replay<F: Files, K: Sink>(
     slots: u32,
     out: &mut K,
 ) -> Result<(), Refusal>
-    requires { slots ≤ REPLAY_LIMIT }
+    requires some { 1 ≤ slots }
+    requires few { slots ≤ REPLAY_LIMIT }
     ensures { IsWork F.held F.faults F.blamed K.written K.faults files.old files.new out.old out.new
         words.now (Some (Command.Replay slots)) result }
 {
     let plan = planned(alloc, words, files)?;
-    read_arrivals(alloc, words, files)?;
-    replay_plan(alloc, &plan, slots, out)
+    let slots = u64::from(slots);
+    let arrivals = recorded(alloc, words, files, slots, plan.tasks())?;
+    replay_plan(alloc, plan, arrivals.as_slice(), slots, out)
 }
 
 /// Writes the numbers of the plan, in one put.
 fn check_plan<K: Sink>(alloc: Global, plan: &Plan, out: &mut K) -> Result<(), Refusal>
-    ensures { IsWriting (check_line plan.now.tasks) result
-        (K.written out.old) (K.written out.new) (K.faults out.old) (K.faults out.new) }
+    ensures { IsWriting K.written K.faults (check_line plan.now.tasks) result out.old out.new }
 {
     let line = check_line(alloc, plan)?;
     out.put(line.as_slice())?;
@@ -98,16 +104,22 @@ fn counts_line(alloc: Global, cycle: u32, jobs: u64, spans: u64) -> Result<Vec<u
     Ok(line)
 }
 
-/// Writes the trace of the plan.
-fn replay_plan<K: Sink>(alloc: Global, plan: &Plan, slots: u32, out: &mut K) -> Result<(), Refusal>
-    requires slots { slots ≤ REPLAY_LIMIT }
-    requires sound { is_sound plan.now.tasks ≡ true }
-    ensures { IsWriting (trace_text plan.now.tasks (trace plan.now.tasks [] slots)) result
-        (K.written out.old) (K.written out.new) (K.faults out.old) (K.faults out.new) }
+/// Writes the trace of the plan with these arrivals. The executive takes all memory when it starts.
+fn replay_plan<K: Sink>(
+    alloc: Global,
+    plan: Plan,
+    arrivals: &[Arrival],
+    slots: u64,
+    out: &mut K,
+) -> Result<(), Refusal>
+    requires some { 1 ≤ slots }
+    requires few { slots ≤ REPLAY_LIMIT }
+    requires fitting { are_fitting plan.tasks slots arrivals.now ≡ true }
+    requires answered { list_all (λ (a : Arrival). is_answered a.event) arrivals.now ≡ true }
+    ensures { IsWriting K.written K.faults
+        (trace_text plan.tasks (trace plan.tasks arrivals.now slots)) result out.old out.new }
 {
-    match plain_replay::replay(alloc, plan, slots, out) {
-        Ok(()) => Ok(()),
-        Err(ReplayFault::Memory) => Err(Refusal::Memory),
-        Err(ReplayFault::Failed) => Err(Refusal::WriteFault),
-    }
+    let mut exec: Exec<RowTable> = Exec::start(alloc, plan)?;
+    arrival_replay::replay(&mut exec, arrivals, slots, out)?;
+    Ok(())
 }

@@ -8,7 +8,7 @@ use Rattle.slot_core.specs.Sporadics.{densest_pattern}
 use Rattle.slot_core.specs.Futures.{pattern_jobs}
 use Rattle.slot_core.specs.Demand.{work_from}
 use Rattle.slot_facts.proofs.Demand.Feasible.{IsFeasible-from_none}
-use Rattle.slot_examples.specs.Sets.{pair_set, crowded_set, late_half_set}
+use Rattle.sample_sets.specs.Sets.{pair_set, crowded_set, late_half_set}
 
 -- no window of the pair has more demand than slots
 pub pair_is_feasible : IsFeasible pair_set 8

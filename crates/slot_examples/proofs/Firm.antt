@@ -5,7 +5,7 @@ use Rattle.slot_core.specs.declared.jobs.Key.TheVariants.{Offline}
 use Rattle.slot_core.specs.declared.events.Event.TheVariants.{Firm, Done}
 use Rattle.slot_core.specs.Texts.{trace_text}
 use Rattle.slot_core.specs.Traces.{trace}
-use Rattle.slot_examples.specs.Sets.{borrowing_set, pair_set}
+use Rattle.sample_sets.specs.Sets.{borrowing_set, pair_set}
 use Rattle.slot_examples.specs.Lines.{arrival, lines, lines_at}
 
 -- an offer splits the current span

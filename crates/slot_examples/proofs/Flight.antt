@@ -8,7 +8,7 @@ use Rattle.slot_core.specs.declared.jobs.Key.TheVariants.{Soft as SoftKey}
 use Rattle.slot_core.specs.Histories.{History}
 use Rattle.slot_core.specs.Texts.{entry_line}
 use Rattle.slot_core.specs.Traces.{started, occurrences_of, history_after, shown_entry}
-use Rattle.slot_examples.specs.Sets.{flight_set}
+use Rattle.sample_sets.specs.Sets.{flight_set}
 use Rattle.slot_examples.specs.Lines.{arrival, lines, lines_at, runs_from}
 
 -- two offers, soft work, and the remote control

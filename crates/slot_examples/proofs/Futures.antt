@@ -17,7 +17,7 @@ use Rattle.slot_core.specs.Sporadics.{densest_pattern, IsLegalPattern}
 use Rattle.slot_core.specs.Traces.{started}
 use Rattle.slot_core.specs.Futures.{pattern_jobs, OfferCanBeServed, CyclesCanBeServed, densest_from, DensestLeavesNone, OffersAreExact}
 use Rattle.slot_facts.proofs.Scheduling.Counts.{count_in_window, holds_passing, held_item, sum_by-le_slots}
-use Rattle.slot_examples.specs.Sets.{sporadic, half_set, shared_set, overlong_set, late_half_set}
+use Rattle.sample_sets.specs.Sets.{sporadic, half_set, shared_set, overlong_set, late_half_set}
 use Rattle.slot_examples.proofs.Patterns.{IsLegalPattern-of_one}
 use Rattle.slot_examples.proofs.Schedules.{IsSchedule-from_tests}
 

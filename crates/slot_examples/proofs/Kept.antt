@@ -15,7 +15,7 @@ use Rattle.slot_facts.specs.Bounds.{HistoryIsKept}
 use Rattle.slot_facts.proofs.Demand.Feasible.{IsFeasible-from_none}
 use Rattle.slot_facts.proofs.Legal.Kept.{every_legal_history_is_kept}
 use Rattle.slot_facts.proofs.Lists.Members.{Has-from_Contains, Contains-from_Has}
-use Rattle.slot_examples.specs.Sets.{half_set, overlong_set, shared_set}
+use Rattle.sample_sets.specs.Sets.{half_set, overlong_set, shared_set}
 use Rattle.slot_examples.proofs.Legal.{run_then_idle}
 
 -- three slots of work that are due by 2 are not safe

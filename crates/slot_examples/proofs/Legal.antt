@@ -6,7 +6,7 @@ use Rattle.slot_core.specs.declared.events.Event.TheVariants.{Soft, Firm, Sporad
 use Rattle.slot_core.specs.declared.events.What.TheVariants.{Start, Firm as FirmEntry, Run, Idle}
 use Rattle.slot_core.specs.declared.events.Firm.TheVariants.{Accepted}
 use Rattle.slot_core.specs.Traces.{Occurrence, arrive, slot, started, told_of, IsLegal}
-use Rattle.slot_examples.specs.Sets.{half_set}
+use Rattle.sample_sets.specs.Sets.{half_set}
 
 -- in the first of two slots the job runs, the second is idle, and a later start changes nothing
 pub run_then_idle : IsLegal half_set 2 (Idle ∷ Start ∷ Run (Offline 0 0 0) ∷ started)

@@ -8,7 +8,7 @@ use Rattle.slot_core.specs.Traces.{started}
 use Rattle.slot_core.specs.Matches.{HaveSameItems, MatchesHistory}
 use Rattle.slot_core.specs.Plans.{plan_spans}
 use Rattle.slot_core.specs.Executives.{Executive, StandsFor}
-use Rattle.slot_examples.specs.Sets.{half_set}
+use Rattle.sample_sets.specs.Sets.{half_set}
 
 -- a list of three has the same items in reverse
 same_in_reverse : {X : Type 0} (a b c : X) → HaveSameItems (c ∷ b ∷ a ∷ []) (a ∷ b ∷ c ∷ [])

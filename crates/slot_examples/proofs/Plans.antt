@@ -7,7 +7,7 @@ use Rattle.slot_core.specs.Cycles.{cycle_of}
 use Rattle.slot_core.specs.Feasible.{counterexample}
 use Rattle.slot_core.specs.Plans.{plan_spans}
 use Rattle.slot_core.specs.Reports.{check_line}
-use Rattle.slot_examples.specs.Sets.{pair_set, offset_set, alarm_set, flight_set, crowded_set, overlong_set, two_alarms_set, long_chain_set}
+use Rattle.sample_sets.specs.Sets.{pair_set, offset_set, alarm_set, flight_set, crowded_set, overlong_set, two_alarms_set, long_chain_set}
 
 abbrev span : ℕ → ℕ → ℕ → ℤ → Span
 span start end work spare = record { start = start; end = end; work = work; spare = spare }

@@ -8,7 +8,7 @@ use Rattle.slot_core.specs.Scenes.{Scene, horizon, scene_of}
 use Rattle.slot_core.specs.Demand.{need_by, HasRoom}
 use Rattle.slot_core.specs.Traces.{started}
 use Rattle.slot_facts.proofs.Lists.Members.{Has-range_with_len, passes_from_list_all}
-use Rattle.slot_examples.specs.Sets.{pair_set, alarm_set}
+use Rattle.sample_sets.specs.Sets.{pair_set, alarm_set}
 
 -- up to time x there is room
 abbrev fits_by : List Sporadic → Scene → ℕ → ℕ → Bool

@@ -10,7 +10,7 @@ use Rattle.slot_core.specs.Windows.{raw_release, raw_deadline, precedes}
 use Rattle.slot_core.specs.Scenes.{scene_of}
 use Rattle.slot_core.specs.Traces.{started}
 use Rattle.slot_core.specs.Schedules.{holds, IsSchedule}
-use Rattle.slot_examples.specs.Sets.{row_set}
+use Rattle.sample_sets.specs.Sets.{row_set}
 use Rattle.slot_examples.proofs.Tests.{each_place, at_place, implies, from_implies}
 
 -- the test of the job that a slot holds

@@ -22,7 +22,7 @@ use Rattle.slot_core.specs.Traces.{started, occurrences_of, history_after}
 use Rattle.slot_core.specs.Windows.{raw_release, raw_deadline, precedes}
 use Rattle.slot_facts.proofs.Choice.Earliest.{same_from_key, equal_itself}
 use Rattle.slot_facts.proofs.Lists.Members.{Has-from_Contains, Contains-from_Has, Has-from_list_any, passes_from_list_all}
-use Rattle.slot_examples.specs.Sets.{half_set, row_set, pair_set}
+use Rattle.sample_sets.specs.Sets.{half_set, row_set, pair_set}
 use Rattle.slot_examples.specs.Lines.{arrival}
 use Rattle.slot_examples.proofs.Tests.{implies, from_implies, each_entry, at_entry, each_history, at_history}
 

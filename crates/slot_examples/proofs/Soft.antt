@@ -5,7 +5,7 @@ use Rattle.slot_core.specs.declared.jobs.Key.TheVariants.{Offline}
 use Rattle.slot_core.specs.declared.events.Event.TheVariants.{Soft, Firm, Sporadic, Done}
 use Rattle.slot_core.specs.Texts.{trace_text}
 use Rattle.slot_core.specs.Traces.{trace}
-use Rattle.slot_examples.specs.Sets.{pair_set, one_soft_set, alarm_set}
+use Rattle.sample_sets.specs.Sets.{pair_set, one_soft_set, alarm_set}
 use Rattle.slot_examples.specs.Lines.{arrival, lines, lines_at, runs_from}
 
 -- after an early end the derived start of the successor stays

@@ -8,7 +8,7 @@ use Rattle.slot_core.specs.Plans.{PlanParts, IsPlan, plan_spans}
 use Rattle.slot_core.specs.Reports.{show_text}
 use Rattle.slot_core.specs.Spelling.{spelling}
 use Rattle.slot_facts.proofs.Demand.Feasible.{IsFeasible-from_none}
-use Rattle.slot_examples.specs.Sets.{pair_set}
+use Rattle.sample_sets.specs.Sets.{pair_set}
 use Rattle.slot_examples.specs.Lines.{lines}
 
 -- its jobs already stand in deadline order

@@ -3,7 +3,7 @@ use Rattle.std.specs.Prelude.{◌≡◌, [], ◌∷◌, codes, refl}
 use Rattle.std.specs.Fmt.{digits}
 use Rattle.slot_core.specs.Texts.{trace_text}
 use Rattle.slot_core.specs.Traces.{trace}
-use Rattle.slot_examples.specs.Sets.{borrowing_set, offset_set, pair_set}
+use Rattle.sample_sets.specs.Sets.{borrowing_set, offset_set, pair_set}
 use Rattle.slot_examples.specs.Lines.{lines, lines_at}
 
 -- a span that borrows from the one before, and is repaid when its own job runs

@@ -4,7 +4,7 @@ use Rattle.std.specs.Fmt.{digits}
 use Rattle.slot_core.specs.declared.events.Event.TheVariants.{Firm, Withdraw}
 use Rattle.slot_core.specs.Texts.{trace_text}
 use Rattle.slot_core.specs.Traces.{trace}
-use Rattle.slot_examples.specs.Sets.{pair_set}
+use Rattle.sample_sets.specs.Sets.{pair_set}
 use Rattle.slot_examples.specs.Lines.{arrival, lines, lines_at}
 
 -- a job that has not started is taken back, and then is none

@@ -8,5 +8,6 @@ pub mod Offers
 pub mod Offline
 pub mod Patterns
 pub mod Plans
+pub mod Replays
 pub mod Scheduling
 pub mod Sets

@@ -1,5 +1,5 @@
 -- The parts of a plan: its jobs in deadline order, its points and its spans.
-pub mod CycleEnds
+pub mod CyclePoints
 pub mod DeadlineOrder
 pub mod FirstSpans
 pub mod Horizons

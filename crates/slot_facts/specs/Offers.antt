@@ -5,7 +5,7 @@ use Rattle.slot_core.specs.declared.tasks.TaskSet.{TaskSet}
 use Rattle.slot_core.specs.Cycles.{cycle_of}
 use Rattle.slot_core.specs.Ranges.{is_sound}
 use Rattle.slot_core.specs.Feasible.{IsFeasible}
-use Rattle.slot_core.specs.Sporadics.{densest_pattern}
+use Rattle.slot_core.specs.Sporadics.{IsLegalPattern, densest_pattern}
 use Rattle.slot_core.specs.Histories.{History, time_of, last_row, offered_job}
 use Rattle.slot_core.specs.Keys.{row_of}
 use Rattle.slot_core.specs.Kept.{KeepsBounds}
@@ -40,7 +40,7 @@ RoomIsExact =
     → (HasRoom set.sporadics (cycle_of set) (scene_of set (cycle_of set) h) slots within
     ↔ OfferCanBeServed set (cycle_of set) h slots within)
 
--- where there is none, the densest pattern from now on is one that leaves no schedule
+-- where there is none, the densest pattern from now on is a legal one that leaves no schedule
 abbrev pub TheDensestPatternShowsIt : Type 0
 TheDensestPatternShowsIt =
     (set : TaskSet) (h : History) (slots within : ℕ)
@@ -50,14 +50,13 @@ TheDensestPatternShowsIt =
     → let scene = scene_of set (cycle_of set) h in
     let end = horizon (cycle_of set) scene.time in
     let row = last_row h + 1 in
-    ¬ (HasSchedule
+    let pattern = densest_pattern 0 set.sporadics scene.nexts scene.time end in
+    IsLegalPattern set.sporadics scene.nexts scene.time pattern
+    × ¬ (HasSchedule
     set
     (scene.jobs
     ++ offered_job row scene.time slots within ∷ []
-    ++ pattern_jobs
-    set.sporadics
-    (row + 1)
-    (densest_pattern 0 set.sporadics scene.nexts scene.time end))
+    ++ pattern_jobs set.sporadics (row + 1) pattern)
     scene.time
     end)
 

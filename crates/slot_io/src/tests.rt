@@ -53,52 +53,53 @@ fn writes_to_sinks_of_the_host(rt: HostRuntime) -> Result<(), Fail> {
     Ok(())
 }
 
+/// What opening gives, and what a read of four bytes and one more answers.
+const READS: [(
+    Result<&'static [Turn], ErrorKind>,
+    Result<&'static [u8], ReadFault>,
+); 11] = [
+    (Ok(&[]), Ok(b"")),
+    (Ok(&[Gives(b"ab"), Gives(b"c"), Gives(b"d")]), Ok(b"abcd")),
+    (
+        Ok(&[Gives(b"ab"), Gives(b"cdef"), Gives(b"gh")]),
+        Ok(b"abcde"),
+    ),
+    (
+        Ok(&[Gives(b"ab"), Fails(ErrorKind::Interrupted), Gives(b"c")]),
+        Ok(b"abc"),
+    ),
+    (
+        Ok(&[
+            Fails(ErrorKind::Interrupted),
+            Fails(ErrorKind::Interrupted),
+            Gives(b"a"),
+        ]),
+        Ok(b"a"),
+    ),
+    (
+        Ok(&[Fails(ErrorKind::PermissionDenied)]),
+        Err(ReadFault::Failed),
+    ),
+    (
+        Ok(&[Gives(b"ab"), Fails(ErrorKind::UnexpectedEof)]),
+        Err(ReadFault::Failed),
+    ),
+    (
+        Ok(&[Gives(b"ab"), Fails(ErrorKind::Other), Gives(b"c")]),
+        Err(ReadFault::Failed),
+    ),
+    (
+        Ok(&[Gives(b"ab"), Fails(ErrorKind::OutOfMemory)]),
+        Err(ReadFault::Memory),
+    ),
+    (Err(ErrorKind::NotFound), Err(ReadFault::Failed)),
+    (Err(ErrorKind::OutOfMemory), Err(ReadFault::Memory)),
+];
+
 #[test]
 fn reads_on_until_the_end(rt: HostRuntime) -> Result<(), Fail> {
     let alloc = rt.alloc();
-    // What opening gives, and what a read of four bytes and one more answers.
-    let rows: [(
-        Result<&'static [Turn], ErrorKind>,
-        Result<&'static [u8], ReadFault>,
-    ); 11] = [
-        (Ok(&[]), Ok(b"")),
-        (Ok(&[Gives(b"ab"), Gives(b"c"), Gives(b"d")]), Ok(b"abcd")),
-        (
-            Ok(&[Gives(b"ab"), Gives(b"cdef"), Gives(b"gh")]),
-            Ok(b"abcde"),
-        ),
-        (
-            Ok(&[Gives(b"ab"), Fails(ErrorKind::Interrupted), Gives(b"c")]),
-            Ok(b"abc"),
-        ),
-        (
-            Ok(&[
-                Fails(ErrorKind::Interrupted),
-                Fails(ErrorKind::Interrupted),
-                Gives(b"a"),
-            ]),
-            Ok(b"a"),
-        ),
-        (
-            Ok(&[Fails(ErrorKind::PermissionDenied)]),
-            Err(ReadFault::Failed),
-        ),
-        (
-            Ok(&[Gives(b"ab"), Fails(ErrorKind::UnexpectedEof)]),
-            Err(ReadFault::Failed),
-        ),
-        (
-            Ok(&[Gives(b"ab"), Fails(ErrorKind::Other), Gives(b"c")]),
-            Err(ReadFault::Failed),
-        ),
-        (
-            Ok(&[Gives(b"ab"), Fails(ErrorKind::OutOfMemory)]),
-            Err(ReadFault::Memory),
-        ),
-        (Err(ErrorKind::NotFound), Err(ReadFault::Failed)),
-        (Err(ErrorKind::OutOfMemory), Err(ReadFault::Memory)),
-    ];
-    for (opened, answer) in rows {
+    for (opened, answer) in READS {
         let mut files = HostFiles::new(Disk { alloc, opened });
         match files.read(alloc, "a", 4) {
             Ok(bytes) => assert_eq!(rt; Ok(bytes.as_slice()), answer),

@@ -33,15 +33,15 @@ any_earlier p xs i =
 pub told : (found rest : Option TaskFault) (test : Bool) (fault : TaskFault) → found ≡ option_or (fault_if test fault) rest → test ≡ true → found ≡ Some fault
 told found rest test fault is h = is ∙ ap (λ t. option_or (fault_if t fault) rest) h
 
-pub passed : (found rest : Option TaskFault) (test : Bool) (fault : TaskFault) → found ≡ option_or (fault_if test fault) rest → test ≡ false → found ≡ rest
-passed found rest test fault is h = is ∙ ap (λ t. option_or (fault_if t fault) rest) h
+pub told_later : (found rest : Option TaskFault) (test : Bool) (fault : TaskFault) → found ≡ option_or (fault_if test fault) rest → test ≡ false → found ≡ rest
+told_later found rest test fault is h = is ∙ ap (λ t. option_or (fault_if t fault) rest) h
 
 -- a part that has a fault, and one that has none
 pub told_part : (found part rest : Option TaskFault) (fault : TaskFault) → found ≡ option_or part rest → part ≡ Some fault → found ≡ Some fault
 told_part found part rest fault is h = is ∙ ap (λ o. option_or o rest) h
 
-pub passed_part : (found part rest : Option TaskFault) → found ≡ option_or part rest → part ≡ None → found ≡ rest
-passed_part found part rest is h = is ∙ ap (λ o. option_or o rest) h
+pub told_after_part : (found part rest : Option TaskFault) → found ≡ option_or part rest → part ≡ None → found ≡ rest
+told_after_part found part rest is h = is ∙ ap (λ o. option_or o rest) h
 
 -- the first fault from place i on
 abbrev pub faults_from : {X : Type 0} → (ℕ → X → Option TaskFault) → List X → ℕ → Option TaskFault

@@ -1,9 +1,9 @@
 //! Faults of sets of two graphs, each of two tasks.
 
 use crate::check;
+use sample_sets::{Case, two_pairs};
 use slot_core::TaskFault::{CycleTooLong, Doubled, Loop, NoSuchTask};
 use slot_core::{Field, Part, Place, TaskFault};
-use slot_examples::{Case, two_pairs};
 use std::test::Fail;
 
 /// A case of these parts, and its first fault.

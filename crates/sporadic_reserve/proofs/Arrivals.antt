@@ -26,7 +26,7 @@ Reserved-arrived rows read after kept before i t separation view same is within 
     let nexts_are : (reserved rows).nexts ≡ before.nexts = ap (λ (r : Reserved). r.nexts) view in
     let found : slice_get before.sporadics i ≡ Some (task_of (get_or rows i no_row)) = subst (λ (ss : List Sporadic). i < length ss → slice_get ss i ≡ Some (task_of (get_or rows i no_row))) tasks_are (task_at rows i) within in
     let gap' : separation ≡ (get_or rows i no_row).separation = rw same at gap in
-    let moved : (reserved after).nexts ≡ slice_set before.nexts i (t + (get_or rows i no_row).separation) = nexts ∙ ap (λ (ns : List ℕ). slice_set ns i (t + separation)) nexts_are ∙ ap (λ n. slice_set before.nexts i (t + n)) gap' in
+    let nexts_after : (reserved after).nexts ≡ slice_set before.nexts i (t + (get_or rows i no_row).separation) = nexts ∙ ap (λ (ns : List ℕ). slice_set ns i (t + separation)) nexts_are ∙ ap (λ n. slice_set before.nexts i (t + n)) gap' in
     let stays : (reserved after).sporadics ≡ before.sporadics = tasks ∙ tasks_are in
     let now : reserved kept ≡ reserved after = ap reserved is in
     rw found (cc)

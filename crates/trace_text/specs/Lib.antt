@@ -1,0 +1,2 @@
+pub mod TakerLaws
+pub mod Takers

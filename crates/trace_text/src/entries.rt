@@ -1,6 +1,6 @@
 //! The texts of entries and keys.
 
-ghost use Rattle.std.specs.Prelude.{◌≡◌, ◌≤◌, ◌+◌, ◌++◌, true, length};
+ghost use Rattle.std.specs.Prelude.{◌≡◌, ◌≤◌, ◌+◌, [], ◌++◌, true, length};
 ghost use Rattle.slot_core.specs.Arrivals.{key_in_set, what_in_set};
 ghost use Rattle.slot_core.specs.Texts.{entry_line, key_text, spans_text};
 
@@ -16,12 +16,21 @@ pub fn entry_line(entry: &Entry, tasks: &TaskSet) -> Line
     ensures { result ≡ entry_line tasks.now entry.now }
 {
     let mut line = Line::new();
+    push_entry(&mut line, entry, tasks);
+    line
+}
+
+/// Writes the line of an entry into an empty line.
+pub(crate) fn push_entry(line: &mut Line, entry: &Entry, tasks: &TaskSet)
+    requires empty { line.old ≡ [] }
+    requires named { what_in_set tasks.now entry.now.what ≡ true }
+    ensures { line.new ≡ entry_line tasks.now entry.now }
+{
     line.number(entry.time);
     line.push(b" ");
-    push_what(&mut line, entry.what, tasks);
-    push_tail(&mut line, entry.what, &entry.shown);
+    push_what(line, entry.what, tasks);
+    push_tail(line, entry.what, &entry.shown);
     line.push(b"\n");
-    line
 }
 
 /// Appends what stands after the words of an entry: nothing at the end, else the spans.

@@ -4,10 +4,10 @@ ghost use Rattle.std.specs.Prelude.{◌≡◌};
 ghost use Rattle.slot_core.specs.Arrivals.{key_in_set, what_in_set};
 
 use crate::entries::{entry_line, key_text};
+use sample_sets::long_names_set;
 use slot_core::{
     Done, Entry, Evidence, Firm, Gone, Key, SHOWN_LIMIT, Shown, Soft, Span, Spo, TaskSet, What,
 };
-use slot_examples::long_names_set;
 use std::test::Fail;
 
 /// Whether the key lies in the task set.

@@ -1,8 +1,8 @@
 //! Orders of graphs of four tasks, and derived windows.
 
 use crate::{OrderFault, derive, order};
+use sample_sets::{four_tasks, pair_set};
 use slot_core::{Job, Key, RawJob};
-use slot_examples::{four_tasks, pair_set};
 use std::test::Fail;
 
 #[test]

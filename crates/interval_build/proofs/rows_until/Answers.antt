@@ -7,8 +7,8 @@ use Rattle.interval_build.proofs.Due.{left_of, all_due_after, work_of_front, res
 use Rattle.interval_build.proofs.RowSteps.{AreRising-turn, rows_turn}
 use Rattle.interval_build.proofs.rows_until.Goals as goal
 
-pub loop-end-init : goal.loop-end-init
-loop-end-init c =
+pub loop-point-init : goal.loop-point-init
+loop-point-init c =
     let jobs = c.args.jobs.now in
     record {
       rows = rw c.new-rows.ensures.items refl;
@@ -20,22 +20,22 @@ loop-end-init c =
 pub work_of-requires : goal.work_of-requires
 work_of-requires c =
     let jobs = c.args.jobs.now in
-    let end = get_or c.args.ends.now c.loop-end.end-index 0 in
-    let before = c.loop-end.invariant in
-    let work = ap (sum_by left_of) c.split_at.ensures.front ∙ work_of_front jobs c.loop-end.rest.now c.loop-end.from end c.count_due.result before.rest before.ordered c.count_due.ensures.count in
-    omega (arith, work, work_between-le jobs c.loop-end.from end, c.requires.small)
+    let point = get_or c.args.points.now c.loop-point.point-index 0 in
+    let before = c.loop-point.invariant in
+    let work = ap (sum_by left_of) c.split_at.ensures.front ∙ work_of_front jobs c.loop-point.rest.now c.loop-point.from point c.count_due.result before.rest before.ordered c.count_due.ensures.count in
+    omega (arith, work, work_between-le jobs c.loop-point.from point, c.requires.small)
 
-pub loop-end-preserved : goal.loop-end-preserved
-loop-end-preserved c =
+pub loop-point-preserved : goal.loop-point-preserved
+loop-point-preserved c =
     let jobs = c.args.jobs.now in
-    let end = get_or c.args.ends.now c.loop-end.end-index 0 in
-    let before = c.loop-end.invariant in
-    let turn = AreRising-turn c.loop-end.from c.loop-end.end-index c.args.ends.now c.loop-end-test.true before.rising in
-    let work = c.work_of.ensures ∙ ap (sum_by left_of) c.split_at.ensures.front ∙ work_of_front jobs c.loop-end.rest.now c.loop-end.from end c.count_due.result before.rest before.ordered c.count_due.ensures.count in
+    let point = get_or c.args.points.now c.loop-point.point-index 0 in
+    let before = c.loop-point.invariant in
+    let turn = AreRising-turn c.loop-point.from c.loop-point.point-index c.args.points.now c.loop-point-test.true before.rising in
+    let work = c.work_of.ensures ∙ ap (sum_by left_of) c.split_at.ensures.front ∙ work_of_front jobs c.loop-point.rest.now c.loop-point.from point c.count_due.result before.rest before.ordered c.count_due.ensures.count in
     let pushed = c.in_ok-push.ensures.items in
     record {
-      rows = ap (λ rows. rows ++ rows_between jobs end (drop (c.loop-end.end-index + 1) c.args.ends.now)) pushed ∙ rows_turn jobs c.loop-end.rows.items _ c.loop-end.from c.loop-end.end-index c.work_of.result c.args.ends.now c.loop-end-test.true before.rows work;
+      rows = ap (λ rows. rows ++ rows_between jobs point (drop (c.loop-point.point-index + 1) c.args.points.now)) pushed ∙ rows_turn jobs c.loop-point.rows.items _ c.loop-point.from c.loop-point.point-index c.work_of.result c.args.points.now c.loop-point-test.true before.rows work;
       rising = turn.1;
-      rest = c.split_at.ensures.back ∙ rest_of_front jobs c.loop-end.rest.now c.loop-end.from end c.count_due.result (omega (arith, turn.0)) before.rest before.ordered c.count_due.ensures.count;
-      ordered = subst AreInDeadlineOrder (sym c.split_at.ensures.back) (AreInDeadlineOrder-drop c.count_due.result c.loop-end.rest.now before.ordered);
+      rest = c.split_at.ensures.back ∙ rest_of_front jobs c.loop-point.rest.now c.loop-point.from point c.count_due.result (omega (arith, turn.0)) before.rest before.ordered c.count_due.ensures.count;
+      ordered = subst AreInDeadlineOrder (sym c.split_at.ensures.back) (AreInDeadlineOrder-drop c.count_due.result c.loop-point.rest.now before.ordered);
     }

@@ -5,20 +5,20 @@ use Rattle.interval_build.proofs.Filled.{AreDueAt-from_All, AreDueAfter-start, f
 use Rattle.interval_build.proofs.spans_until.Goals as goal
 
 pub rows_until-requires-clause-later : goal.rows_until-requires-clause-later
-rows_until-requires-clause-later c = AreDueAfter-start c.args.jobs.now c.args.start c.args.ends.now c.requires.rising c.requires.due
+rows_until-requires-clause-later c = AreDueAfter-start c.args.jobs.now c.args.start c.args.points.now c.requires.rising c.requires.due
 
 pub fill-requires-clause-consecutive : goal.fill-requires-clause-consecutive
 fill-requires-clause-consecutive c =
     let rows = c.deref_mut.ensures.value ∙ c.in_ok-rows.ensures in
-    subst AreConsecutive (sym rows) (AreConsecutive-rows_between c.args.jobs.now c.args.start c.args.ends.now c.requires.rising c.requires.near c.requires.small)
+    subst AreConsecutive (sym rows) (AreConsecutive-rows_between c.args.jobs.now c.args.start c.args.points.now c.requires.rising c.requires.near c.requires.small)
 
 pub fill-requires-clause-few : goal.fill-requires-clause-few
 fill-requires-clause-few c =
     let rows = c.deref_mut.ensures.value ∙ c.in_ok-rows.ensures in
-    omega (arith, ap length rows, length-rows_between c.args.jobs.now c.args.start c.args.ends.now)
+    omega (arith, ap length rows, length-rows_between c.args.jobs.now c.args.start c.args.points.now)
 
 pub returns : goal.returns
 returns c =
     let rows = c.deref_mut.ensures.value ∙ c.in_ok-rows.ensures in
-    let done = c.fill.ensures ∙ ap filled rows ∙ filled-rows_between c.args.jobs.now c.args.start c.args.ends.now c.requires.rising (AreDueAt-from_All c.args.jobs.now c.args.start c.args.ends.now c.requires.due) in
+    let done = c.fill.ensures ∙ ap filled rows ∙ filled-rows_between c.args.jobs.now c.args.start c.args.points.now c.requires.rising (AreDueAt-from_All c.args.jobs.now c.args.start c.args.points.now c.requires.due) in
     take_at c.fill.new.rows _ c.in_ok-rows.rows.len (omega arith) ∙ done

@@ -6,6 +6,7 @@ use Rattle.slot_cli.specs.Commands.{command_of}
 use Rattle.slot_cli.specs.Due.{expected}
 use Rattle.slot_cli.proofs.StatusLemmas.{status-tells, reported-due, reported-answers, reported-unreadable, IfSome-from_each}
 use Rattle.slot_cli.proofs.ServedRuns.{served-planned}
+use Rattle.slot_cli.proofs.RecordedArrivals.{fitting-recorded}
 use Rattle.slot_cli.proofs.VerdictLemmas.{cycles-planned, IsInfeasibleRun-expected}
 use Rattle.slot_cli.proofs.run.Goals as goal
 
@@ -16,6 +17,14 @@ returns-in-Ok-clause-done g c =
 pub returns-in-Ok-clause-served : goal.returns-in-Ok-clause-served
 returns-in-Ok-clause-served g c =
     IfSome-from_each (g.F.Files.held c.args.files.now) _ (λ held told. served-planned held c.args.words.now)
+
+pub returns-in-Ok-clause-fitting : goal.returns-in-Ok-clause-fitting
+returns-in-Ok-clause-fitting g c =
+    IfSome-from_each (g.F.Files.held c.args.files.now) _ (λ held told. fitting-recorded held c.args.words.now)
+
+pub returns-in-Err-clause-fitting : goal.returns-in-Err-clause-fitting
+returns-in-Err-clause-fitting g c =
+    IfSome-from_each (g.F.Files.held c.args.files.now) _ (λ held told. fitting-recorded held c.args.words.now)
 
 pub returns-in-Err-clause-whole : goal.returns-in-Err-clause-whole
 returns-in-Err-clause-whole g c =
@@ -58,10 +67,10 @@ returns-in-Err-clause-infeasible g c =
 pub returns-in-Err-clause-bad_arrivals : goal.returns-in-Err-clause-bad_arrivals
 returns-in-Err-clause-bad_arrivals g c =
     λ status.
-    let is = status-tells _ Status.BadArrivals c.report.result c.status.ensures status in
+    let (fault, is) = status-tells _ Status.BadArrivals c.report.result c.status.ensures status in
     let held = g.F.Files.held c.args.files.now in
     let due = reported-due held (command_of c.args.words.now) (λ files. expected files c.args.words.now) c.in-Err.refusal c.report.result (ap is_found is) c.report.ensures.kept c.in-Err.ensures.answers in
-    IfSome_then held due (λ files e. e ∙ ap Err is)
+    IfSome_then held due (λ files e. (fault, e ∙ ap Err is))
 
 pub returns-in-Err-clause-served : goal.returns-in-Err-clause-served
 returns-in-Err-clause-served g c =

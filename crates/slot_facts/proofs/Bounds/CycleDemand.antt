@@ -20,7 +20,7 @@ use Rattle.slot_facts.proofs.Sets.Ranges.{bounds, SporadicRanges-from_test, SetR
 use Rattle.slot_facts.proofs.Offline.CycleMultiples.{div-mul-IsMultiple, IsMultiple-fold}
 use Rattle.slot_facts.proofs.Offline.Jobs.{cycle_lengths-positive, cycle-positive}
 use Rattle.slot_facts.proofs.Offline.LaterCycles.{cycle_jobs-later}
-use Rattle.slot_facts.proofs.Demand.Arrivals.{arrivals_due-none, arrivals_due-moved}
+use Rattle.slot_facts.proofs.Demand.Arrivals.{arrivals_due-none, arrivals_due-shifted_to_zero}
 use Rattle.slot_facts.proofs.Patterns.Counts.{arrivals_due-from, is_due, is_counted}
 
 -- the separation divides the cycle, and an arrival is due before the next one
@@ -96,12 +96,12 @@ sporadic_demand-whole cycle [] fit = omega arith
 sporadic_demand-whole cycle (s ∷ ss) fit =
     omega (arith, task_demand-whole s cycle fit.0, sporadic_demand-whole cycle ss fit.1)
 
--- the arrivals between two times, and between two times moved alike
+-- the arrivals between two times, and between two times shifted alike
 pub sporadic_demand-shifted : (cycle : ℕ) (ss : List Sporadic) (a b c : ℕ) → AllByRecursion (FitsCycle cycle) ss → a ≤ b → sporadic_demand ss [] (a + c) (b + c) ≡ sporadic_demand ss [] a b
 sporadic_demand-shifted cycle [] a b c fit low = refl
 sporadic_demand-shifted cycle (s ∷ ss) a b c fit low =
     let length : (b + c) - (a + c) ≡ b - a = omega arith in
-    let here : arrivals_due s 0 (a + c) (b + c) ≡ arrivals_due s 0 a b = arrivals_due-moved s (a + c) (b + c) fit.0.apart (omega arith) ∙ ap (arrivals_due s 0 0) length ∙ sym (arrivals_due-moved s a b fit.0.apart low) in
+    let here : arrivals_due s 0 (a + c) (b + c) ≡ arrivals_due s 0 a b = arrivals_due-shifted_to_zero s (a + c) (b + c) fit.0.apart (omega arith) ∙ ap (arrivals_due s 0 0) length ∙ sym (arrivals_due-shifted_to_zero s a b fit.0.apart low) in
     omega (arith, ap (λ n. s.wcet * n) here, sporadic_demand-shifted cycle ss a b c fit.1 low)
 
 -- no arrival is due at once

@@ -51,15 +51,15 @@ sum_until-two f p (suc n) early late =
 pub offline_jobs-le : (set : TaskSet) (n : ℕ) (f : Job → ℕ) (h : ℕ → Job → ℕ) (e : Job → ℕ) → is_sound set ≡ true → IsFeasible set (cycle_of set) → ((k : ℕ) (job other : Job) → IsLaterJob (cycle_of set) (k * cycle_of set) job other → f other ≤ h k job) → ((job : Job) → sum_until (λ k. h k job) n ≤ e job) → sum_by f (offline_jobs set (cycle_of set) n) ≤ sum_by e (cycle_jobs set (cycle_of set) 0)
 offline_jobs-le set n f h e sound feasible each room =
     let jobs = cycle_jobs set (cycle_of set) 0 in
-    omega (arith, moved n, sum_by-le-sum_by (λ job. sum_until (λ k. h k job) n) e jobs room)
+    omega (arith, up_to n, sum_by-le-sum_by (λ job. sum_until (λ k. h k job) n) e jobs room)
   where
-    moved : (m : ℕ) → sum_by f (offline_jobs set (cycle_of set) m) ≤ sum_by (λ job. sum_until (λ k. h k job) m) (cycle_jobs set (cycle_of set) 0)
-    moved zero = omega arith
-    moved (suc m) =
+    up_to : (m : ℕ) → sum_by f (offline_jobs set (cycle_of set) m) ≤ sum_by (λ job. sum_until (λ k. h k job) m) (cycle_jobs set (cycle_of set) 0)
+    up_to zero = omega arith
+    up_to (suc m) =
         omega (
           arith,
           sum_by-append f (offline_jobs set (cycle_of set) m) (cycle_jobs set (cycle_of set) m),
-          moved m,
+          up_to m,
           cycle_jobs-later set m f (h m) sound feasible (each m),
           sum_by-plus (λ job. sum_until (λ k. h k job) m) (h m) (λ job. sum_until (λ k. h k job) (suc m)) (cycle_jobs set (cycle_of set) 0) (λ job. refl),
         )
@@ -89,8 +89,8 @@ due_once x cycle dl w (suc n) =
       | inr within ↦ omega (arith, none_due_before x cycle dl w n within, cond-le (nat_lt x (dl + n * cycle) && nat_le (dl + n * cycle) (x + cycle)) w)
     ]
 
-due_as_moved : (x cycle moved dl other_dl declared left : ℕ) → other_dl ≡ dl + moved → left ≡ declared → cond (nat_lt x other_dl && nat_le other_dl (x + cycle)) left 0 ≤ cond (nat_lt x (dl + moved) && nat_le (dl + moved) (x + cycle)) declared 0
-due_as_moved x cycle moved dl other_dl declared left at same = grind (arith, nat_tests)
+due_as_shifted : (x cycle shift dl other_dl declared left : ℕ) → other_dl ≡ dl + shift → left ≡ declared → cond (nat_lt x other_dl && nat_le other_dl (x + cycle)) left 0 ≤ cond (nat_lt x (dl + shift) && nat_le (dl + shift) (x + cycle)) declared 0
+due_as_shifted x cycle shift dl other_dl declared left at same = grind (arith, nat_tests)
 
 -- in the time of one cycle no more than the slots of one cycle are due
 pub due_in_one_cycle : (set : TaskSet) (n x : ℕ) → is_sound set ≡ true → IsFeasible set (cycle_of set) → work_between (offline_jobs set (cycle_of set) n) x (x + cycle_of set) ≤ sum_by (λ (j : Job). j.declared) (cycle_jobs set (cycle_of set) 0)
@@ -104,5 +104,5 @@ due_in_one_cycle set n x sound feasible =
     (λ (j : Job). j.declared)
     sound
     feasible
-    (λ k job other m. due_as_moved x cycle (k * cycle) job.dl other.dl job.declared other.left m.dl m.left)
+    (λ k job other m. due_as_shifted x cycle (k * cycle) job.dl other.dl job.declared other.left m.dl m.left)
     (λ job. due_once x cycle job.dl job.declared n)

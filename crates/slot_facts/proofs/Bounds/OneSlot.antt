@@ -88,8 +88,8 @@ after_run-apart key jobs apart k =
         omega (arith, same, cond-le (nat_lt 0 (job_after key j).left) (cond (same_key (job_after key j).key k) 1 0))
 
 -- what a slot leaves
-pub slot-leaves : (t : ℕ) (jobs : List Job) → ((job : Job) → Has jobs job → 1 ≤ job.left) → AreApart jobs → IsAfterSlot t jobs (after_slot (option_map_or (λ (j : Job). KeyRan j.key) (earliest (ready t jobs)) Idle) jobs)
-slot-leaves t jobs some apart = by_chosen (earliest (ready t jobs)) refl
+pub IsAfterSlot-from_choice : (t : ℕ) (jobs : List Job) → ((job : Job) → Has jobs job → 1 ≤ job.left) → AreApart jobs → IsAfterSlot t jobs (after_slot (option_map_or (λ (j : Job). KeyRan j.key) (earliest (ready t jobs)) Idle) jobs)
+IsAfterSlot-from_choice t jobs some apart = by_chosen (earliest (ready t jobs)) refl
   where
     by_chosen : (c : Option Job) → earliest (ready t jobs) ≡ c → IsAfterSlot t jobs (after_slot (option_map_or (λ (j : Job). KeyRan j.key) c Idle) jobs)
     by_chosen None e =
@@ -177,5 +177,5 @@ one_slot_keeps_the_bounds set cycles scene sound feasible bounds early =
     sound
     bounds
     early
-    (slot-leaves scene.time scene.jobs some bounds.apart)
+    (IsAfterSlot-from_choice scene.time scene.jobs some bounds.apart)
     (one_slot set.sporadics scene (cycles * cycle_of set) all early (kept_scenes_are_safe set cycles scene sound feasible bounds))

@@ -28,26 +28,26 @@ inside_at cycle a x job k =
     cond (nat_le a (job.est + k * cycle) && nat_le (job.dl + k * cycle) x && (nat_lt job.est job.dl && nat_le job.dl cycle)) job.declared 0
 
 -- a job that counts in a window counts so
-inside_as_moved : (cycle a x moved est dl declared other_est other_dl left : ℕ) → other_est ≡ est + moved → other_dl ≡ dl + moved → left ≡ declared → est + declared ≤ dl → 1 ≤ declared → dl ≤ cycle → cond (nat_le a other_est && nat_le other_dl x) left 0 ≤ cond (nat_le a (est + moved) && nat_le (dl + moved) x && (nat_lt est dl && nat_le dl cycle)) declared 0
-inside_as_moved cycle a x moved est dl declared other_est other_dl left e f g h k l = grind (arith, nat_tests)
+inside_as_shifted : (cycle a x shift est dl declared other_est other_dl left : ℕ) → other_est ≡ est + shift → other_dl ≡ dl + shift → left ≡ declared → est + declared ≤ dl → 1 ≤ declared → dl ≤ cycle → cond (nat_le a other_est && nat_le other_dl x) left 0 ≤ cond (nat_le a (est + shift) && nat_le (dl + shift) x && (nat_lt est dl && nat_le dl cycle)) declared 0
+inside_as_shifted cycle a x shift est dl declared other_est other_dl left e f g h k l = grind (arith, nat_tests)
 
--- the slots of a job of the first cycle in the window [u, v), and moved by a cycle where that goes past the first
+-- the slots of a job of the first cycle in the window [u, v), and shifted by a cycle where that goes past the first
 abbrev inside_two : ℕ → ℕ → ℕ → Job → ℕ
 inside_two cycle u v job =
     cond (nat_le u (job.est + 0) && nat_le (job.dl + 0) v) job.declared 0
     + cond (nat_lt cycle v) (cond (nat_le u (job.est + cycle) && nat_le (job.dl + cycle) v) job.declared 0) 0
 
-inside-early : (cycle a x moved est dl w : ℕ) → moved + cycle ≤ a → cond (nat_le a (est + moved) && nat_le (dl + moved) x && (nat_lt est dl && nat_le dl cycle)) w 0 ≡ 0
-inside-early cycle a x moved est dl w early = grind (arith, nat_tests)
+inside-early : (cycle a x shift est dl w : ℕ) → shift + cycle ≤ a → cond (nat_le a (est + shift) && nat_le (dl + shift) x && (nat_lt est dl && nat_le dl cycle)) w 0 ≡ 0
+inside-early cycle a x shift est dl w early = grind (arith, nat_tests)
 
-inside-late : (cycle a x moved est dl w : ℕ) → x ≤ moved → cond (nat_le a (est + moved) && nat_le (dl + moved) x && (nat_lt est dl && nat_le dl cycle)) w 0 ≡ 0
-inside-late cycle a x moved est dl w late = grind (arith, nat_tests)
+inside-late : (cycle a x shift est dl w : ℕ) → x ≤ shift → cond (nat_le a (est + shift) && nat_le (dl + shift) x && (nat_lt est dl && nat_le dl cycle)) w 0 ≡ 0
+inside-late cycle a x shift est dl w late = grind (arith, nat_tests)
 
-inside-here : (cycle a x u v moved est dl w : ℕ) → a ≡ moved + u → x ≡ moved + v → cond (nat_le a (est + moved) && nat_le (dl + moved) x && (nat_lt est dl && nat_le dl cycle)) w 0 ≤ cond (nat_le u (est + 0) && nat_le (dl + 0) v) w 0
-inside-here cycle a x u v moved est dl w at_a at_x = grind (arith, nat_tests)
+inside-here : (cycle a x u v shift est dl w : ℕ) → a ≡ shift + u → x ≡ shift + v → cond (nat_le a (est + shift) && nat_le (dl + shift) x && (nat_lt est dl && nat_le dl cycle)) w 0 ≤ cond (nat_le u (est + 0) && nat_le (dl + 0) v) w 0
+inside-here cycle a x u v shift est dl w at_a at_x = grind (arith, nat_tests)
 
-inside-next : (cycle a x u v moved est dl w : ℕ) → a + cycle ≡ moved + u → x + cycle ≡ moved + v → cond (nat_le a (est + moved) && nat_le (dl + moved) x && (nat_lt est dl && nat_le dl cycle)) w 0 ≤ cond (nat_lt cycle v) (cond (nat_le u (est + cycle) && nat_le (dl + cycle) v) w 0) 0
-inside-next cycle a x u v moved est dl w at_a at_x = grind (arith, nat_tests)
+inside-next : (cycle a x u v shift est dl w : ℕ) → a + cycle ≡ shift + u → x + cycle ≡ shift + v → cond (nat_le a (est + shift) && nat_le (dl + shift) x && (nat_lt est dl && nat_le dl cycle)) w 0 ≤ cond (nat_lt cycle v) (cond (nat_le u (est + cycle) && nat_le (dl + cycle) v) w 0) 0
+inside-next cycle a x u v shift est dl w at_a at_x = grind (arith, nat_tests)
 
 -- in a window from cycle p on and of at most two cycles the job counts in cycle p and in the next one alone
 inside-two : (cycle p u v n : ℕ) (job : Job) → v ≤ 2 * cycle → sum_until (inside_at cycle (p * cycle + u) (p * cycle + v) job) n ≤ inside_two cycle u v job
@@ -87,17 +87,17 @@ short_window set n p u v sound feasible start some short =
     (inside_two cycle u v)
     sound
     feasible
-    (λ k job other m. inside_as_moved cycle a x (k * cycle) job.est job.dl job.declared other.est other.dl other.left m.est m.dl m.left m.room m.some m.within)
+    (λ k job other m. inside_as_shifted cycle a x (k * cycle) job.est job.dl job.declared other.est other.dl other.left m.est m.dl m.left m.room m.some m.within)
     (λ job. inside-two cycle p u v n job short) in
     let parts = sum_by-plus first (λ (j : Job). cond (nat_lt cycle v) (next j) 0) (inside_two cycle u v) jobs (λ job. refl) in
     let at_a : u + p * cycle ≡ a = omega arith in
     let at_x : v + p * cycle ≡ x = omega arith in
-    let moved : sporadic_demand set.sporadics [] a x ≡ sporadic_demand set.sporadics [] u v = subst (λ b. sporadic_demand set.sporadics [] b x ≡ sporadic_demand set.sporadics [] u v) at_a (subst (λ y. sporadic_demand set.sporadics [] (u + p * cycle) y ≡ sporadic_demand set.sporadics [] u v) at_x (sporadic_demand-shifted cycle set.sporadics u v (p * cycle) (FitCycle-from_sound set sound) (omega arith))) in
-    omega (arith, work, parts, sum_by-cond_all (nat_lt cycle v) next jobs, moved, feasible u v start some short)
+    let arrivals : sporadic_demand set.sporadics [] a x ≡ sporadic_demand set.sporadics [] u v = subst (λ b. sporadic_demand set.sporadics [] b x ≡ sporadic_demand set.sporadics [] u v) at_a (subst (λ y. sporadic_demand set.sporadics [] (u + p * cycle) y ≡ sporadic_demand set.sporadics [] u v) at_x (sporadic_demand-shifted cycle set.sporadics u v (p * cycle) (FitCycle-from_sound set sound) (omega arith))) in
+    omega (arith, work, parts, sum_by-cond_all (nat_lt cycle v) next jobs, arrivals, feasible u v start some short)
 
 -- in an empty window nothing counts
-empty_as_moved : (a moved est dl declared other_est other_dl left : ℕ) → other_est ≡ est + moved → other_dl ≡ dl + moved → est + declared ≤ dl → 1 ≤ declared → cond (nat_le a other_est && nat_le other_dl a) left 0 ≤ 0
-empty_as_moved a moved est dl declared other_est other_dl left e f g h = grind (arith, nat_tests)
+empty_as_shifted : (a shift est dl declared other_est other_dl left : ℕ) → other_est ≡ est + shift → other_dl ≡ dl + shift → est + declared ≤ dl → 1 ≤ declared → cond (nat_le a other_est && nat_le other_dl a) left 0 ≤ 0
+empty_as_shifted a shift est dl declared other_est other_dl left e f g h = grind (arith, nat_tests)
 
 sum_until-zero : (n : ℕ) → sum_until (λ k. 0) n ≤ 0
 sum_until-zero zero = omega arith
@@ -115,7 +115,7 @@ empty_window set n a sound feasible =
           (λ (j : Job). 0)
           sound
           feasible
-          (λ k job other m. empty_as_moved a (k * cycle_of set) job.est job.dl job.declared other.est other.dl other.left m.est m.dl m.room m.some)
+          (λ k job other m. empty_as_shifted a (k * cycle_of set) job.est job.dl job.declared other.est other.dl other.left m.est m.dl m.room m.some)
           (λ job. sum_until-zero n),
       sum_by-constant 0 (cycle_jobs set (cycle_of set) 0),
       sporadic_demand-now (cycle_of set) set.sporadics a (FitCycle-from_sound set sound),

@@ -40,7 +40,7 @@ task_taken s next t x apart came =
       ap (λ n. s.wcet * n) (arrivals_due-from s next t x),
     )
 
--- so it is for all tasks, where the next arrival of one is moved
+-- so it is for all tasks, where the next arrival of one is later
 pub sporadic_demand-taken : (ss : List Sporadic) (nexts : List ℕ) (index : ℕ) (s : Sporadic) (t x : ℕ) → slice_get ss index ≡ Some s → length nexts ≡ length ss → 1 ≤ s.separation → slice_index_or nexts index 0 ≤ t → cond (nat_le (t + s.deadline) x) s.wcet 0 + sporadic_demand ss (slice_set nexts index (t + s.separation)) t x ≤ sporadic_demand ss nexts t x
 sporadic_demand-taken [] nexts index s t x at same apart came = absurd (cc at)
 sporadic_demand-taken (r ∷ ss) [] index s t x at same apart came = absurd (omega arith)

@@ -55,8 +55,8 @@ earliest_of_some a [] e = cc
 earliest_of_some a (j ∷ js) e = by_test (is_earlier j a) e (earliest_of_some j js) (earliest_of_some a js)
   where
     by_test : (b : Bool) → fold earlier_of (cond b (Some j) (Some a)) js ≡ None → (fold earlier_of (Some j) js ≡ None → ⊥) → (fold earlier_of (Some a) js ≡ None → ⊥) → ⊥
-    by_test true none taken passed = taken none
-    by_test false none taken passed = passed none
+    by_test true none taken skipped = taken none
+    by_test false none taken skipped = skipped none
 
 pub earliest_of : (jobs : List Job) (job : Job) → Has jobs job → earliest jobs ≡ None → ⊥
 earliest_of [] job at e = absurd at

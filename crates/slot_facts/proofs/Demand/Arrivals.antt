@@ -74,8 +74,8 @@ arrivals_due-le s r x =
     )
 
 -- with a separation only the time from the first arrival on matters
-pub arrivals_due-moved : (s : Sporadic) (a b : ℕ) → 1 ≤ s.separation → a ≤ b → arrivals_due s 0 a b ≡ arrivals_due s 0 0 (b - a)
-arrivals_due-moved s a b apart low =
+pub arrivals_due-shifted_to_zero : (s : Sporadic) (a b : ℕ) → 1 ≤ s.separation → a ≤ b → arrivals_due s 0 a b ≡ arrivals_due s 0 0 (b - a)
+arrivals_due-shifted_to_zero s a b apart low =
     elim (cases_lt b (a + s.deadline)) [
       | inl early ↦ arrivals_due-none s a b early ∙ sym (arrivals_due-none s 0 (b - a) (omega arith))
       | inr due ↦ let same : b - (a + s.deadline) ≡ (b - a) - (0 + s.deadline) = omega arith in
@@ -94,10 +94,10 @@ no_wcet s x none due fits =
       | inr zeros ↦ omega arith
     ]
 
-task_demand-moved : (s : Sporadic) (a b last : ℕ) → a ≤ b → b ≤ last → 1 ≤ last → ((x : ℕ) → 0 < x → x ≤ last → s.wcet * arrivals_due s 0 0 x ≤ x) → s.wcet * arrivals_due s 0 a b ≡ s.wcet * arrivals_due s 0 0 (b - a)
-task_demand-moved s a b last low high positive fits =
+task_demand-shifted_to_zero : (s : Sporadic) (a b last : ℕ) → a ≤ b → b ≤ last → 1 ≤ last → ((x : ℕ) → 0 < x → x ≤ last → s.wcet * arrivals_due s 0 0 x ≤ x) → s.wcet * arrivals_due s 0 a b ≡ s.wcet * arrivals_due s 0 0 (b - a)
+task_demand-shifted_to_zero s a b last low high positive fits =
     elim (cases_lt 0 s.separation) [
-      | inl apart ↦ ap (λ n. s.wcet * n) (arrivals_due-moved s a b apart low)
+      | inl apart ↦ ap (λ n. s.wcet * n) (arrivals_due-shifted_to_zero s a b apart low)
       | inr none ↦ elim (cases_lt last s.deadline) [
         | inl late ↦ ap (λ n. s.wcet * n) (arrivals_due-none s a b (omega arith) ∙ sym (arrivals_due-none s 0 (b - a) (omega arith)))
         | inr due ↦ let x = max 1 s.deadline in
@@ -108,11 +108,11 @@ task_demand-moved s a b last low high positive fits =
 
 -- where the arrivals from 0 on never need more than the slots, those from a on need by b what those from
 -- 0 on need by b - a
-pub sporadic_demand-moved : (ss : List Sporadic) (a b last : ℕ) → a ≤ b → b ≤ last → 1 ≤ last → ((x : ℕ) → 0 < x → x ≤ last → sporadic_demand ss [] 0 x ≤ x) → sporadic_demand ss [] a b ≡ sporadic_demand ss [] 0 (b - a)
-sporadic_demand-moved [] a b last low high positive fits = refl
-sporadic_demand-moved (s ∷ ss) a b last low high positive fits =
-    let here = task_demand-moved s a b last low high positive (λ x some most. omega (arith, fits x some most)) in
-    let others = sporadic_demand-moved ss a b last low high positive (λ x some most. omega (arith, fits x some most)) in
+pub sporadic_demand-shifted_to_zero : (ss : List Sporadic) (a b last : ℕ) → a ≤ b → b ≤ last → 1 ≤ last → ((x : ℕ) → 0 < x → x ≤ last → sporadic_demand ss [] 0 x ≤ x) → sporadic_demand ss [] a b ≡ sporadic_demand ss [] 0 (b - a)
+sporadic_demand-shifted_to_zero [] a b last low high positive fits = refl
+sporadic_demand-shifted_to_zero (s ∷ ss) a b last low high positive fits =
+    let here = task_demand-shifted_to_zero s a b last low high positive (λ x some most. omega (arith, fits x some most)) in
+    let others = sporadic_demand-shifted_to_zero ss a b last low high positive (λ x some most. omega (arith, fits x some most)) in
     omega arith
 
 -- as a sum over the tasks

@@ -113,9 +113,9 @@ counterexample-fails jobs sporadics cycle w positive h =
     counterexample_cases jobs sporadics cycle w (failing_window jobs sporadics cycle 0 cycle) refl h positive
 
 -- the order of the jobs does not matter
-declared_within-permutation : (jobs others : List Job) (moved a b : ℕ) → IsPermutation jobs others → declared_within jobs moved a b ≡ declared_within others moved a b
-declared_within-permutation jobs others moved a b h =
-    sym (sum_by-IsPermutation (λ (j : Job). if nat_le a (j.est + moved) && nat_le (j.dl + moved) b then j.declared else 0) jobs others h)
+declared_within-permutation : (jobs others : List Job) (shift a b : ℕ) → IsPermutation jobs others → declared_within jobs shift a b ≡ declared_within others shift a b
+declared_within-permutation jobs others shift a b h =
+    sym (sum_by-IsPermutation (λ (j : Job). if nat_le a (j.est + shift) && nat_le (j.dl + shift) b then j.declared else 0) jobs others h)
 
 pub failing_window-permutation : (jobs others : List Job) (sporadics : List Sporadic) (cycle a b : ℕ) → IsPermutation jobs others → failing_window jobs sporadics cycle a b ≡ failing_window others sporadics cycle a b
 failing_window-permutation jobs others sporadics cycle a b h =

@@ -56,12 +56,12 @@ due_after_each t x best (j ∷ jobs) h =
     by_test (nat_le j.est t) refl (due_after_each t x (earlier_of best j) jobs) (due_after_each t x best jobs) h
   where
     by_test : (b : Bool) → nat_le j.est t ≡ b → (IsDueAfter x (fold earlier_of (earlier_of best j) (ready t jobs)) → IsDueAfter x (earlier_of best j) × AllByRecursion (λ (j : Job). j.est ≤ t → x < j.dl) jobs) → (IsDueAfter x (fold earlier_of best (ready t jobs)) → IsDueAfter x best × AllByRecursion (λ (j : Job). j.est ≤ t → x < j.dl) jobs) → IsDueAfter x (fold earlier_of best (cond b (j ∷ ready t jobs) (ready t jobs))) → IsDueAfter x best × AllByRecursion (λ (j : Job). j.est ≤ t → x < j.dl) (j ∷ jobs)
-    by_test true e taken passed d =
+    by_test true e taken skipped d =
         let r = taken d in
         let both = both_due_after x best j r.0 in
         (both.0, (λ _. both.1, r.1))
-    by_test false e taken passed d =
-        let r = passed d in
+    by_test false e taken skipped d =
+        let r = skipped d in
         (r.0, (λ le. absurd (omega (arith, leb-false j.est t e)), r.1))
 
 -- the earlier of two is one of them
@@ -92,8 +92,8 @@ chosen_is_among t best (j ∷ jobs) job h =
     among_two (inr m) = inr (inr m)
 
     by_test : (b : Bool) → (fold earlier_of (earlier_of best j) (ready t jobs) ≡ Some job → (earlier_of best j ≡ Some job) ⊎ Has jobs job) → (fold earlier_of best (ready t jobs) ≡ Some job → (best ≡ Some job) ⊎ Has jobs job) → fold earlier_of best (cond b (j ∷ ready t jobs) (ready t jobs)) ≡ Some job → (best ≡ Some job) ⊎ ((j ≡ job) ⊎ Has jobs job)
-    by_test true taken passed e = among_two (taken e)
-    by_test false taken passed e = among (passed e)
+    by_test true taken skipped e = among_two (taken e)
+    by_test false taken skipped e = among (skipped e)
 
 -- the slots left that pass, of one job
 abbrev left_where : (ℕ → ℕ → Bool) → Job → ℕ

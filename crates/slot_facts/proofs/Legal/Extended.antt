@@ -13,8 +13,8 @@ module _ (need : ℕ → ℕ) (slots t low end cycle : ℕ) (some : 1 ≤ cycle)
         | inl past ↦
             let before : ℕ = x - cycle in
             let whole : before + cycle ≡ x = omega arith in
-            let moved = later before (omega arith) in
-            let same = subst (λ y. need y ≤ need before + cycle) whole moved in
+            let more = later before (omega arith) in
+            let same = subst (λ y. need y ≤ need before + cycle) whole more in
             omega (arith, same, extended_by n before (omega arith) (omega arith))
       ]
 

@@ -379,7 +379,7 @@ module _ (set : TaskSet) (cycles : ℕ) (h : History) (sound : is_sound set ≡ 
       let fits = FitsCycle-from_Has set s sound (Has-from_slice_get set.sporadics index s at) in
       let nexts = next_arrivals set.sporadics h in
       let count : length nexts ≡ length set.sporadics = length-next_arrivals set.sporadics h 0 in
-      let moved = next_arrivals-set set.sporadics h row index due 0 index index s at (omega arith) refl in
+      let nexts_after = next_arrivals-set set.sporadics h row index due 0 index index s at (omega arith) refl in
       let taken : Job = record { key = SporadicKey index row; est = t; dl = t + s.deadline; left = s.wcet; declared = s.wcet } in
       let more = (planned ++ firm_jobs h) ++ taken ∷ sporadic_jobs set.sporadics h in
       let safe : IsSafe set.sporadics (slice_set nexts index (t + s.separation)) (unended after more) t end =
@@ -407,6 +407,6 @@ module _ (set : TaskSet) (cycles : ℕ) (h : History) (sound : is_sound set ≡ 
       let job_is = sporadic_job-at set.sporadics index row t s at in
       record {
         safe = subst (λ j. IsSafe set.sporadics (next_arrivals set.sporadics after) (unended after ((planned ++ firm_jobs h) ++ j ∷ sporadic_jobs set.sporadics h)) t end) (sym job_is)
-            (subst (λ ns. IsSafe set.sporadics ns (unended after more) t end) (sym moved) safe);
+            (subst (λ ns. IsSafe set.sporadics ns (unended after more) t end) (sym nexts_after) safe);
         owned = carried.owned;
       }

@@ -40,15 +40,16 @@ MayAllCome set row [] = ⊤
 MayAllCome set row (arrive r event ∷ later) = (row < r) × (event_may_come set event ≡ true) × MayAllCome set r later
 MayAllCome set row (slot ∷ later) = MayAllCome set row later
 
--- the last row after an arrival, and after a slot
-last_row-arrival : (set : TaskSet) (cycle : ℕ) (h : History) (row : ℕ) (event : Event) → last_row (told_of set cycle h (arrive row event) ∷ h) ≡ row
+-- the last row after an arrival is its row
+pub last_row-arrival : (set : TaskSet) (cycle : ℕ) (h : History) (row : ℕ) (event : Event) → last_row (told_of set cycle h (arrive row event) ∷ h) ≡ row
 last_row-arrival set cycle h row (Soft slots) = refl
 last_row-arrival set cycle h row (Firm slots within) = refl
 last_row-arrival set cycle h row (Sporadic index) = refl
 last_row-arrival set cycle h row (Done key) = refl
 last_row-arrival set cycle h row (Withdraw firm) = refl
 
-last_row-ran : (ran : Ran) (h : History) → last_row (told_of_slot ran ∷ h) ≡ last_row h
+-- a slot leaves the last row
+pub last_row-ran : (ran : Ran) (h : History) → last_row (told_of_slot ran ∷ h) ≡ last_row h
 last_row-ran RanIdle h = refl
 last_row-ran (RanKey key) h = refl
 
@@ -79,22 +80,26 @@ legal-entries set h (slot ∷ later) n (suc m) legal may =
     subst (IsLegal set cycle) (sym (told_front-cons m (shown_entry set cycle (time_of h) what (what ∷ h)) (entries set cycle (what ∷ h) later ++ end_entry n ∷ []) h)) more
 
 -- the first arrival of a list that follows, and the rest
-record BeginsWith (set : TaskSet) (n row from : ℕ) (a : Arrival) (arrivals : List Arrival) : Type 0 where
-  row_is : a.row ≡ row
-  not_before : from ≤ a.slot
-  may : event_may_come set a.event ≡ true
-  rest : arrivals_follow set n (row + 1) a.slot arrivals ≡ true
+pub record BeginsWith (set : TaskSet) (n row from : ℕ) (a : Arrival) (arrivals : List Arrival) : Type 0 where
+  pub row_is : a.row ≡ row
+  pub not_before : from ≤ a.slot
+  pub may : event_may_come set a.event ≡ true
+  pub named : event_names_known set a.event ≡ true
+  pub rest : arrivals_follow set n (row + 1) a.slot arrivals ≡ true
 
-BeginsWith-from : (set : TaskSet) (n row from : ℕ) (a : Arrival) (arrivals : List Arrival) → arrivals_follow set n row from (a ∷ arrivals) ≡ true → BeginsWith set n row from a arrivals
+-- a list that follows begins so
+pub BeginsWith-from : (set : TaskSet) (n row from : ℕ) (a : Arrival) (arrivals : List Arrival) → arrivals_follow set n row from (a ∷ arrivals) ≡ true → BeginsWith set n row from a arrivals
 BeginsWith-from set n row from a arrivals h =
     let rest = and_parts (a.row == row && nat_le from a.slot && nat_lt a.slot n && event_fits set a.event) (arrivals_follow set n (row + 1) a.slot arrivals) h in
     let fits = and_parts (a.row == row && nat_le from a.slot && nat_lt a.slot n) (event_fits set a.event) rest.0 in
     let below = and_parts (a.row == row && nat_le from a.slot) (nat_lt a.slot n) fits.0 in
     let both = and_parts (a.row == row) (nat_le from a.slot) below.0 in
+    let event = and_parts (event_may_come set a.event) (event_names_known set a.event) fits.1 in
     record {
       row_is = eqb-true a.row row both.0;
       not_before = leb-true from a.slot both.1;
-      may = (and_parts (event_may_come set a.event) (event_names_known set a.event) fits.1).0;
+      may = event.0;
+      named = event.1;
       rest = rest.1;
     }
 
@@ -114,11 +119,12 @@ above-later : (row time : ℕ) (arrivals : List Arrival) → AreAbove row time a
 above-later row time [] above = tt
 above-later row time (a ∷ arrivals) above = (λ late. above.0 (omega arith), above-later row time arrivals above.1)
 
-abbrev arrivals_in : List Arrival → ℕ → List Arrival
+-- the arrivals of a slot
+abbrev pub arrivals_in : List Arrival → ℕ → List Arrival
 arrivals_in arrivals time = filter (λ (a : Arrival). a.slot == time) arrivals
 
 -- no arrival of a list that follows comes before its first slot
-none_before : (set : TaskSet) (n row from time : ℕ) (arrivals : List Arrival) → time < from → arrivals_follow set n row from arrivals ≡ true → arrivals_in arrivals time ≡ []
+pub none_before : (set : TaskSet) (n row from time : ℕ) (arrivals : List Arrival) → time < from → arrivals_follow set n row from arrivals ≡ true → arrivals_in arrivals time ≡ []
 none_before set n row from time [] early h = refl
 none_before set n row from time (a ∷ arrivals) early h =
     let f = BeginsWith-from set n row from a arrivals h in

@@ -25,8 +25,8 @@ sum_by-le_joined f g h i [] le = omega arith
 sum_by-le_joined f g h i (x ∷ xs) le =
     omega (arith, sum_by-append f (h x) (flat_map h xs), sum_by-append g (i x) (flat_map i xs), le x (inl refl), sum_by-le_joined f g h i xs (λ y at. le y (inr at)))
 
--- and along a range against the same range moved
-pub sum_by-le_moved : {Y : Type 0} (f g : Y → ℕ) (h i : ℕ → List Y) (a b n d : ℕ) → a + d ≡ b → ((k m : ℕ) → k + d ≡ m → sum_by f (h k) ≤ sum_by g (i m)) → sum_by f (flat_map h (range_with_len a n)) ≤ sum_by g (flat_map i (range_with_len b n))
-sum_by-le_moved f g h i a b zero d moved le = omega arith
-sum_by-le_moved f g h i a b (suc n) d moved le =
-    omega (arith, sum_by-append f (h a) (flat_map h (range_with_len (a + 1) n)), sum_by-append g (i b) (flat_map i (range_with_len (b + 1) n)), le a b moved, sum_by-le_moved f g h i (a + 1) (b + 1) n d (omega arith) le)
+-- and along a range against the same range shifted
+pub sum_by-le_shifted : {Y : Type 0} (f g : Y → ℕ) (h i : ℕ → List Y) (a b n d : ℕ) → a + d ≡ b → ((k m : ℕ) → k + d ≡ m → sum_by f (h k) ≤ sum_by g (i m)) → sum_by f (flat_map h (range_with_len a n)) ≤ sum_by g (flat_map i (range_with_len b n))
+sum_by-le_shifted f g h i a b zero d shift le = omega arith
+sum_by-le_shifted f g h i a b (suc n) d shift le =
+    omega (arith, sum_by-append f (h a) (flat_map h (range_with_len (a + 1) n)), sum_by-append g (i b) (flat_map i (range_with_len (b + 1) n)), le a b shift, sum_by-le_shifted f g h i (a + 1) (b + 1) n d (omega arith) le)

@@ -38,18 +38,18 @@ filter-last p a (suc n) j e none passes =
     let rest = filter p (range_with_len (a + 1) (n + 1)) in
     ap (λ l. filter p (range_with_len a l)) all ∙ (cond-false (p a) (a ∷ rest) rest fails ∙ filter-last p (a + 1) n j (omega arith) (λ x low high. none x (omega arith) high) passes)
 
--- the numbers that pass in a moved range, where the test moves with it
-filter-moved_cons : (p : ℕ → Bool) (a b d : ℕ) (xs ys : List ℕ) → b ≡ a + d → p b ≡ p a → filter p xs ≡ map (λ x. x + d) (filter p ys) → filter p (b ∷ xs) ≡ map (λ x. x + d) (filter p (a ∷ ys))
-filter-moved_cons p a b d xs ys at_b same rest = go (p a) refl
+-- the numbers that pass in a shifted range, where the test shifts with it
+filter-shifted_cons : (p : ℕ → Bool) (a b d : ℕ) (xs ys : List ℕ) → b ≡ a + d → p b ≡ p a → filter p xs ≡ map (λ x. x + d) (filter p ys) → filter p (b ∷ xs) ≡ map (λ x. x + d) (filter p (a ∷ ys))
+filter-shifted_cons p a b d xs ys at_b same rest = go (p a) refl
   where
     go : (t : Bool) → p a ≡ t → filter p (b ∷ xs) ≡ map (λ x. x + d) (filter p (a ∷ ys))
     go true e = rw (same, e) (ap₂ (λ z zs. z ∷ zs) at_b rest)
     go false e = rw (same, e) rest
 
-pub filter-moved : (p : ℕ → Bool) (a b d n : ℕ) → b ≡ a + d → ((x : ℕ) → a ≤ x → p (x + d) ≡ p x) → filter p (range_with_len b n) ≡ map (λ x. x + d) (filter p (range_with_len a n))
-filter-moved p a b d zero at_b same = refl
-filter-moved p a b d (suc n) at_b same =
-    filter-moved_cons
+pub filter-shifted : (p : ℕ → Bool) (a b d n : ℕ) → b ≡ a + d → ((x : ℕ) → a ≤ x → p (x + d) ≡ p x) → filter p (range_with_len b n) ≡ map (λ x. x + d) (filter p (range_with_len a n))
+filter-shifted p a b d zero at_b same = refl
+filter-shifted p a b d (suc n) at_b same =
+    filter-shifted_cons
     p
     a
     b
@@ -58,7 +58,7 @@ filter-moved p a b d (suc n) at_b same =
     (range_with_len (a + 1) n)
     at_b
     (ap p at_b ∙ same a (omega arith))
-    (filter-moved p (a + 1) (b + 1) d n (omega arith) (λ x low. same x (omega arith)))
+    (filter-shifted p (a + 1) (b + 1) d n (omega arith) (λ x low. same x (omega arith)))
 
 -- they are at most as many as the range has
 pub length-filter_range : (p : ℕ → Bool) (a n : ℕ) → length (filter p (range_with_len a n)) ≤ n

@@ -105,8 +105,8 @@ permutation-from_same eq itself exact (x ∷ xs) ys same =
     let us = parts.0 in
     let vs = parts.1 in
     let rest = permutation-from_same eq itself exact xs (us ++ vs) (same-without x xs us vs (subst (HaveSameItems (x ∷ xs)) parts.2 same)) in
-    let moved = IsPermutation-trans (x ∷ xs) (x ∷ (us ++ vs)) (us ++ x ∷ vs) (IsPermutation-cons x xs (us ++ vs) rest) (IsPermutation-sym (us ++ x ∷ vs) (x ∷ (us ++ vs)) (IsPermutation-middle us x vs)) in
-    subst (IsPermutation (x ∷ xs)) (sym parts.2) moved
+    let all = IsPermutation-trans (x ∷ xs) (x ∷ (us ++ vs)) (us ++ x ∷ vs) (IsPermutation-cons x xs (us ++ vs) rest) (IsPermutation-sym (us ++ x ∷ vs) (x ∷ (us ++ vs)) (IsPermutation-middle us x vs)) in
+    subst (IsPermutation (x ∷ xs)) (sym parts.2) all
 
 -- so it is for numbers and for jobs: 'the same items' and 'a permutation' are one
 pub numbers-same_items : (xs ys : List ℕ) → HaveSameItems xs ys ↔ IsPermutation xs ys

@@ -99,6 +99,11 @@ room_at-densest set h slots within sound feasible legal some =
     let kept = every_legal_history_is_kept set h cycles sound feasible legal (omega arith) in
     room_from_densest set (scene_of set (cycle_of set) h) (last_row h + 1) slots within sound feasible kept.bounds (rows-below set cycles h kept) some
 
+-- the densest pattern of a sound set is legal
+densest-legal : (set : TaskSet) (nexts : List ℕ) (t end : ℕ) → is_sound set ≡ true → IsLegalPattern set.sporadics nexts t (densest_pattern 0 set.sporadics nexts t end)
+densest-legal set nexts t end sound =
+    (the_densest_pattern_needs_all set.sporadics nexts t 0 0 end (separated-from_sound set sound) (omega arith)).0
+
 -- room is exact
 pub room_is_exact : RoomIsExact
 room_is_exact set h slots within sound feasible legal some = (
@@ -108,11 +113,13 @@ room_is_exact set h slots within sound feasible legal some = (
   λ can.
       let end = horizon (cycle_of set) (time_of h) in
       let nexts = next_arrivals set.sporadics h in
-      let legal_one = (the_densest_pattern_needs_all set.sporadics nexts (time_of h) 0 0 end (separated-from_sound set sound) (omega arith)).0 in
+      let legal_one = densest-legal set nexts (time_of h) end sound in
       room_at-densest set h slots within sound feasible legal some (can (densest_pattern 0 set.sporadics nexts (time_of h) end) legal_one),
 )
 
--- where there is none, the densest pattern shows it
+-- where there is none, the densest pattern, which is legal, shows it
 pub the_densest_pattern_shows_it : TheDensestPatternShowsIt
-the_densest_pattern_shows_it set h slots within sound feasible legal some none schedule =
-    none (room_at-densest set h slots within sound feasible legal some schedule)
+the_densest_pattern_shows_it set h slots within sound feasible legal some none = (
+  densest-legal set (next_arrivals set.sporadics h) (time_of h) (horizon (cycle_of set) (time_of h)) sound,
+  λ schedule. none (room_at-densest set h slots within sound feasible legal some schedule),
+)

@@ -122,8 +122,8 @@ cycle_from_offline set cycle n job h =
     (subst (Has (cycle_jobs set cycle n)) (sym h.instance_of.derived) (Has-map (derived_job set) (raw_jobs set cycle n) raw listed))
 
 -- an offline job of some cycles is one of others in which its instance is released
-IsOfflineJob-moved : (set : TaskSet) (cycle a m b n : ℕ) (job : Job) (h : IsOfflineJob set cycle a m job) → b * (cycle / h.graph.period) ≤ h.k → h.k < (b + n) * (cycle / h.graph.period) → IsOfflineJob set cycle b n job
-IsOfflineJob-moved set cycle a m b n job h low high =
+IsOfflineJob-other_cycles : (set : TaskSet) (cycle a m b n : ℕ) (job : Job) (h : IsOfflineJob set cycle a m job) → b * (cycle / h.graph.period) ≤ h.k → h.k < (b + n) * (cycle / h.graph.period) → IsOfflineJob set cycle b n job
+IsOfflineJob-other_cycles set cycle a m b n job h low high =
     record {
       g = h.g;
       t = h.t;
@@ -139,7 +139,7 @@ IsOfflineJob-wider : (set : TaskSet) (cycle a m n : ℕ) (job : Job) → a + m �
 IsOfflineJob-wider set cycle a m n job fits h =
     let count = cycle / h.graph.period in
     let most : (a + m) * count ≤ n * count = mul-le-mul_right count fits in
-    IsOfflineJob-moved set cycle a m 0 n job h (omega arith) (omega (arith, h.below))
+    IsOfflineJob-other_cycles set cycle a m 0 n job h (omega arith) (omega (arith, h.below))
 
 pub offline_from_cycles : (set : TaskSet) (cycle n : ℕ) (job : Job) → Contains (offline_jobs set cycle n) job → IsOfflineJob set cycle 0 n job
 offline_from_cycles set cycle zero job h = absurd (omega (arith, h.1))
@@ -156,8 +156,8 @@ cycles_from_offline set cycle (suc n) job h =
     let before = cycles_from_offline set cycle n job in
     let count = cycle / h.graph.period in
     elim (cases_lt h.k (n * count)) [
-      | inl low ↦ Contains-append_left (offline_jobs set cycle n) (cycle_jobs set cycle n) job (before (IsOfflineJob-moved set cycle 0 (suc n) 0 n job h h.at_least (omega arith)))
-      | inr high ↦ Contains-append_right (offline_jobs set cycle n) (cycle_jobs set cycle n) job (cycle_from_offline set cycle n job (IsOfflineJob-moved set cycle 0 (suc n) n 1 job h high (omega (arith, h.below))))
+      | inl low ↦ Contains-append_left (offline_jobs set cycle n) (cycle_jobs set cycle n) job (before (IsOfflineJob-other_cycles set cycle 0 (suc n) 0 n job h h.at_least (omega arith)))
+      | inr high ↦ Contains-append_right (offline_jobs set cycle n) (cycle_jobs set cycle n) job (cycle_from_offline set cycle n job (IsOfflineJob-other_cycles set cycle 0 (suc n) n 1 job h high (omega (arith, h.below))))
     ]
 
 -- a sound set has no fault of any kind

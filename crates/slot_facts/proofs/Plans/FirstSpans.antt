@@ -1,4 +1,4 @@
--- The first of the spans between ends are the spans between the first ends.
+-- The first of the spans between points are the spans between the first points.
 use Rattle.std.proofs.Common.{◌≡◌, ℕ, zero, suc, ◌-◌, List, [], ◌∷◌, length, take, refl, ap, ◌∙◌, ◌<◌, ◌≤◌, ◌++◌, filter, inl, inr, Bool, true, false, cond, map}
 use Rattle.slot_core.specs.declared.jobs.Job.{Job}
 use Rattle.slot_core.specs.declared.jobs.Span.{Span}
@@ -10,22 +10,22 @@ use Rattle.std.proofs.lemmas.Bool.{le-leb, lt-leb, cond-true, cond-false}
 use Rattle.slot_core.specs.declared.TheConstants.{SHOWN_LIMIT}
 use Rattle.slot_facts.proofs.Lists.Members.{Has}
 
-take-spans : (jobs : List Job) (end start n : ℕ) (ends : List ℕ) → take n (spans_between jobs end start ends) ≡ spans_between jobs end start (take n ends)
-take-spans jobs end start zero ends = refl
+take-spans : (jobs : List Job) (end start n : ℕ) (points : List ℕ) → take n (spans_between jobs end start points) ≡ spans_between jobs end start (take n points)
+take-spans jobs end start zero points = refl
 take-spans jobs end start (suc n) [] = refl
-take-spans jobs end start (suc n) (e ∷ ends) =
+take-spans jobs end start (suc n) (e ∷ points) =
     let here : Span = record { start = start; end = e; work = work_between jobs start e; spare = spare_capacity jobs end start e } in
-    ap (λ spans. here ∷ spans) (take-spans jobs end e n ends)
+    ap (λ spans. here ∷ spans) (take-spans jobs end e n points)
 
-pub length-spans : (jobs : List Job) (end start : ℕ) (ends : List ℕ) → length (spans_between jobs end start ends) ≡ length ends
+pub length-spans : (jobs : List Job) (end start : ℕ) (points : List ℕ) → length (spans_between jobs end start points) ≡ length points
 length-spans jobs end start [] = refl
-length-spans jobs end start (e ∷ ends) = ap suc (length-spans jobs end e ends)
+length-spans jobs end start (e ∷ points) = ap suc (length-spans jobs end e points)
 
 -- what is shown of such spans
-pub shown-first : (jobs : List Job) (end start : ℕ) (ends : List ℕ) (shown : ShownSpans) (spans : List Span) → shown ≡ record { spans = take SHOWN_LIMIT spans; more = length spans - SHOWN_LIMIT } → spans ≡ spans_between jobs end start ends → shown ≡ record { spans = spans_between jobs end start (take SHOWN_LIMIT ends); more = length ends - SHOWN_LIMIT }
-shown-first jobs end start ends shown spans is own =
-    let first = ap (take SHOWN_LIMIT) own ∙ take-spans jobs end start SHOWN_LIMIT ends in
-    let more = ap (λ xs. length xs - SHOWN_LIMIT) own ∙ ap (λ n. n - SHOWN_LIMIT) (length-spans jobs end start ends) in
+pub shown-first : (jobs : List Job) (end start : ℕ) (points : List ℕ) (shown : ShownSpans) (spans : List Span) → shown ≡ record { spans = take SHOWN_LIMIT spans; more = length spans - SHOWN_LIMIT } → spans ≡ spans_between jobs end start points → shown ≡ record { spans = spans_between jobs end start (take SHOWN_LIMIT points); more = length points - SHOWN_LIMIT }
+shown-first jobs end start points shown spans is own =
+    let first = ap (take SHOWN_LIMIT) own ∙ take-spans jobs end start SHOWN_LIMIT points in
+    let more = ap (λ xs. length xs - SHOWN_LIMIT) own ∙ ap (λ n. n - SHOWN_LIMIT) (length-spans jobs end start points) in
     is ∙ λ i. record { spans = first i; more = more i }
 
 -- of spans at rising points, those that end by m are the spans between the points up to m

@@ -34,5 +34,5 @@ past_now t cycle some = omega (arith, div-add-mod' t cycle, mod_below t cycle so
 -- where the next slot starts a cycle, its horizon is a cycle further
 pub further_now : (t cycle : ℕ) → suc t / cycle ≡ suc (t / cycle) → horizon cycle (suc t) ≡ horizon cycle t + cycle
 further_now t cycle e =
-    let moved : (suc t / cycle + 3) * cycle ≡ (suc (t / cycle) + 3) * cycle = ap (λ d. (d + 3) * cycle) e in
+    let same : (suc t / cycle + 3) * cycle ≡ (suc (t / cycle) + 3) * cycle = ap (λ d. (d + 3) * cycle) e in
     omega arith

@@ -33,6 +33,6 @@ plan_end-near plan spans i d is_plan same inside =
     let low = leb-true (get_or spans i d).end plan.cycle (All-get_or (λ s. nat_le s.end plan.cycle ≡ true) spans i d inside all) in
     omega (arith, plan_cycle-bounds plan is_plan)
 
--- moved by so many cycles it is still far from an overflow
-pub moved_end-fits : (end cycles cycle : ℕ) → end ≤ SLOT_LIMIT → cycles ≤ CYCLES_LIMIT → cycle ≤ SLOT_LIMIT → end + cycles * cycle < 2 ^ 64
-moved_end-fits end cycles cycle low few short = omega (arith, mul-le-mul_left cycles short)
+-- so many cycles later it is still far from an overflow
+pub later_end-fits : (end cycles cycle : ℕ) → end ≤ SLOT_LIMIT → cycles ≤ CYCLES_LIMIT → cycle ≤ SLOT_LIMIT → end + cycles * cycle < 2 ^ 64
+later_end-fits end cycles cycle low few short = omega (arith, mul-le-mul_left cycles short)

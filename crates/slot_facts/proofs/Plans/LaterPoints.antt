@@ -7,7 +7,7 @@ use Rattle.std.proofs.lemmas.Bool.{cases_lt, ne_eqb, le-leb, lt-leb, leb-true}
 use Rattle.slot_core.specs.Points.{is_point}
 use Rattle.slot_facts.proofs.Lists.Members.{Has}
 use Rattle.slot_facts.proofs.Lists.Tests.{list_any-same}
-use Rattle.slot_facts.proofs.Lists.RangeFilters.{filter-moved}
+use Rattle.slot_facts.proofs.Lists.RangeFilters.{filter-shifted}
 
 -- a number at or after q is as far past a multiple of the cycle as one that is whole cycles later
 at_cycle : (cycle n p q : ℕ) → q ≤ p → (p + n * cycle - q) % cycle ≡ (p - q) % cycle
@@ -53,4 +53,4 @@ is_point-later cycle planned n p within some =
 -- the points of cycle n are those of the first, n cycles later
 pub points_of_cycle : (cycle : ℕ) (planned : List ℕ) (n a : ℕ) → ((q : ℕ) → Has planned q → q ≤ cycle) → a ≡ 1 + n * cycle → filter (is_point cycle planned []) (range_with_len a cycle) ≡ map (λ e. e + n * cycle) (filter (is_point cycle planned []) (range_with_len 1 cycle))
 points_of_cycle cycle planned n a within at =
-    filter-moved (is_point cycle planned []) 1 a (n * cycle) cycle at (λ p some. is_point-later cycle planned n p within some)
+    filter-shifted (is_point cycle planned []) 1 a (n * cycle) cycle at (λ p some. is_point-later cycle planned n p within some)

@@ -66,5 +66,5 @@ AreInDeadlineOrder-from_distinct (job ∷ jobs) up distinct =
 
 -- sorted jobs are in deadline order, where their keys were distinct before the sort
 pub AreInDeadlineOrder-from_sorted : (before jobs : List Job) → IsApart (λ (j : Job). j.key) before → IsPermutation before jobs → IsSortedBy (λ a b. is_lt (job_cmp a b)) jobs → AreInDeadlineOrder jobs
-AreInDeadlineOrder-from_sorted before jobs apart moved up =
-    AreInDeadlineOrder-from_distinct jobs up (IsDistinct-IsPermutation same_job (eq_by_cmp_equiv job_cmp_total).symm before jobs moved (IsDistinct-from_apart before apart))
+AreInDeadlineOrder-from_sorted before jobs apart same up =
+    AreInDeadlineOrder-from_distinct jobs up (IsDistinct-IsPermutation same_job (eq_by_cmp_equiv job_cmp_total).symm before jobs same (IsDistinct-from_apart before apart))

@@ -36,5 +36,5 @@ spans_between-permutation jobs others h =
 -- the demand of a window does not depend on the order of the jobs
 pub window_demand-same : (jobs others : List Job) (sporadics : List Sporadic) (cycle a b : ℕ) → HaveSameItems jobs others → window_demand jobs sporadics cycle a b ≡ window_demand others sporadics cycle a b
 window_demand-same jobs others sporadics cycle a b same =
-    let within = λ (moved : ℕ). same (λ (j : Job). if nat_le a (j.est + moved) && nat_le (j.dl + moved) b then j.declared else 0) in
+    let within = λ (shift : ℕ). same (λ (j : Job). if nat_le a (j.est + shift) && nat_le (j.dl + shift) b then j.declared else 0) in
     λ i. within 0 i + (if nat_lt cycle b then within cycle i else 0) + sporadic_demand sporadics [] a b

@@ -1,4 +1,4 @@
--- The k-th job is due at the k-th end.
+-- The k-th job is due at the k-th point.
 use Rattle.std.proofs.Common.{ℕ, [], ◌∷◌, Contains, sym, ap, arith}
 use Rattle.std.proofs.lemmas.List.Elements.{All-from_recursion}
 use Rattle.slot_core.specs.declared.jobs.Job.{Job}

@@ -2,7 +2,7 @@
 use Rattle.std.proofs.Common.{◌≡◌, List, [], ◌∷◌, refl, sym, subst}
 use Rattle.std.proofs.lemmas.List.Sorted.{IsPermutation-refl}
 use Rattle.slot_core.specs.declared.jobs.Job.{Job}
-use Rattle.slot_examples.specs.Sets.{offset_set}
+use Rattle.sample_sets.specs.Sets.{offset_set}
 use Rattle.slot_facts.proofs.Demand.Feasible.{IsFeasible-from_none}
 use Rattle.slot_core.specs.OfflineJobs.{cycle_jobs}
 use Rattle.interval_build.specs.FirstJobs.{AreFirstJobs, IsFirstCycle}

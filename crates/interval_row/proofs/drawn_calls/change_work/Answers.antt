@@ -6,7 +6,8 @@ use Rattle.spare_capacity.specs.Recurrence.{FollowOn, first_start}
 use Rattle.spare_capacity.proofs.Steps.{no_row}
 use Rattle.interval_row.specs.Changes.{span_ending}
 use Rattle.interval_row.specs.RowTables.{numbered}
-use Rattle.interval_row.specs.Tables.{spans_of_pairs, AreProper}
+use Rattle.spare_capacity.specs.PlanSpans.{AreProper}
+use Rattle.interval_row.specs.Tables.{spans_of_pairs}
 use Rattle.interval_row.proofs.drawn_calls.change_work.Goals as goal
 
 -- each span ends after they start

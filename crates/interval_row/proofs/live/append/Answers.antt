@@ -4,14 +4,14 @@ use Rattle.interval_row.proofs.Cycles.{last_end-some}
 use Rattle.interval_row.proofs.Places.{end-le-last_end}
 use Rattle.interval_row.proofs.live.append.Goals as goal
 
-pub moved-requires-clause-start : goal.moved-requires-clause-start
-moved-requires-clause-start c =
+pub shifted-requires-clause-start : goal.shifted-requires-clause-start
+shifted-requires-clause-start c =
     let spans = c.args.spans.now in
     let by : c.last_end-by.result ≡ last_end 0 c.args.rows.now.items = c.last_end-by.ensures ∙ ap (last_end 0) c.as_slice.ensures.value in
     omega (arith, by, c.requires.near, last_end-some (first_start spans) 0 spans c.requires.spans.some, (end-le-last_end (first_start spans) spans c.loop-span.span-index c.requires.spans.consecutive c.loop-span-test.true).0)
 
-pub moved-requires-clause-end : goal.moved-requires-clause-end
-moved-requires-clause-end c =
+pub shifted-requires-clause-end : goal.shifted-requires-clause-end
+shifted-requires-clause-end c =
     let spans = c.args.spans.now in
     let by : c.last_end-by.result ≡ last_end 0 c.args.rows.now.items = c.last_end-by.ensures ∙ ap (last_end 0) c.as_slice.ensures.value in
     omega (arith, by, c.requires.near, last_end-some (first_start spans) 0 spans c.requires.spans.some, (end-le-last_end (first_start spans) spans c.loop-span.span-index c.requires.spans.consecutive c.loop-span-test.true).1)

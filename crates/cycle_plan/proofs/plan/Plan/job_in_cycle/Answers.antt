@@ -9,7 +9,7 @@ use Rattle.slot_core.specs.Plans.{PlanParts, IsPlan}
 use Rattle.slot_facts.proofs.Offline.Jobs.{cycle-at_most}
 use Rattle.cycle_plan.specs.NearJobs.{IsNear}
 use Rattle.cycle_plan.proofs.NearJobFacts.{all_near}
-use Rattle.cycle_plan.proofs.PlanFacts.{AreFirstJobs-from_plan}
+use Rattle.interval_build.proofs.FirstJobFacts.{AreFirstJobs-from_plan}
 use Rattle.cycle_plan.proofs.plan.Plan.job_in_cycle.Goals as goal
 
 -- a job of a plan is near

@@ -1,6 +1,6 @@
 use Rattle.std.proofs.Common.{◌+◌, ◌≤◌, ◌∙◌, length, drop, map, ap, sym, subst, vec_capacity, arith}
 use Rattle.spare_capacity.specs.Recurrence.{first_start, last_end}
-use Rattle.interval_row.specs.Changes.{appended, moved}
+use Rattle.interval_row.specs.Changes.{appended, shifted}
 use Rattle.interval_row.specs.RowTables.{AreKept}
 use Rattle.interval_row.proofs.Cycles.{first_start-append}
 use Rattle.interval_row.proofs.Spots.{rows_seen, start_seen, length_seen, last_end_seen, spans_of_pairs-numbered, AreKept-appended, IsTable-AreKept}
@@ -39,7 +39,7 @@ pub returns-clause-time : goal.returns-clause-time
 returns-clause-time g c =
     let rows = drop c.self.inside.head c.self.inside.rows.items in
     ap first_start c.extend-self-inside.ensures.rows
-    ∙ first_start-append rows (map (moved (last_end 0 rows)) c.args.spans.now) c.self.invariant.kept.some
+    ∙ first_start-append rows (map (shifted (last_end 0 rows)) c.args.spans.now) c.self.invariant.kept.some
     ∙ sym (start_seen rows c.self.inside.room c.args.self.now c.self.view_is)
 
 pub returns-clause-spans : goal.returns-clause-spans

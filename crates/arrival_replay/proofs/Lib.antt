@@ -1,0 +1,3 @@
+pub mod BrokenTexts
+pub mod Happenings
+pub mod UnderWay

@@ -1,0 +1,153 @@
+-- A replay under way: what was told of its trace, and what is left.
+use Rattle.std.proofs.Common.{◌≡◌, ℕ, ◌+◌, ◌≤◌, true, List, [], ◌∷◌, ◌++◌, length, take, append_assoc, length-append, refl, sym, ap, ◌∙◌, subst, arith}
+use Rattle.std.proofs.Math.Seq.{take-append-add}
+use Rattle.slot_core.specs.declared.tasks.TaskSet.{TaskSet}
+use Rattle.slot_core.specs.declared.events.Arrival.{Arrival}
+use Rattle.slot_core.specs.declared.events.Entry.{Entry}
+use Rattle.slot_core.specs.declared.events.What.{What}
+use Rattle.slot_core.specs.declared.events.What.TheVariants.{Start}
+use Rattle.slot_core.specs.Arrivals.{are_fitting}
+use Rattle.slot_core.specs.Cycles.{cycle_of}
+use Rattle.slot_core.specs.Executives.{Executive, StandsFor, Does}
+use Rattle.slot_core.specs.Histories.{History, time_of}
+use Rattle.slot_core.specs.Plans.{PlanParts}
+use Rattle.slot_core.specs.Traces.{Occurrence, told_of, shown_entry, end_entry, trace_in, trace, history_of}
+use Rattle.slot_facts.proofs.Replays.Entries.{AreLeft, entries_left, entry_after, entries_left-start, entries_left-end, AreLeft-start}
+use Rattle.slot_facts.proofs.Replays.Told.{history_of-more, StandsFor-started, StandsFor-end}
+use Rattle.arrival_replay.specs.Replays.{BreaksOff}
+
+-- entries were told and taken, the executive of this plan stands for their history, and with what
+-- is left after it they are the trace
+pub record IsUnderWay
+    (Took : List Entry → Type 0) (plan : PlanParts) (exec : Executive) (trace : List Entry)
+    (n : ℕ) (arrivals : List Arrival) : Type 0 where
+  pub told : List Entry
+  pub took : Took told
+  pub plan_is : exec.plan ≡ plan
+  pub stands : StandsFor exec (history_of told)
+  pub left : AreLeft plan.tasks n (history_of told) arrivals
+  pub early : exec.scene.time ≤ n
+  pub whole : told ++ entries_left plan.tasks plan.cycle n (history_of told) arrivals ≡ trace
+
+-- so it is but for one entry, which is to be told now
+pub record IsToTell
+    (Took : List Entry → Type 0) (plan : PlanParts) (exec : Executive) (trace : List Entry)
+    (n : ℕ) (arrivals : List Arrival) (time : ℕ) (what : What) : Type 0 where
+  pub told : List Entry
+  pub took : Took told
+  pub plan_is : exec.plan ≡ plan
+  pub stands : StandsFor exec (what ∷ history_of told)
+  pub left : AreLeft plan.tasks n (what ∷ history_of told) arrivals
+  pub early : exec.scene.time ≤ n
+  pub whole :
+      told
+      ++ (shown_entry plan.tasks plan.cycle time what (what ∷ history_of told)
+      ∷ entries_left plan.tasks plan.cycle n (what ∷ history_of told) arrivals)
+      ≡ trace
+
+-- what holds of the entry at each history for which the executive stands, holds of the one that is
+-- to be told
+pub entry-to_tell : (Q : TaskSet → List Entry → Type 0) (Took : List Entry → Type 0) (plan : PlanParts) (exec : Executive) (trace : List Entry) (n : ℕ) (arrivals : List Arrival) (time : ℕ) (what : What) (t : IsToTell Took plan exec trace n arrivals time what) → ((h : History) → StandsFor exec h → Q exec.plan.tasks (shown_entry exec.plan.tasks exec.plan.cycle time what h ∷ [])) → Q plan.tasks (shown_entry plan.tasks plan.cycle time what (what ∷ history_of t.told) ∷ [])
+entry-to_tell Q Took plan exec trace n arrivals time what t each =
+    let h = what ∷ history_of t.told in
+    subst (λ (p : PlanParts). Q p.tasks (shown_entry p.tasks p.cycle time what h ∷ [])) t.plan_is (each h t.stands)
+
+-- where the entry is taken too, the replay is under way
+pub IsUnderWay-told : (Took Longer : List Entry → Type 0) (plan : PlanParts) (exec : Executive) (trace : List Entry) (n : ℕ) (arrivals : List Arrival) (time : ℕ) (what : What) → (t : IsToTell Took plan exec trace n arrivals time what) → Longer (t.told ++ shown_entry plan.tasks plan.cycle time what (what ∷ history_of t.told) ∷ []) → IsUnderWay Longer plan exec trace n arrivals
+IsUnderWay-told Took Longer plan exec trace n arrivals time what t took =
+    let e = shown_entry plan.tasks plan.cycle time what (what ∷ history_of t.told) in
+    let h = history_of-more t.told e in
+    record {
+      told = t.told ++ e ∷ [];
+      took = took;
+      plan_is = t.plan_is;
+      stands = subst (StandsFor exec) (sym h) t.stands;
+      left = subst (λ h. AreLeft plan.tasks n h arrivals) (sym h) t.left;
+      early = t.early;
+      whole =
+          subst
+          (λ h. (t.told ++ e ∷ []) ++ entries_left plan.tasks plan.cycle n h arrivals ≡ trace)
+          (sym h)
+          (append_assoc t.told (e ∷ []) (entries_left plan.tasks plan.cycle n (what ∷ history_of t.told) arrivals) ∙ t.whole);
+    }
+
+-- a trace breaks off at an entry where it and those before it do
+BreaksOff-after : (Broke : List Entry → Type 0) (exec : Executive) (told later trace : List Entry) (e : Entry) → told ++ (e ∷ later) ≡ trace → Broke (told ++ e ∷ []) → StandsFor exec (e.what ∷ history_of told) → BreaksOff Broke exec trace
+BreaksOff-after Broke exec told later trace e whole broke stands =
+    let front : take (length told + 1) trace ≡ told ++ e ∷ [] = ap (take (length told + 1)) (sym whole) ∙ take-append-add told (e ∷ later) 1 in
+    record {
+      told = length told + 1;
+      within = omega (arith, ap length whole, length-append told (e ∷ later));
+      broke = subst Broke (sym front) broke;
+      stands = subst (λ es. StandsFor exec (history_of es)) (sym front) (subst (StandsFor exec) (sym (history_of-more told e)) stands);
+    }
+
+-- so it does where the entry that is to be told is not taken
+pub BreaksOff-told : (Took Broke : List Entry → Type 0) (plan : PlanParts) (exec : Executive) (trace : List Entry) (n : ℕ) (arrivals : List Arrival) (time : ℕ) (what : What) → (t : IsToTell Took plan exec trace n arrivals time what) → Broke (t.told ++ shown_entry plan.tasks plan.cycle time what (what ∷ history_of t.told) ∷ []) → BreaksOff Broke exec trace
+BreaksOff-told Took Broke plan exec trace n arrivals time what t broke =
+    let e = shown_entry plan.tasks plan.cycle time what (what ∷ history_of t.told) in
+    BreaksOff-after Broke exec t.told (entries_left plan.tasks plan.cycle n (what ∷ history_of t.told) arrivals) trace e t.whole broke t.stands
+
+-- after the last slot the end is left
+module _ (Took : List Entry → Type 0) (plan : PlanParts) (exec : Executive) (trace : List Entry) (n : ℕ) (arrivals : List Arrival) (u : IsUnderWay Took plan exec trace n arrivals) (over : n ≤ exec.scene.time) where
+  -- what was told and the end are the trace
+  whole-end : u.told ++ (end_entry n ∷ []) ≡ trace
+  whole-end =
+      let all : time_of (history_of u.told) ≡ n = omega (arith, u.stands.same.time, u.early) in
+      ap (λ es. u.told ++ es) (sym (entries_left-end plan.tasks plan.cycle n (history_of u.told) arrivals all)) ∙ u.whole
+
+  -- where the end is taken all is
+  pub all-taken : (Longer : List Entry → Type 0) → Longer (u.told ++ end_entry n ∷ []) → Longer trace
+  all-taken Longer took = subst Longer whole-end took
+
+  -- the executive stands for the history of all
+  pub all-stands : StandsFor exec (history_of trace)
+  all-stands =
+      let longer = StandsFor-end exec (history_of u.told) u.stands in
+      subst (λ es. StandsFor exec (history_of es)) whole-end (subst (StandsFor exec) (sym (history_of-more u.told (end_entry n))) longer)
+
+  -- and where the end is not taken, the trace breaks off at it
+  pub BreaksOff-end : (Broke : List Entry → Type 0) → Broke (u.told ++ end_entry n ∷ []) → BreaksOff Broke exec trace
+  BreaksOff-end Broke broke =
+      BreaksOff-after Broke exec u.told [] trace (end_entry n) whole-end broke (StandsFor-end exec (history_of u.told) u.stands)
+
+-- before the start entry is told all of the trace is left
+pub IsToTell-start : (Took : List Entry → Type 0) (exec : Executive) (n : ℕ) (arrivals : List Arrival) → exec.plan.cycle ≡ cycle_of exec.plan.tasks → StandsFor exec [] → are_fitting exec.plan.tasks n arrivals ≡ true → Took [] → IsToTell Took exec.plan exec (trace exec.plan.tasks arrivals n) n arrivals 0 Start
+IsToTell-start Took exec n arrivals cycle stands fits took =
+    record {
+      told = [];
+      took = took;
+      plan_is = refl;
+      stands = StandsFor-started exec stands;
+      left = AreLeft-start exec.plan.tasks n arrivals fits;
+      early = omega (arith, stands.same.time);
+      whole =
+          sym (entries_left-start exec.plan.tasks exec.plan.cycle n arrivals)
+          ∙ ap (λ c. trace_in exec.plan.tasks c arrivals n) cycle;
+    }
+
+-- what happens next is to be told after it
+pub IsToTell-next : (Took : List Entry → Type 0) (plan : PlanParts) (before after : Executive) (trace : List Entry) (n : ℕ) (arrivals rest : List Arrival) (next : Occurrence) (time : ℕ) (what : What) (u : IsUnderWay Took plan before trace n arrivals) → time ≡ before.scene.time → Does before after next what → entries_left plan.tasks plan.cycle n (history_of u.told) arrivals ≡ entry_after plan.tasks plan.cycle (history_of u.told) next ∷ entries_left plan.tasks plan.cycle n (told_of plan.tasks plan.cycle (history_of u.told) next ∷ history_of u.told) rest → AreLeft plan.tasks n (told_of plan.tasks plan.cycle (history_of u.told) next ∷ history_of u.told) rest → time_of (told_of plan.tasks plan.cycle (history_of u.told) next ∷ history_of u.told) ≤ n → IsToTell Took plan after trace n rest time what
+IsToTell-next Took plan before after trace n arrivals rest next time what u now does step left early =
+    let set = plan.tasks in
+    let h = history_of u.told in
+    let stands = does.stands h u.stands in
+    let told = subst (λ (p : PlanParts). what ≡ told_of p.tasks p.cycle h next) u.plan_is (does.told h u.stands) in
+    let now : time_of h ≡ time = sym (now ∙ u.stands.same.time) in
+    let all = ap (λ es. u.told ++ es) (sym step) ∙ u.whole in
+    record {
+      told = u.told;
+      took = u.took;
+      plan_is = does.plan ∙ u.plan_is;
+      stands = stands;
+      left = subst (λ w. AreLeft set n (w ∷ h) rest) (sym told) left;
+      early = subst (λ t. t ≤ n) (sym stands.same.time) (subst (λ w. time_of (w ∷ h) ≤ n) (sym told) early);
+      whole =
+          subst
+          (λ t. u.told ++ (shown_entry set plan.cycle t what (what ∷ h) ∷ entries_left set plan.cycle n (what ∷ h) rest) ≡ trace)
+          now
+          (subst
+          (λ w. u.told ++ (shown_entry set plan.cycle (time_of h) w (w ∷ h) ∷ entries_left set plan.cycle n (w ∷ h) rest) ≡ trace)
+          (sym told)
+          all);
+    }

@@ -1,0 +1,78 @@
+-- What edits leave of an order, and a run of the job at a place.
+use Rattle.std.proofs.Common.{◌≡◌, ℕ, zero, suc, ◌+◌, ◌-◌, ◌<◌, ◌≤◌, List, [], ◌∷◌, ◌++◌, length, get_or, set, refl, ap, ◌∙◌, inl, inr, arith}
+use Rattle.std.specs.List.{remove}
+use Rattle.std.specs.List.Sorted.{IsNonDecreasingBy}
+use Rattle.std.proofs.lemmas.Bool.{cases_lt}
+use Rattle.std.proofs.lemmas.List.Edits.{length-remove, get_or-remove_below, get_or-remove_above}
+use Rattle.slot_core.specs.declared.jobs.Job.{Job}
+use Rattle.job_queue.specs.Queues.{after_run_at}
+
+-- a list whose numbers do not fall, without the item at a place
+pub IsNonDecreasingBy-remove : {X : Type 0} (n : X → ℕ) (xs : List X) (i : ℕ) → i < length xs → IsNonDecreasingBy n xs → IsNonDecreasingBy n (remove xs i)
+IsNonDecreasingBy-remove n xs i inside ordered j k d le below =
+    let long = length-remove xs i inside in
+    elim (cases_lt j i) [
+      | inl j_below ↦ elim (cases_lt k i) [
+        | inl k_below ↦
+            rw (get_or-remove_below xs i d j j_below inside, get_or-remove_below xs i d k k_below inside) (ordered j k d le (omega arith))
+        | inr k_above ↦
+            rw (get_or-remove_below xs i d j j_below inside, get_or-remove_above xs i d k k_above inside) (ordered j (k + 1) d (omega arith) (omega arith))
+      ]
+      | inr j_above ↦ let k_above : i ≤ k = omega arith in
+          rw (get_or-remove_above xs i d j j_above inside, get_or-remove_above xs i d k k_above inside) (ordered (j + 1) (k + 1) d (omega arith) (omega arith))
+    ]
+
+-- a run at a place leaves the number of jobs
+pub length-after_run_at : (i : ℕ) (jobs : List Job) → length (after_run_at i jobs) ≡ length jobs
+length-after_run_at i [] = refl
+length-after_run_at zero (j ∷ jobs) = refl
+length-after_run_at (suc i) (j ∷ jobs) = ap (λ n. suc n) (length-after_run_at i jobs)
+
+-- it leaves their keys
+pub key-after_run_at : (i : ℕ) (jobs : List Job) (k : ℕ) (d : Job) → (get_or (after_run_at i jobs) k d).key ≡ (get_or jobs k d).key
+key-after_run_at i [] k d = refl
+key-after_run_at zero (j ∷ jobs) zero d = refl
+key-after_run_at zero (j ∷ jobs) (suc k) d = refl
+key-after_run_at (suc i) (j ∷ jobs) zero d = refl
+key-after_run_at (suc i) (j ∷ jobs) (suc k) d = key-after_run_at i jobs k d
+
+-- it leaves their starts
+start-after_run_at : (i : ℕ) (jobs : List Job) (k : ℕ) (d : Job) → (get_or (after_run_at i jobs) k d).est ≡ (get_or jobs k d).est
+start-after_run_at i [] k d = refl
+start-after_run_at zero (j ∷ jobs) zero d = refl
+start-after_run_at zero (j ∷ jobs) (suc k) d = refl
+start-after_run_at (suc i) (j ∷ jobs) zero d = refl
+start-after_run_at (suc i) (j ∷ jobs) (suc k) d = start-after_run_at i jobs k d
+
+-- so it leaves their order of start
+pub IsNonDecreasingBy-after_run_at : (i : ℕ) (jobs : List Job) → IsNonDecreasingBy (λ (j : Job). j.est) jobs → IsNonDecreasingBy (λ (j : Job). j.est) (after_run_at i jobs)
+IsNonDecreasingBy-after_run_at i jobs ordered j k d le below =
+    let first = start-after_run_at i jobs j d in
+    let second = start-after_run_at i jobs k d in
+    let low = ordered j k d le (omega (arith, length-after_run_at i jobs)) in
+    omega arith
+
+-- a run in the first of two parts of a list
+pub after_run_at-append_left : (i : ℕ) (xs ys : List Job) → i < length xs → after_run_at i (xs ++ ys) ≡ after_run_at i xs ++ ys
+after_run_at-append_left i [] ys inside = absurd (omega arith)
+after_run_at-append_left zero (j ∷ xs) ys inside = refl
+after_run_at-append_left (suc i) (j ∷ xs) ys inside =
+    ap (λ js. j ∷ js) (after_run_at-append_left i xs ys (omega arith))
+
+-- a run in the second
+pub after_run_at-append_right : (n i : ℕ) (xs ys : List Job) → length xs ≡ n → n ≤ i → after_run_at i (xs ++ ys) ≡ xs ++ after_run_at (i - n) ys
+after_run_at-append_right n i [] ys long past =
+    let same : i ≡ i - n = omega arith in
+    ap (λ k. after_run_at k ys) same
+after_run_at-append_right n zero (j ∷ xs) ys long past = absurd (omega arith)
+after_run_at-append_right n (suc i) (j ∷ xs) ys long past =
+    let less : i - length xs ≡ suc i - n = omega arith in
+    ap (λ js. j ∷ js) (after_run_at-append_right (length xs) i xs ys refl (omega arith) ∙ ap (λ k. xs ++ after_run_at k ys) less)
+
+-- the job written at its place with a slot less
+pub set-after_run_at : (i : ℕ) (jobs : List Job) (x : Job) → i < length jobs → x ≡ get_or jobs i x → set jobs i (record x { left = x.left - 1 }) ≡ after_run_at i jobs
+set-after_run_at i [] x inside is = absurd (omega arith)
+set-after_run_at zero (j ∷ jobs) x inside is =
+    ap (λ (o : Job). record o { left = o.left - 1 } ∷ jobs) is
+set-after_run_at (suc i) (j ∷ jobs) x inside is =
+    ap (λ js. j ∷ js) (set-after_run_at i jobs x (omega arith) is)

@@ -1,0 +1,5 @@
+pub mod Edits
+pub mod KeptQueues
+pub mod ReadyJobs
+pub mod Runs
+pub mod Searches

@@ -1,0 +1,41 @@
+-- What a queue of jobs is, and what a search in it looks at.
+use Rattle.std.specs.Prelude.{◌≡◌, ℕ, zero, suc, ◌+◌, ◌-◌, ◌≤◌, ◌^◌, false, List, [], ◌∷◌, ◌++◌, length, min, All}
+use Rattle.std.specs.List.{position_or_len}
+use Rattle.std.specs.List.Sorted.{IsNonDecreasingBy}
+use Rattle.slot_core.specs.declared.jobs.Key.{Key}
+use Rattle.slot_core.specs.declared.jobs.Job.{Job}
+use Rattle.slot_core.specs.Keys.{same_key, is_soft}
+use Rattle.slot_core.specs.Kept.{AreApart}
+
+-- what contracts see of a queue: its jobs, and how many it has places for
+pub record QueueParts : Type 0 where
+  pub jobs : List Job
+  pub capacity : ℕ
+
+-- what every queue is: guaranteed jobs with slots left, no two of one key, no more than its places
+pub record IsQueue (queue : QueueParts) : Type 0 where
+  pub apart : AreApart queue.jobs
+  pub guaranteed : All (λ (j : Job). is_soft j.key ≡ false) queue.jobs
+  pub left : All (λ (j : Job). 1 ≤ j.left) queue.jobs
+  pub few : length queue.jobs ≤ queue.capacity
+
+-- what a queue keeps of its jobs beside and of its listed ones: these stand in order of start, and
+-- in each part places are reserved for all
+pub record KeepsQueue
+    (beside listed : List Job) (capacity places_beside places_listed : ℕ) : Type 0 where
+  pub queue : IsQueue (record { jobs = beside ++ listed; capacity = capacity })
+  pub ordered : IsNonDecreasingBy (λ (j : Job). j.est) listed
+  pub small : capacity ≤ 2 ^ 20
+  pub beside_fits : capacity ≤ places_beside
+  pub listed_fits : capacity ≤ places_listed
+
+-- how many jobs a search for this key looks at: those up to the one of that key, or all
+abbrev pub search_steps : Key → List Job → ℕ
+search_steps key jobs =
+    min (position_or_len (λ (j : Job). same_key j.key key) jobs + 1) (length jobs)
+
+-- the jobs, where the one at this place has run one slot
+abbrev pub after_run_at : ℕ → List Job → List Job
+after_run_at place [] = []
+after_run_at zero (job ∷ jobs) = record job { left = job.left - 1 } ∷ jobs
+after_run_at (suc place) (job ∷ jobs) = job ∷ after_run_at place jobs

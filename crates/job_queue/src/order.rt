@@ -1,0 +1,31 @@
+//! Keys and the order of earliest deadline first.
+
+ghost use Rattle.std.specs.Prelude.{◌≡◌};
+ghost use Rattle.slot_core.specs.Choice.{earlier_of};
+ghost use Rattle.slot_core.specs.Keys.{is_earlier, same_key};
+
+use slot_core::{Job, Key};
+
+/// Whether the two keys are one.
+pub fn is_same_key(a: Key, b: Key) -> bool
+    ensures { result ≡ same_key a b }
+{
+    a == b
+}
+
+/// Of two candidates, the one that goes before the other; the first where they are level.
+pub fn earlier_of(best: Option<Job>, job: Job) -> Option<Job>
+    ensures { result ≡ earlier_of best job }
+{
+    match best {
+        Some(best) if !is_earlier(&job, &best) => Some(best),
+        _ => Some(job),
+    }
+}
+
+/// Whether the first job goes before the second: by deadline, then by key.
+fn is_earlier(a: &Job, b: &Job) -> bool
+    ensures { result ≡ is_earlier a.now b.now }
+{
+    (a.dl, a.key) < (b.dl, b.key)
+}

@@ -1,0 +1,246 @@
+//! A queue of jobs in two parts.
+
+ghost use Rattle.std.specs.Prelude.{◌≡◌, ◌+◌, ◌<◌, ◌≤◌, ◌^◌, [], ◌∷◌, ◌++◌, false, not, filter, find, length, count_by, position, remove, slice_index_or, None, Some, IfOk, IsTrue};
+ghost use Rattle.std.specs.List.Sorted.{IsNonDecreasingBy};
+ghost use Rattle.slot_core.specs.declared.jobs.Job.{Job};
+ghost use Rattle.slot_core.specs.Keys.{is_soft, same_key};
+ghost use Rattle.slot_core.specs.Choice.{earliest, ready};
+ghost use Rattle.slot_core.specs.Matches.{HaveSameItems};
+ghost use Rattle.slot_core.specs.Safety.{after_run};
+ghost use Rattle.job_queue.specs.Queues.{IsQueue, after_run_at, search_steps};
+
+use crate::order::{earlier_of, is_same_key};
+use slot_core::{Job, Key, Memory, Steps};
+use std::alloc::Global;
+use std::collections::VecDeque;
+use std::marker::Model;
+use std::sync::ledger::Ledger;
+
+/// Guaranteed jobs that have slots left to run, no two of one key. Contracts see them as a list,
+/// and with it how many jobs the queue has places for, at most 2^20. All times are in slots.
+///
+/// The listed jobs stand in order of start. A job that starts no earlier than the last of them is
+/// listed behind it; each other job stands beside, in no order. Places for all jobs are reserved in
+/// both parts when the queue is made, so no later call takes memory.
+///
+/// A step is a job that is looked at. A search for a key looks at the jobs beside first, then at
+/// the listed ones from the front, and stops at the job of that key.
+#[derive(Drop)]
+pub struct JobQueue {
+    beside: Vec<Job>,
+    listed: VecDeque<Job>,
+    capacity: u32,
+}
+
+impl Model for JobQueue {
+    ghost use Rattle.std.specs.Prelude.{◌++◌, vec_capacity};
+    ghost use Rattle.std.specs.VecDeque.{deque_capacity};
+    ghost use Rattle.job_queue.specs.Queues.{KeepsQueue, QueueParts};
+
+    ghost Value = { QueueParts };
+
+    ghost view = { λ q. record { jobs = q.beside.items ++ q.listed.items; capacity = q.capacity } };
+
+    ghost invariant = { λ q. KeepsQueue q.beside.items q.listed.items q.capacity
+        (vec_capacity q.beside) (deque_capacity q.listed) };
+}
+
+impl JobQueue {
+    /// An empty queue with places for `n` jobs. Only this call takes memory.
+    pub fn with_capacity(alloc: Global, n: u32) -> Result<JobQueue, Memory>
+        requires some { 1 ≤ n }
+        requires few { n ≤ 2 ^ 20 }
+        ensures { IfOk result (λ made. made ≡ record { jobs = []; capacity = n }) }
+    {
+        Ok(JobQueue {
+            beside: Vec::with_capacity(alloc, n as usize)?,
+            listed: VecDeque::with_capacity(alloc, n as usize)?,
+            capacity: n,
+        })
+    }
+
+    /// How many jobs there are. This call also tells what every queue is.
+    pub fn len(&self) -> u32
+        ensures count { result ≡ length self.now.jobs }
+        ensures queue { IsQueue self.now }
+    {
+        (self.beside.len() + self.listed.len()) as u32
+    }
+
+    /// How many jobs it has places for.
+    pub fn capacity(&self) -> u32
+        ensures { result ≡ self.now.capacity }
+    {
+        self.capacity
+    }
+
+    /// Adds a job. One step: it looks at the last listed job.
+    pub fn insert<L: Ledger>(&mut self, job: Job, steps: &mut Steps<L>)
+        requires free { length self.old.jobs < self.old.capacity }
+        requires fresh { count_by (λ j. same_key j.key job.key) self.old.jobs ≡ 0 }
+        requires guaranteed { is_soft job.key ≡ false }
+        requires left { 1 ≤ job.left }
+        ensures jobs { HaveSameItems self.new.jobs (self.old.jobs ++ job ∷ []) }
+        ensures capacity { self.new.capacity ≡ self.old.capacity }
+        ensures one_step { steps.new ≡ steps.old + 1 }
+    {
+        steps.tick();
+        if starts_last(&self.listed, &job) {
+            self.listed.push_back_reserved(job);
+        } else {
+            self.beside.push_reserved(job);
+        }
+    }
+
+    /// The job that earliest deadline first runs in slot `now`. None exactly where no job may start
+    /// by then. One step a job looked at: those beside, and the listed ones up to the first that
+    /// starts later.
+    pub fn earliest<L: Ledger>(&self, now: u64, steps: &mut Steps<L>) -> Option<Job>
+        ensures job { result ≡ earliest (ready now self.now.jobs) }
+        ensures steps { steps.old + length (ready now self.now.jobs) ≤ steps.new }
+        ensures few_steps { steps.new ≤ steps.old + length self.now.jobs }
+    {
+        let mut best = None;
+        for place in 0..self.len() as usize {
+            let job = self.job(place);
+            steps.tick();
+            if job.est <= now {
+                best = earlier_of(best, job);
+            } else if self.beside.len() <= place {
+                break;
+            }
+        }
+        best
+    }
+
+    /// The job of this key. None exactly where there is none. One step a job looked at.
+    pub fn find<L: Ledger>(&self, key: Key, steps: &mut Steps<L>) -> Option<Job>
+        ensures job { result ≡ find (λ j. same_key j.key key) self.now.jobs }
+        ensures steps { steps.new ≡ steps.old + search_steps key self.now.jobs }
+        ensures few_steps { steps.new ≤ steps.old + length self.now.jobs }
+    {
+        let place = self.place_of(key, steps)?;
+        Some(self.job(place))
+    }
+
+    /// The job of this key, where it may start by `now`. None exactly where no such job has it. One
+    /// step a job looked at: those beside, and the listed ones up to the first that starts later.
+    pub fn find_ready<L: Ledger>(&self, now: u64, key: Key, steps: &mut Steps<L>) -> Option<Job>
+        ensures job { result ≡ find (λ j. same_key j.key key) (ready now self.now.jobs) }
+        ensures steps { steps.old + search_steps key (ready now self.now.jobs) ≤ steps.new }
+        ensures few_steps { steps.new ≤ steps.old + length self.now.jobs }
+    {
+        for place in 0..self.len() as usize {
+            let job = self.job(place);
+            steps.tick();
+            if job.est <= now {
+                if is_same_key(job.key, key) {
+                    return Some(job);
+                }
+            } else if self.beside.len() <= place {
+                break;
+            }
+        }
+        None
+    }
+
+    /// One slot has run of the job of this key. It goes where that was its last one. One step a job
+    /// looked at.
+    pub fn ran<L: Ledger>(&mut self, key: Key, steps: &mut Steps<L>)
+        requires present { 1 ≤ count_by (λ j. same_key j.key key) self.old.jobs }
+        ensures jobs { HaveSameItems self.new.jobs (after_run key self.old.jobs) }
+        ensures capacity { self.new.capacity ≡ self.old.capacity }
+        ensures steps { steps.new ≡ steps.old + search_steps key self.old.jobs }
+        ensures few_steps { steps.new ≤ steps.old + length self.old.jobs }
+    {
+        if let Some(place) = self.place_of(key, steps) {
+            if self.job(place).left > 1 {
+                self.run_at(place);
+            } else {
+                self.remove(place);
+            }
+        }
+    }
+
+    /// Removes the job of this key, and returns it. None exactly where there is none. One step a
+    /// job looked at.
+    pub fn take<L: Ledger>(&mut self, key: Key, steps: &mut Steps<L>) -> Option<Job>
+        ensures job { result ≡ find (λ j. same_key j.key key) self.old.jobs }
+        ensures jobs { HaveSameItems self.new.jobs
+            (filter (λ j. not (same_key j.key key)) self.old.jobs) }
+        ensures none { result ≡ None → self.new ≡ self.old }
+        ensures capacity { self.new.capacity ≡ self.old.capacity }
+        ensures steps { steps.new ≡ steps.old + search_steps key self.old.jobs }
+        ensures few_steps { steps.new ≤ steps.old + length self.old.jobs }
+    {
+        let place = self.place_of(key, steps)?;
+        self.remove(place)
+    }
+
+    /// The place of the job of this key. This call also tells what every queue is.
+    fn place_of<L: Ledger>(&self, key: Key, steps: &mut Steps<L>) -> Option<usize>
+        ensures place { result ≡ position (λ j. same_key j.key key) self.now.jobs }
+        ensures queue { IsQueue self.now }
+        ensures steps { steps.new ≡ steps.old + search_steps key self.now.jobs }
+    {
+        for place in 0..self.len() as usize {
+            steps.tick();
+            if is_same_key(self.job(place).key, key) {
+                return Some(place);
+            }
+        }
+        None
+    }
+
+    /// The job at this place: those beside come first.
+    fn job(&self, place: usize) -> Job
+        requires { place < length self.now.jobs }
+        ensures { result ≡ slice_index_or self.now.jobs place result }
+    {
+        let beside = self.beside.len();
+        if place < beside {
+            self.beside[place]
+        } else {
+            self.listed[place - beside]
+        }
+    }
+
+    /// One slot has run of the job at this place, which has another left.
+    fn run_at(&mut self, place: usize)
+        requires within { place < length self.old.jobs }
+        requires more { (d : Job) → 1 < (slice_index_or self.old.jobs place d).left }
+        ensures jobs { self.new.jobs ≡ after_run_at place self.old.jobs }
+        ensures capacity { self.new.capacity ≡ self.old.capacity }
+    {
+        let beside = self.beside.len();
+        if place < beside {
+            self.beside[place].left -= 1;
+        } else {
+            self.listed[place - beside].left -= 1;
+        }
+    }
+
+    /// Removes the job at this place. Beside, the last job takes its place.
+    fn remove(&mut self, place: usize) -> Option<Job>
+        requires within { place < length self.old.jobs }
+        ensures job { (d : Job) → result ≡ Some (slice_index_or self.old.jobs place d) }
+        ensures jobs { HaveSameItems self.new.jobs (remove self.old.jobs place) }
+        ensures capacity { self.new.capacity ≡ self.old.capacity }
+    {
+        let beside = self.beside.len();
+        if place < beside {
+            Some(self.beside.swap_remove(place))
+        } else {
+            self.listed.remove(place - beside)
+        }
+    }
+}
+
+/// Whether the job starts no earlier than each of these, which stand in order of start.
+fn starts_last(listed: &VecDeque<Job>, job: &Job) -> bool
+    requires { IsNonDecreasingBy (λ j. j.est) listed.now.items }
+    ensures { IsTrue result
+        → IsNonDecreasingBy (λ j. j.est) (listed.now.items ++ job.now ∷ []) }
+{
+    listed.back().is_none_or(|last| last.est <= job.est)
+}

@@ -1,5 +1,0 @@
-pub mod Current
-pub mod FaultTexts
-pub mod Shown
-pub mod States
-pub mod Told

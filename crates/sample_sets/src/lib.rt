@@ -1,0 +1,15 @@
+//! Task sets for tests and worked examples.
+//!
+//! The sets stand in `specs/Sets`. The functions build the same sets.
+#![tactic(auto)]
+
+mod graphs;
+mod pairs;
+mod sets;
+
+pub use graphs::four_tasks;
+pub use pairs::{Case, NoSet, two_pairs};
+pub use sets::{
+    borrowing_set, crowded_set, long_names_set, offset_set, overlong_set, pair_set,
+    two_periods_set, unmanned_flight_set,
+};

@@ -1,0 +1,6 @@
+-- An early end: which job it ends, what it frees, and what it leaves.
+pub mod EndAnswers
+pub mod EndedScenes
+pub mod EndedSpans
+pub mod EndEvents
+pub mod Started

@@ -1,0 +1,4 @@
+pub mod Rows
+pub mod Scenes
+pub mod Steps
+pub mod Ends

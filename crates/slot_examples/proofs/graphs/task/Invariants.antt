@@ -1,6 +1,0 @@
--- The entries so far.
-use Rattle.std.proofs.Common.{◌≡◌, take}
-use Rattle.slot_examples.proofs.graphs.task.Given as goal
-
-abbrev pub invariant-loop-entry : goal.invariant-loop-entry
-invariant-loop-entry l = l.entries ≡ take l.entry-index l.after

@@ -1,0 +1,28 @@
+-- What an event that does what the model does leaves of the parts of an executive.
+use Rattle.std.proofs.Common.{◌≡◌, ℕ, ◌≤◌, ◌^◌, List, sym, ap, ◌∙◌, subst}
+use Rattle.std.specs.Prelude.{map}
+use Rattle.slot_core.specs.declared.events.What.{What}
+use Rattle.slot_core.specs.declared.jobs.Span.{Span}
+use Rattle.slot_core.specs.declared.tasks.Sporadic.{Sporadic}
+use Rattle.slot_core.specs.Executives.{Executive, Does}
+use Rattle.slot_core.specs.Plans.{PlanParts, IsPlan}
+use Rattle.slot_core.specs.Spans.{spans_of}
+use Rattle.slot_core.specs.Traces.{Occurrence}
+use Rattle.sporadic_reserve.specs.Reserves.{without_name}
+use Rattle.scene_steps.proofs.Same.Events.{StandsForSome-from_does}
+use Rattle.slot_exec.specs.Parts.{span_room, job_room, IsExecutive}
+
+-- where the table has the spans of the new scene, the time is within its bound, and the room stays, the parts agree again
+pub IsExecutive-after : (before after : Executive) (next : Occurrence) (what : What) (rows later : List Span) (reserved : List Sporadic) (limit capacity most places room ring : ℕ) → IsExecutive before rows reserved limit capacity most → Does before after next what → after.scene.time ≤ 2 ^ 32 → later ≡ spans_of before.plan.cycle after.scene → places ≡ limit → room ≡ capacity → ring ≡ most → IsExecutive after later reserved places room ring
+IsExecutive-after before after next what rows later reserved limit capacity most places room ring is does early spans same_places same_room same_ring =
+    let stays : before.plan ≡ after.plan = sym does.plan in
+    record {
+      plan = subst IsPlan stays is.plan;
+      stands = StandsForSome-from_does before after next what does;
+      early = early;
+      spans = spans ∙ ap (λ (p : PlanParts). spans_of p.cycle after.scene) stays;
+      sporadics = is.sporadics ∙ ap (λ (p : PlanParts). map without_name p.tasks.sporadics) stays;
+      places = same_places ∙ is.places ∙ ap (λ (p : PlanParts). span_room p.cycle) stays;
+      queue = same_room ∙ is.queue ∙ ap (λ (p : PlanParts). job_room p.cycle) stays;
+      ring = same_ring ∙ is.ring ∙ ap (λ (p : PlanParts). p.tasks.soft_limit) stays;
+    }

@@ -1,0 +1,9 @@
+pub mod EarlyEnds
+pub mod EventParts
+pub mod FirstExecutives
+pub mod SceneOffers
+pub mod ShownExecutives
+pub mod SlotChoice
+pub mod SlotParts
+pub mod SoftArrivals
+pub mod SpanOffers

@@ -1,0 +1,46 @@
+-- The spans that the parts of an executive show.
+use Rattle.std.proofs.Common.{◌≡◌, ℕ, ◌-◌, ◌*◌, ◌≤◌, List, length, take, sym, ap, ◌∙◌, subst, arith}
+use Rattle.std.specs.Prelude.{slice_get, Some}
+use Rattle.slot_core.specs.declared.TheConstants.{SHOWN_LIMIT}
+use Rattle.slot_core.specs.declared.jobs.Span.{Span}
+use Rattle.slot_core.specs.declared.tasks.Sporadic.{Sporadic}
+use Rattle.slot_core.specs.Executives.{Executive, Shows, StandsFor, StandsForSome}
+use Rattle.slot_core.specs.Histories.{History}
+use Rattle.slot_core.specs.Plans.{IsPlan}
+use Rattle.slot_core.specs.Scenes.{scene_of}
+use Rattle.slot_core.specs.Spans.{spans_of}
+use Rattle.scene_steps.proofs.Facts.ProperScenes.{proper_scene}
+use Rattle.scene_steps.proofs.Same.SameSpans.{spans_of-same}
+use Rattle.scene_steps.proofs.Spans.Proper.{horizon-at_most}
+use Rattle.slot_core.specs.Scenes.{horizon}
+use Rattle.slot_core.specs.ShownSpans.{ShownSpans}
+use Rattle.slot_facts.proofs.Plans.FirstSpans.{shown-first}
+use Rattle.interval_row.specs.declared.table.Spot.{Spot}
+use Rattle.interval_row.specs.Tables.{spans_of_pairs}
+use Rattle.guarantee.proofs.Tables.{length-spans_of_pairs}
+use Rattle.scene_steps.proofs.Same.Events.{Shows-from_scene}
+use Rattle.slot_exec.specs.Parts.{IsExecutive}
+
+-- the first spans of its table are those that are shown at each history for which it stands
+pub Shows-parts : (exec : Executive) (pairs : List (Spot × Span)) (reserved : List Sporadic) (limit capacity most : ℕ) (shown : ShownSpans) → IsExecutive exec (spans_of_pairs pairs) reserved limit capacity most → shown ≡ record { spans = take SHOWN_LIMIT (spans_of_pairs pairs); more = length pairs - SHOWN_LIMIT } → Shows exec shown
+Shows-parts exec pairs reserved limit capacity most shown parts is =
+    let scene = exec.scene in
+    let more = ap (λ n. n - SHOWN_LIMIT) (sym (length-spans_of_pairs pairs)) in
+    let first = is ∙ ap (λ n. record { spans = take SHOWN_LIMIT (spans_of_pairs pairs); more = n }) more in
+    let all = shown-first scene.jobs (horizon exec.plan.cycle scene.time) scene.time scene.points shown (spans_of_pairs pairs) first parts.spans in
+    subst (Shows exec) (sym all) (Shows-from_scene exec parts.plan parts.stands)
+
+-- at most three cycles of jobs remain
+pub few_jobs-stands : (exec : Executive) → IsPlan exec.plan → StandsForSome exec → length exec.scene.jobs ≤ 3 * exec.plan.cycle
+few_jobs-stands exec plan stands =
+    omega (arith, (proper_scene exec plan stands).few_jobs, horizon-at_most exec.plan.cycle exec.scene.time)
+
+-- and there are at most three cycles of points
+pub few_points-stands : (exec : Executive) → IsPlan exec.plan → StandsForSome exec → length exec.scene.points ≤ 3 * exec.plan.cycle
+few_points-stands exec plan stands =
+    omega (arith, (proper_scene exec plan stands).few_points, horizon-at_most exec.plan.cycle exec.scene.time)
+
+-- a span of its scene is that of each history for which it stands
+pub span-of_history : (exec : Executive) (h : History) (i : ℕ) (s : Span) → StandsFor exec h → slice_get (spans_of exec.plan.cycle exec.scene) i ≡ Some s → slice_get (spans_of exec.plan.cycle (scene_of exec.plan.tasks exec.plan.cycle h)) i ≡ Some s
+span-of_history exec h i s stands is =
+    ap (λ spans. slice_get spans i) (sym (spans_of-same exec.plan.cycle exec.scene (scene_of exec.plan.tasks exec.plan.cycle h) stands.same)) ∙ is

@@ -1,0 +1,12 @@
+use Rattle.std.proofs.Common.{◌≡◌, ◌≤◌, ◌++◌, map, take}
+use Rattle.slot_core.specs.Matches.{HaveSameItems}
+use Rattle.slot_core.specs.OfflineJobs.{later_job}
+use Rattle.slot_exec.proofs.cycles.insert_cycle.Given as goal
+
+-- the jobs so far have come in
+abbrev pub invariant-loop-job : goal.invariant-loop-job
+invariant-loop-job g l = record {
+  jobs : HaveSameItems l.queue.jobs (l.initial.queue.jobs ++ map (later_job l.plan.tasks l.plan.cycle l.n) (take l.job-index l.job-items));
+  capacity : l.queue.capacity ≡ l.initial.queue.capacity;
+  steps : l.initial.steps ≤ l.steps;
+}

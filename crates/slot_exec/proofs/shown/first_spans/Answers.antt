@@ -1,0 +1,26 @@
+use Rattle.std.proofs.Common.{◌≡◌, ℕ, ◌+◌, List, [], ◌∷◌, ◌++◌, Some, take, ap, sym, ◌∙◌, arith}
+use Rattle.std.specs.Prelude.{slice_get}
+use Rattle.std.proofs.lemmas.List.{take_more}
+use Rattle.std.proofs.lemmas.Option.{get_or_from_slice_get, slice_get_within}
+use Rattle.slot_core.specs.declared.jobs.Span.{Span}
+use Rattle.slot_core.specs.ShownSpans.{ShownSpans}
+use Rattle.interval_row.specs.Tables.{spans_of_pairs}
+use Rattle.slot_exec.proofs.shown.first_spans.Goals as goal
+
+-- one span more is shown
+shown-more : (spans : List Span) (more i : ℕ) (s : Span) (before after : ShownSpans) → slice_get spans i ≡ Some s → before ≡ record { spans = take i spans; more = more } → after ≡ record before { spans = before.spans ++ s ∷ [] } → after ≡ record { spans = take (i + 1) spans; more = more }
+shown-more spans more i s before after at shown pushed =
+    let here = get_or_from_slice_get spans i s s at in
+    let all = take_more spans i s (slice_get_within spans i s at) ∙ ap (λ x. take i spans ++ x ∷ []) here in
+    pushed ∙ (ap (λ (b : ShownSpans). record b { spans = b.spans ++ s ∷ [] }) shown ∙ ap (λ xs. record { spans = xs; more = more }) (sym all))
+
+pub loop-shown-preserved : goal.loop-shown-preserved
+loop-shown-preserved g c =
+    let pairs = g.T.SpareTable.pairs c.args.table.now in
+    let at = sym c.loop-shown.invariant.next ∙ c.in-Some.is in
+    let read = c.read.ensures.span c.loop-shown._shown at in
+    record {
+      next = c.next-next.ensures c.loop-shown._shown at;
+      shown = shown-more (spans_of_pairs pairs) _ c.loop-shown._shown c.read.result c.loop-shown.shown c.push.new.self read c.loop-shown.invariant.shown c.push.ensures;
+      steps = omega arith;
+    }

@@ -1,0 +1,46 @@
+-- What the parts of an executive stand for, and how they agree.
+use Rattle.std.specs.Prelude.{◌≡◌, ℕ, ◌+◌, ◌*◌, ◌≤◌, ◌^◌, List, map}
+use Rattle.slot_core.specs.declared.jobs.Job.{Job}
+use Rattle.slot_core.specs.declared.jobs.SoftJob.{SoftJob}
+use Rattle.slot_core.specs.declared.jobs.Span.{Span}
+use Rattle.slot_core.specs.declared.tasks.Sporadic.{Sporadic}
+use Rattle.slot_core.specs.Plans.{PlanParts, IsPlan}
+use Rattle.slot_core.specs.Spans.{spans_of}
+use Rattle.slot_core.specs.Executives.{Executive, StandsForSome}
+use Rattle.sporadic_reserve.specs.Reserves.{without_name}
+
+-- the points at which spans end
+abbrev pub ends_of : List Span → List ℕ
+ends_of spans = map (λ (s : Span). s.end) spans
+
+-- the executive of a plan with a table at this time, with these spans, with these jobs in its
+-- queue, next arrivals in its reserve, soft jobs in its ring, and last row
+abbrev pub executive :
+    PlanParts → ℕ → List Span → List Job → List ℕ → List SoftJob → ℕ → Executive
+executive plan time spans jobs nexts soft row = record {
+  plan = plan;
+  scene = record { time = time; jobs = jobs; nexts = nexts; soft = soft; points = ends_of spans };
+  last_row = row;
+}
+
+-- the room that an executive takes when it starts: for three cycles of spans and one more, for
+-- three cycles of jobs, and for as many soft jobs as may wait
+abbrev pub span_room : ℕ → ℕ
+span_room cycle = 3 * cycle + 1
+
+abbrev pub job_room : ℕ → ℕ
+job_room cycle = 3 * cycle
+
+-- the parts agree: the executive has a plan and stands for some legal history, the spans of the
+-- table are those of the scene, the reserve has the plan's sporadic tasks, and there is room
+pub record IsExecutive
+    (exec : Executive) (rows : List Span) (reserved : List Sporadic)
+    (limit capacity most : ℕ) : Type 0 where
+  pub plan : IsPlan exec.plan
+  pub stands : StandsForSome exec
+  pub early : exec.scene.time ≤ 2 ^ 32
+  pub spans : rows ≡ spans_of exec.plan.cycle exec.scene
+  pub sporadics : reserved ≡ map without_name exec.plan.tasks.sporadics
+  pub places : limit ≡ span_room exec.plan.cycle
+  pub queue : capacity ≡ job_room exec.plan.cycle
+  pub ring : most ≡ exec.plan.tasks.soft_limit

@@ -1,0 +1,121 @@
+//! Early ends.
+
+ghost use Rattle.std.specs.Prelude.{◌≡◌, ◌≤◌, false, true, if◌then◌else◌};
+ghost use Rattle.std.specs.Option.{option_map_or};
+ghost use Rattle.slot_core.specs.Keys.{is_soft};
+ghost use Rattle.slot_core.specs.Matches.{HaveSameItems};
+ghost use Rattle.interval_row.specs.Tables.{spans_of_pairs};
+ghost use Rattle.scene_steps.specs.Ends.{ending_job, ending_soft, freed, jobs_left, soft_left, spans_left, AreDueInSpans};
+
+use circular_buffer::HeapCircularBuffer;
+use interval_row::SpareTable;
+use job_queue::JobQueue;
+use slot_core::{Done, Job, Key, SoftJob, Steps};
+use std::sync::ledger::Ledger;
+
+/// The job of this key ends, where it has started: it goes, and the slots that it had left are due
+/// no more.
+pub fn end_early<T: SpareTable, L: Ledger>(
+    table: &mut T,
+    queue: &mut JobQueue,
+    soft: &mut HeapCircularBuffer<SoftJob>,
+    key: Key,
+    steps: &mut Steps<L>,
+) -> Done
+    requires { AreDueInSpans queue.old.jobs (spans_of_pairs (T.pairs table.old)) }
+    ensures freed { result ≡ freed (T.time table.old) key queue.old.jobs soft.old.items }
+    ensures spans { spans_of_pairs (T.pairs table.new)
+        ≡ (if is_soft key then spans_of_pairs (T.pairs table.old)
+        else spans_left
+        (T.time table.old)
+        key
+        queue.old.jobs
+        (spans_of_pairs (T.pairs table.old))) }
+    ensures time { T.time table.new ≡ T.time table.old }
+    ensures places { T.limit table.new ≡ T.limit table.old }
+    ensures jobs { HaveSameItems
+        queue.new.jobs
+        (if is_soft key then queue.old.jobs else jobs_left (T.time table.old) key queue.old.jobs) }
+    ensures capacity { queue.new.capacity ≡ queue.old.capacity }
+    ensures stays { result ≡ Done.NotRunning → queue.new ≡ queue.old }
+    ensures soft { soft.new.items
+        ≡ (if is_soft key then soft_left key soft.old.items else soft.old.items) }
+    ensures ring { soft.new.capacity ≡ soft.old.capacity }
+    ensures steps { steps.old ≤ steps.new }
+{
+    match key {
+        Key::Soft(row) => end_soft(soft, row),
+        _ => end_job(table, queue, key, steps),
+    }
+}
+
+/// The soft job of this row ends, where it is the first and has started. Only the first can have.
+fn end_soft(soft: &mut HeapCircularBuffer<SoftJob>, row: u32) -> Done
+    ensures freed { result
+        ≡ option_map_or (λ (s : SoftJob). Done.Freed s.left)
+        (ending_soft (Key.Soft row) soft.old.items)
+        Done.NotRunning }
+    ensures soft { soft.new.items ≡ soft_left (Key.Soft row) soft.old.items }
+    ensures ring { soft.new.capacity ≡ soft.old.capacity }
+{
+    match soft.front().copied() {
+        Some(first) if first.row == row && first.left < first.declared => {
+            soft.pop_front();
+            Done::Freed(first.left)
+        }
+        _ => Done::NotRunning,
+    }
+}
+
+/// The guaranteed job of this key ends, where it has started.
+fn end_job<T: SpareTable, L: Ledger>(
+    table: &mut T,
+    queue: &mut JobQueue,
+    key: Key,
+    steps: &mut Steps<L>,
+) -> Done
+    requires { AreDueInSpans queue.old.jobs (spans_of_pairs (T.pairs table.old)) }
+    ensures freed { result
+        ≡ option_map_or (λ (j : Job). Done.Freed j.left)
+        (ending_job (T.time table.old) key queue.old.jobs)
+        Done.NotRunning }
+    ensures spans { spans_of_pairs (T.pairs table.new)
+        ≡ spans_left
+        (T.time table.old)
+        key
+        queue.old.jobs
+        (spans_of_pairs (T.pairs table.old)) }
+    ensures time { T.time table.new ≡ T.time table.old }
+    ensures places { T.limit table.new ≡ T.limit table.old }
+    ensures jobs { HaveSameItems
+        queue.new.jobs
+        (jobs_left (T.time table.old) key queue.old.jobs) }
+    ensures stays { result ≡ Done.NotRunning → queue.new ≡ queue.old }
+    ensures capacity { queue.new.capacity ≡ queue.old.capacity }
+    ensures steps { steps.old ≤ steps.new }
+{
+    match started_job(queue, table.time(), key, steps) {
+        Some(job) => {
+            queue.take(key, steps);
+            table.give_back(job.dl, job.left, steps);
+            Done::Freed(job.left)
+        }
+        None => Done::NotRunning,
+    }
+}
+
+/// The job of this key, where it is ready and has started.
+fn started_job<L: Ledger>(
+    queue: &JobQueue,
+    time: u64,
+    key: Key,
+    steps: &mut Steps<L>,
+) -> Option<Job>
+    ensures job { result ≡ ending_job time key queue.now.jobs }
+    ensures steps { steps.old ≤ steps.new }
+{
+    match queue.find_ready(time, key, steps) {
+        Some(job) if job.left < job.declared => Some(job),
+        _ => None,
+    }
+}

@@ -1,0 +1,229 @@
+//! The executive and its events.
+
+ghost use Rattle.std.specs.Prelude.{◌≡◌, ℕ, ◌+◌, ◌*◌, ◌≤◌, ◌<◌, ◌^◌, pos, ◌≤ℤ◌, [], Some, None, IfOk, length, slice_get};
+ghost use Rattle.slot_core.specs.declared.TheConstants.{OFFER_LIMIT};
+ghost use Rattle.slot_core.specs.declared.events.Event.{Event};
+ghost use Rattle.slot_core.specs.declared.events.What.{What};
+ghost use Rattle.slot_core.specs.Answers.{done_answer, soft_answer};
+ghost use Rattle.slot_core.specs.Choice.{choice};
+ghost use Rattle.slot_core.specs.Executives.{Does, IsKept, Shows, StandsFor, StandsForSome};
+ghost use Rattle.slot_core.specs.Histories.{History};
+ghost use Rattle.slot_core.specs.Plans.{IsPlan};
+ghost use Rattle.slot_core.specs.Scenes.{scene_of};
+ghost use Rattle.slot_core.specs.Spans.{shown_of, spans_of};
+ghost use Rattle.spare_capacity.specs.Recurrence.{first_spare};
+ghost use Rattle.slot_core.specs.Traces.{arrive, slot, started, told_of_slot};
+
+use crate::cycles::{first_jobs, pass};
+use crate::ends::end_early;
+use crate::runs::{choose, run};
+use crate::shown::{first_spans, spot_of};
+use circular_buffer::HeapCircularBuffer;
+use cycle_plan::Plan;
+use interval_row::SpareTable;
+use job_queue::JobQueue;
+use slot_core::{Done, Key, Memory, Ran, SHOWN_LIMIT, Shown, Soft, SoftJob, Span, Steps, TaskSet};
+use sporadic_reserve::Reserve;
+use std::alloc::Global;
+use std::marker::Model;
+use std::sync::ledger::Ledger;
+
+/// Follows a plan slot by slot, and answers arrivals, over any table of spans.
+///
+/// Contracts see the plan, the scene and the row of the last arrival. The executive always stands
+/// for some legal history: each call tells what the definitions tell at every history for which it
+/// stands, and stands for the longer one afterwards. `start` takes all memory, and no later call
+/// takes any.
+#[derive(Drop)]
+pub struct Exec<T: SpareTable> {
+    plan: Plan,
+    table: T,
+    reserve: Reserve,
+    queue: JobQueue,
+    soft: HeapCircularBuffer<SoftJob>,
+    last_row: u32,
+}
+
+impl<T: SpareTable> Model for Exec<T> {
+    ghost use Rattle.slot_core.specs.Executives.{Executive};
+    ghost use Rattle.interval_row.specs.Tables.{spans_of_pairs};
+    ghost use Rattle.slot_exec.specs.Parts.{executive, IsExecutive};
+
+    ghost Value = { Executive };
+
+    ghost view = { λ e. executive
+        e.plan
+        (T.time e.table)
+        (spans_of_pairs (T.pairs e.table))
+        e.queue.jobs
+        e.reserve.nexts
+        e.soft.items
+        e.last_row };
+
+    ghost invariant = { λ e. IsExecutive
+        (executive
+        e.plan
+        (T.time e.table)
+        (spans_of_pairs (T.pairs e.table))
+        e.queue.jobs
+        e.reserve.nexts
+        e.soft.items
+        e.last_row)
+        (spans_of_pairs (T.pairs e.table))
+        e.reserve.sporadics
+        (T.limit e.table)
+        e.queue.capacity
+        e.soft.capacity };
+}
+
+impl<T: SpareTable> Exec<T> {
+    /// The executive of a plan before the first slot. It takes room for three cycles of spans and
+    /// of jobs, and for the soft jobs that may wait.
+    pub fn start(alloc: Global, plan: Plan) -> Result<Exec<T>, Memory>
+        ensures plan { IfOk result (λ exec. exec.plan ≡ plan) }
+        ensures stands { IfOk result (λ exec. StandsFor exec []) }
+        ensures started { IfOk result (λ exec. StandsFor exec started) }
+    {
+        let cycle = plan.cycle();
+        let table = T::with_room(alloc, plan.spans(), 3, 3 * cycle + 1)?;
+        let reserve = Reserve::new(plan.sporadics());
+        let queue = first_jobs(alloc, &plan)?;
+        let soft = HeapCircularBuffer::with_capacity(alloc, plan.tasks().soft_limit as usize)?;
+        Ok(Exec {
+            plan,
+            table,
+            reserve,
+            queue,
+            soft,
+            last_row: 0,
+        })
+    }
+
+    /// The time: how many slots have passed. This call also tells what every executive keeps.
+    pub fn now(&self) -> u64
+        ensures time { result ≡ self.now.scene.time }
+        ensures kept { IsKept self.now }
+        ensures stands { StandsForSome self.now }
+        ensures early { result ≤ 2 ^ 32 }
+        ensures few_jobs { length self.now.scene.jobs ≤ 3 * self.now.plan.cycle }
+        ensures spare { pos 0 ≤ℤ first_spare (spans_of self.now.plan.cycle self.now.scene) }
+    {
+        self.table.time()
+    }
+
+    /// The row of the last arrival, 0 before the first.
+    pub fn last_row(&self) -> u32
+        ensures { result ≡ self.now.last_row }
+    {
+        self.last_row
+    }
+
+    /// The task set of its plan.
+    pub fn tasks(&self) -> &TaskSet
+        ensures tasks { result.now ≡ self.now.plan.tasks }
+        ensures plan { IsPlan self.now.plan }
+    {
+        self.plan.tasks()
+    }
+
+    /// How many spans there are up to the horizon: at least one, and at most three cycles of them.
+    pub fn span_count(&self) -> u32
+        ensures count { result ≡ length (spans_of self.now.plan.cycle self.now.scene) }
+        ensures points { result ≡ length self.now.scene.points }
+        ensures some { 1 ≤ result }
+        ensures few { result ≤ 3 * self.now.plan.cycle }
+    {
+        self.table.count()
+    }
+
+    /// The span at this place, with its work and its spare capacity, as it is at each history for
+    /// which the executive stands. One step; the spans before it are passed without reading them.
+    pub fn span<L: Ledger>(&self, i: u32, steps: &mut Steps<L>) -> Span
+        requires { i < length self.now.scene.points }
+        ensures span { slice_get (spans_of self.now.plan.cycle self.now.scene) i ≡ Some result }
+        ensures of_history { (h : History) → StandsFor self.now h → slice_get
+            (spans_of self.now.plan.cycle (scene_of self.now.plan.tasks self.now.plan.cycle h))
+            i
+            ≡ Some result }
+        ensures one_step { steps.new ≡ steps.old + 1 }
+    {
+        self.table.read(spot_of(&self.table, i), steps)
+    }
+
+    /// The first spans, as many as an entry shows, or all where there are fewer. One step each.
+    pub fn shown<L: Ledger>(&self, steps: &mut Steps<L>) -> Shown
+        ensures shows { Shows self.now result }
+        ensures shown { result ≡ shown_of self.now.plan.cycle self.now.scene }
+        ensures few_steps { steps.new ≤ steps.old + SHOWN_LIMIT }
+    {
+        first_spans(&self.table, steps)
+    }
+
+    /// Soft work of `c` slots arrives in this row. Full(n) exactly where n soft jobs wait and n is
+    /// the limit.
+    pub fn soft(&mut self, row: u32, c: u32) -> Soft
+        requires later { self.old.last_row < row }
+        requires some { 1 ≤ c }
+        requires few { c ≤ OFFER_LIMIT }
+        ensures does { Does self.old self.new (arrive row (Event.Soft c)) (What.Soft row c result) }
+        ensures answer { result ≡ soft_answer self.old.plan.tasks.soft_limit self.old.scene }
+        ensures full { (n : ℕ) → result ≡ Soft.Full n
+            → self.new ≡ record self.old { last_row = row } }
+        ensures row { self.new.last_row ≡ row }
+        ensures time { self.new.scene.time ≡ self.old.scene.time }
+    {
+        self.last_row = row;
+        if self.soft.is_full() {
+            return Soft::Full(self.plan.tasks().soft_limit);
+        }
+        self.soft.push_back(SoftJob {
+            row,
+            left: c,
+            declared: c,
+        });
+        Soft::Taken
+    }
+
+    /// The job of this key has ended, before it ran all its slots. Freed(n) where it has started
+    /// and not ended, with n slots left, and NotRunning exactly where no such job has.
+    pub fn done<L: Ledger>(&mut self, row: u32, key: Key, steps: &mut Steps<L>) -> Done
+        requires later { self.old.last_row < row }
+        ensures does { Does
+            self.old
+            self.new
+            (arrive row (Event.Done key))
+            (What.Done row key result) }
+        ensures answer { result ≡ done_answer self.old.scene key }
+        ensures stays { result ≡ Done.NotRunning → self.new ≡ record self.old { last_row = row } }
+        ensures steps { steps.old ≤ steps.new }
+        ensures some { (n : ℕ) → result ≡ Done.Freed n → 1 ≤ n }
+        ensures row { self.new.last_row ≡ row }
+        ensures time { self.new.scene.time ≡ self.old.scene.time }
+    {
+        self.last_row = row;
+        end_early(&mut self.table, &mut self.queue, &mut self.soft, key, steps)
+    }
+
+    /// One slot passes. The first soft job runs where soft work may, else the earliest guaranteed
+    /// job that is ready, else none. At the end of a cycle, one more cycle of the plan comes in.
+    pub fn slot<L: Ledger>(&mut self, steps: &mut Steps<L>) -> Ran
+        requires { self.old.scene.time < 2 ^ 32 }
+        ensures does { Does self.old self.new slot (told_of_slot result) }
+        ensures answer { result
+            ≡ choice self.old.plan.tasks.sporadics self.old.plan.cycle self.old.scene }
+        ensures row { self.new.last_row ≡ self.old.last_row }
+        ensures time { self.new.scene.time ≡ self.old.scene.time + 1 }
+        ensures steps { steps.old ≤ steps.new }
+    {
+        let chosen = choose(&self.table, &self.reserve, &self.queue, &self.soft, steps);
+        run(
+            chosen,
+            &mut self.table,
+            &mut self.queue,
+            &mut self.soft,
+            steps,
+        );
+        pass(&self.plan, &mut self.table, &mut self.queue, steps);
+        chosen.ran()
+    }
+}

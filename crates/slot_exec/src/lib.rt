@@ -1,0 +1,15 @@
+//! The executive: it follows a plan slot by slot, and answers each arrival (Fohler 1995; Isovic and
+//! Fohler 2000).
+//!
+//! All times are in slots. All memory that an executive needs is taken when it starts.
+#![tactic(auto)]
+
+mod cycles;
+mod ends;
+pub mod exec;
+mod runs;
+mod shown;
+#[cfg(test)]
+mod tests;
+
+pub use exec::Exec;

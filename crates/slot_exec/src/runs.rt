@@ -1,0 +1,120 @@
+//! What a slot runs.
+
+ghost use Rattle.std.specs.Prelude.{◌≡◌, ◌≤◌, ◌<◌, ◌^◌, length};
+ghost use Rattle.slot_core.specs.Choice.{earliest, ready};
+ghost use Rattle.slot_core.specs.Matches.{HaveSameItems};
+ghost use Rattle.spare_capacity.specs.Recurrence.{last_end};
+ghost use Rattle.interval_row.specs.Tables.{spans_of_pairs};
+ghost use Rattle.guarantee.specs.Offers.{soft_fits};
+ghost use Rattle.slot_exec.specs.Changes.{chosen_job, chosen_of, front_run, jobs_after, ran_of, soft_after, spans_after, MayRun};
+
+use circular_buffer::HeapCircularBuffer;
+use guarantee::may_run_soft;
+use interval_row::SpareTable;
+use job_queue::JobQueue;
+use slot_core::{Job, Key, Ran, SoftJob, Steps};
+use sporadic_reserve::Reserve;
+use std::sync::ledger::Ledger;
+
+/// What is chosen for a slot.
+#[derive(Clone, Copy, PartialEq, Eq, Debug)]
+pub enum Chosen {
+    /// No job may run.
+    Nothing,
+    /// The first soft job, of this row.
+    Soft(u32),
+    /// This guaranteed job.
+    Guaranteed(Job),
+}
+
+impl Chosen {
+    /// What runs.
+    pub fn ran(self) -> Ran
+        ensures { result ≡ ran_of self }
+    {
+        match self {
+            Chosen::Nothing => Ran::Idle,
+            Chosen::Soft(row) => Ran::Key(Key::Soft(row)),
+            Chosen::Guaranteed(job) => Ran::Key(job.key),
+        }
+    }
+}
+
+/// The first soft job where soft work may run, else the earliest job that is ready, else nothing.
+pub fn choose<T: SpareTable, L: Ledger>(
+    table: &T,
+    reserve: &Reserve,
+    queue: &JobQueue,
+    soft: &HeapCircularBuffer<SoftJob>,
+    steps: &mut Steps<L>,
+) -> Chosen
+    requires after { T.time table.now
+        < last_end (T.time table.now) (spans_of_pairs (T.pairs table.now)) }
+    requires near { last_end (T.time table.now) (spans_of_pairs (T.pairs table.now)) < 2 ^ 41 }
+    ensures chosen { result
+        ≡ chosen_of
+        soft.now.items
+        (soft_fits (spans_of_pairs (T.pairs table.now)) reserve.now (T.time table.now))
+        (earliest (ready (T.time table.now) queue.now.jobs)) }
+    ensures steps { steps.old ≤ steps.new }
+{
+    match soft.front() {
+        Some(first) if may_run_soft(table, reserve, steps) => Chosen::Soft(first.row),
+        _ => earliest_job(queue, table.time(), steps),
+    }
+}
+
+/// The earliest job that is ready, if there is one.
+fn earliest_job<L: Ledger>(queue: &JobQueue, time: u64, steps: &mut Steps<L>) -> Chosen
+    ensures chosen { result ≡ chosen_job (earliest (ready time queue.now.jobs)) }
+    ensures steps { steps.old ≤ steps.new }
+{
+    match queue.earliest(time, steps) {
+        Some(job) => Chosen::Guaranteed(job),
+        None => Chosen::Nothing,
+    }
+}
+
+/// What is chosen runs one slot.
+pub fn run<T: SpareTable, L: Ledger>(
+    chosen: Chosen,
+    table: &mut T,
+    queue: &mut JobQueue,
+    soft: &mut HeapCircularBuffer<SoftJob>,
+    steps: &mut Steps<L>,
+)
+    requires { MayRun chosen (spans_of_pairs (T.pairs table.old)) queue.old.jobs soft.old.items }
+    ensures spans { spans_of_pairs (T.pairs table.new)
+        ≡ spans_after chosen (spans_of_pairs (T.pairs table.old)) }
+    ensures time { T.time table.new ≡ T.time table.old }
+    ensures places { T.limit table.new ≡ T.limit table.old }
+    ensures jobs { HaveSameItems queue.new.jobs (jobs_after chosen queue.old.jobs) }
+    ensures capacity { queue.new.capacity ≡ queue.old.capacity }
+    ensures soft { soft.new.items ≡ soft_after chosen soft.old.items }
+    ensures ring { soft.new.capacity ≡ soft.old.capacity }
+    ensures steps { steps.old ≤ steps.new }
+{
+    match chosen {
+        Chosen::Nothing => {}
+        Chosen::Soft(_) => run_front(soft),
+        Chosen::Guaranteed(job) => {
+            queue.ran(job.key, steps);
+            table.give_back(job.dl, 1, steps);
+        }
+    }
+}
+
+/// The first soft job runs one slot, and goes where that was its last.
+fn run_front(soft: &mut HeapCircularBuffer<SoftJob>)
+    requires { 1 ≤ length soft.old.items }
+    ensures soft { soft.new.items ≡ front_run soft.old.items }
+    ensures ring { soft.new.capacity ≡ soft.old.capacity }
+{
+    if let Some(first) = soft.get_mut(0) {
+        if first.left > 1 {
+            first.left -= 1;
+            return;
+        }
+    }
+    soft.pop_front();
+}

@@ -1,0 +1,5 @@
+-- The replay of arrivals: what is left of it after a history.
+pub mod Entries
+pub mod Following
+pub mod Named
+pub mod Told
