@@ -1,22 +1,25 @@
 -- Arrivals that are read fit the set and the number of slots.
 use Rattle.std.proofs.Common.{◌≡◌, ℕ, ◌+◌, ◌<◌, ◌≤◌, true, nat_le, nat_lt, List, [], ◌∷◌, length, drop, Option, Some, None, Ok, Err, refl, sym, inl, inr, arith}
-use Rattle.std.specs.Prelude.{ok_or}
-use Rattle.std.proofs.lemmas.Bool.{cases_Bool, and_from, eq-eqb, le-leb, lt-ltb, ltb-false, leb-false}
+use Rattle.std.specs.Prelude.{Bool, ok_or, position}
+use Rattle.std.specs.Str.{bytes_eq}
+use Rattle.std.proofs.lemmas.List.Quantifiers.{position-Some}
+use Rattle.std.proofs.lemmas.Bool.{cases_Bool, and_from, and_parts, eq-eqb, le-leb, lt-ltb, ltb-false, leb-false}
 use Rattle.slot_core.specs.declared.TheConstants.{ARRIVAL_LIMIT, OFFER_LIMIT}
 use Rattle.slot_core.specs.declared.events.Arrival.{Arrival}
 use Rattle.slot_core.specs.declared.events.Event.{Event}
-use Rattle.slot_core.specs.declared.events.Event.TheVariants.{Soft as SoftEvent, Done as DoneEvent}
+use Rattle.slot_core.specs.declared.events.Event.TheVariants.{Soft as SoftEvent, Firm as FirmEvent, Sporadic as SporadicEvent, Done as DoneEvent, Withdraw as WithdrawEvent}
+use Rattle.slot_core.specs.declared.tasks.Sporadic.{Sporadic}
 use Rattle.slot_core.specs.declared.tasks.TaskSet.{TaskSet}
 use Rattle.slot_core.specs.Arrivals.{event_fits, arrivals_follow, are_fitting}
 use Rattle.slot_core.specs.Results.{◌>>=◌}
 use Rattle.arrival_csv.specs.declared.faults.ArrivalFault.{ArrivalFault}
-use Rattle.arrival_csv.specs.declared.faults.ArrivalFault.TheVariants.{UnknownKind, BadNumber, BadKey}
+use Rattle.arrival_csv.specs.declared.faults.ArrivalFault.TheVariants.{UnknownKind, BadNumber, UnknownSporadic, BadKey}
 use Rattle.arrival_csv.specs.declared.kinds.Kind.{Kind}
-use Rattle.arrival_csv.specs.declared.kinds.Kind.TheVariants.{Soft, Done}
-use Rattle.arrival_csv.specs.KeyTexts.{key_of_text}
+use Rattle.arrival_csv.specs.declared.kinds.Kind.TheVariants.{Soft, Firm, Sporadic as SporadicKind, Done, Withdraw}
+use Rattle.arrival_csv.specs.KeyTexts.{key_of_text, sporadic_named}
 use Rattle.arrival_csv.specs.Kinds.{kind_of}
-use Rattle.arrival_csv.specs.Numbers.{number_of, number_between}
-use Rattle.arrival_csv.specs.Reading.{Read, soft_of, done_of, one_field, event_of, slot_in_turn, limited_row, first_fields, arrival_of, arrivals_from}
+use Rattle.arrival_csv.specs.Numbers.{number_of, number_between, row_number}
+use Rattle.arrival_csv.specs.Reading.{Read, slots_of, soft_of, firm_of, sporadic_of, done_of, withdraw_of, one_field, two_fields, event_of, slot_in_turn, limited_row, first_fields, arrival_of, arrivals_from}
 use Rattle.arrival_csv.proofs.DigitLemmas.{number_between-Some}
 use Rattle.arrival_csv.proofs.KeyLemmas.{IsKeyText-from_key}
 
@@ -33,7 +36,7 @@ ok_or-Ok (Some y) fault x h = cc
 -- soft work that is read fits the set
 soft_of-fits : (set : TaskSet) (row : ℕ) (slots : List ℕ) (event : Event) → soft_of row slots ≡ Ok event → event_fits set event ≡ true
 soft_of-fits set row slots event h =
-    step (ok_or (number_between 1 OFFER_LIMIT slots) (BadNumber row 3)) h (λ n number h.
+    step (slots_of row slots) h (λ n number h.
     let same : SoftEvent n ≡ event = cc in
     let range = number_between-Some 1 OFFER_LIMIT n slots (ok_or-Ok _ _ n number) in
     rw (← same, range) refl)
@@ -46,9 +49,43 @@ done_of-fits set row text event h =
     let is = IsKeyText-from_key set text key (ok_or-Ok _ _ key found) in
     rw (← same, is.in_set, is.in_range) refl)
 
+-- a firm task that is read fits the set
+firm_of-fits : (set : TaskSet) (row : ℕ) (both : List ℕ × List ℕ) (event : Event) → firm_of row both ≡ Ok event → event_fits set event ≡ true
+firm_of-fits set row both event h =
+    step (slots_of row both.0) h (λ slots first h.
+    step (ok_or (number_between 0 OFFER_LIMIT both.1) (BadNumber row 4)) h (λ within second h.
+    let same : FirmEvent slots within ≡ event = cc in
+    let range = number_between-Some 1 OFFER_LIMIT slots both.0 (ok_or-Ok _ _ slots first) in
+    let reach = number_between-Some 0 OFFER_LIMIT within both.1 (ok_or-Ok _ _ within second) in
+    rw (← same, range, (and_parts (nat_le 0 within) (nat_le within OFFER_LIMIT) reach).1) refl))
+
+-- the first place that passes a test is a place of the list
+position-within : {X : Type 0} (p : X → Bool) (xs : List X) (i : ℕ) → position p xs ≡ Some i → i < length xs
+position-within p [] i found = cc found
+position-within p (x ∷ xs) i found = (position-Some p (x ∷ xs) i x found).0
+
+-- a sporadic arrival that is read fits the set
+sporadic_of-fits : (set : TaskSet) (row : ℕ) (name : List ℕ) (event : Event) → sporadic_of set row name ≡ Ok event → event_fits set event ≡ true
+sporadic_of-fits set row name event h =
+    step (ok_or (sporadic_named set.sporadics name) (UnknownSporadic row)) h (λ index found h.
+    let same : SporadicEvent index ≡ event = cc in
+    let there = position-within (λ (s : Sporadic). bytes_eq s.name name) set.sporadics index (ok_or-Ok _ _ index found) in
+    rw (← same, lt-ltb index (length set.sporadics) there) refl)
+
+-- a withdrawal that is read fits the set
+withdraw_of-fits : (set : TaskSet) (row : ℕ) (text : List ℕ) (event : Event) → withdraw_of row text ≡ Ok event → event_fits set event ≡ true
+withdraw_of-fits set row text event h =
+    step (ok_or (row_number text) (BadNumber row 3)) h (λ firm number h.
+    let same : WithdrawEvent firm ≡ event = cc in
+    let range = number_between-Some 1 ARRIVAL_LIMIT firm text (ok_or-Ok _ _ firm number) in
+    rw (← same, range) refl)
+
 -- the event of a row fits the set
 event_of-fits : (set : TaskSet) (row : ℕ) (kind : Kind) (fields : List (List ℕ)) (event : Event) → event_of set row kind fields ≡ Ok event → event_fits set event ≡ true
 event_of-fits set row Soft fields event h = step (one_field row fields) h (λ slots one h. soft_of-fits set row slots event h)
+event_of-fits set row Firm fields event h = step (two_fields row fields) h (λ both two h. firm_of-fits set row both event h)
+event_of-fits set row SporadicKind fields event h = step (one_field row fields) h (λ name one h. sporadic_of-fits set row name event h)
+event_of-fits set row Withdraw fields event h = step (one_field row fields) h (λ text one h. withdraw_of-fits set row text event h)
 event_of-fits set row Done fields event h = step (one_field row fields) h (λ text one h. done_of-fits set row text event h)
 
 -- a slot in turn is not below the one before and below the end

@@ -4,7 +4,7 @@ use Rattle.std.specs.Prelude.{option_map, ok_or, MatchResult}
 use Rattle.std.specs.Option.{option_zip}
 use Rattle.csv.specs.Records.{field_at}
 use Rattle.arrival_csv.specs.declared.faults.ArrivalFault.TheVariants.{BadRow}
-use Rattle.arrival_csv.specs.Reading.{first_fields, one_field}
+use Rattle.arrival_csv.specs.Reading.{first_fields, one_field, two_fields}
 
 -- of three fields it is the third
 pub one_field-third : (row : ℕ) (fields : List (List ℕ)) (found : Option (Bor (List ℕ))) → length fields ≡ 3 → option_map (λ s. s.now) found ≡ field_at fields 2
@@ -16,6 +16,22 @@ one_field-third row (a ∷ b ∷ []) found three at = absurd (omega (arith, thre
 one_field-third row (a ∷ b ∷ c ∷ []) None three at = cc
 one_field-third row (a ∷ b ∷ c ∷ []) (Some field) three at = let same : field.now ≡ c = cc in rw same refl
 one_field-third row (a ∷ b ∷ c ∷ d ∷ rest) found three at = absurd (omega (arith, three))
+
+-- of four fields they are the third and the fourth
+pub two_fields-both : (row : ℕ) (fields : List (List ℕ)) (third fourth : Option (Bor (List ℕ))) → length fields ≡ 4 → option_map (λ s. s.now) third ≡ field_at fields 2 → option_map (λ s. s.now) fourth ≡ field_at fields 3
+    → MatchResult (ok_or (option_zip third fourth) (BadRow row)) (λ both. two_fields row (drop 2 fields) ≡ Ok (both.0.now, both.1.now)) (λ e. two_fields row (drop 2 fields) ≡ Err e)
+unfolding field_at
+two_fields-both row [] third fourth four at there = absurd (omega (arith, four))
+two_fields-both row (a ∷ []) third fourth four at there = absurd (omega (arith, four))
+two_fields-both row (a ∷ b ∷ []) third fourth four at there = absurd (omega (arith, four))
+two_fields-both row (a ∷ b ∷ c ∷ []) third fourth four at there = absurd (omega (arith, four))
+two_fields-both row (a ∷ b ∷ c ∷ d ∷ []) None fourth four at there = cc
+two_fields-both row (a ∷ b ∷ c ∷ d ∷ []) (Some third) None four at there = cc
+two_fields-both row (a ∷ b ∷ c ∷ d ∷ []) (Some third) (Some fourth) four at there =
+    let first : third.now ≡ c = cc at in
+    let second : fourth.now ≡ d = cc there in
+    rw (first, second) refl
+two_fields-both row (a ∷ b ∷ c ∷ d ∷ e ∷ rest) third fourth four at there = absurd (omega (arith, four))
 
 -- the first two fields, where both are there
 pub first_fields-both : (row : ℕ) (fields : List (List ℕ)) (slot word : Option (Bor (List ℕ))) → option_map (λ s. s.now) slot ≡ field_at fields 0 → option_map (λ s. s.now) word ≡ field_at fields 1

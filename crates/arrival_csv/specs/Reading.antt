@@ -4,16 +4,16 @@ use Rattle.csv.specs.Reading.{records, default_config, strip_bom}
 use Rattle.slot_core.specs.declared.TheConstants.{ARRIVAL_LIMIT, OFFER_LIMIT}
 use Rattle.slot_core.specs.declared.events.Arrival.{Arrival}
 use Rattle.slot_core.specs.declared.events.Event.{Event}
-use Rattle.slot_core.specs.declared.events.Event.TheVariants.{Soft as SoftEvent, Done as DoneEvent}
+use Rattle.slot_core.specs.declared.events.Event.TheVariants.{Soft as SoftEvent, Firm as FirmEvent, Sporadic as SporadicEvent, Done as DoneEvent, Withdraw as WithdrawEvent}
 use Rattle.slot_core.specs.declared.tasks.TaskSet.{TaskSet}
 use Rattle.slot_core.specs.Results.{◌>>=◌}
 use Rattle.arrival_csv.specs.declared.faults.ArrivalFault.{ArrivalFault}
-use Rattle.arrival_csv.specs.declared.faults.ArrivalFault.TheVariants.{Memory, BadRow, UnknownKind, BadNumber, OutOfOrder, PastEnd, BadKey, TooMany}
+use Rattle.arrival_csv.specs.declared.faults.ArrivalFault.TheVariants.{Memory, BadRow, UnknownKind, BadNumber, OutOfOrder, PastEnd, UnknownSporadic, BadKey, TooMany}
 use Rattle.arrival_csv.specs.declared.kinds.Kind.{Kind}
-use Rattle.arrival_csv.specs.declared.kinds.Kind.TheVariants.{Soft, Done}
-use Rattle.arrival_csv.specs.KeyTexts.{key_of_text}
+use Rattle.arrival_csv.specs.declared.kinds.Kind.TheVariants.{Soft, Firm, Sporadic, Done, Withdraw}
+use Rattle.arrival_csv.specs.KeyTexts.{key_of_text, sporadic_named}
 use Rattle.arrival_csv.specs.Kinds.{kind_of}
-use Rattle.arrival_csv.specs.Numbers.{number_of, number_between}
+use Rattle.arrival_csv.specs.Numbers.{number_of, number_between, row_number}
 
 -- a value or the first fault
 abbrev pub Read : Type 0 → Type 0
@@ -24,10 +24,14 @@ abbrev pub AnswersAs : {A X : Type 0} → (A → X) → Result A ArrivalFault �
 AnswersAs seen answer read =
     MatchResult answer (λ a. read ≡ Ok (seen a)) (λ e. e ≢ Memory → read ≡ Err e)
 
+-- the slots of soft or firm work, in the third field
+abbrev pub slots_of : ℕ → List ℕ → Read ℕ
+slots_of row field = ok_or (number_between 1 OFFER_LIMIT field) (BadNumber row 3)
+
 -- soft work of so many slots
 abbrev pub soft_of : ℕ → List ℕ → Read Event
 soft_of row slots = do
-  n ← ok_or (number_between 1 OFFER_LIMIT slots) (BadNumber row 3)
+  n ← slots_of row slots
   Ok (SoftEvent n)
 
 -- the early end of the job of a key
@@ -36,19 +40,52 @@ done_of set row text = do
   key ← ok_or (key_of_text set text) (BadKey row)
   Ok (DoneEvent key)
 
+-- a firm task of so many slots, due within so many from now
+abbrev pub firm_of : ℕ → List ℕ × List ℕ → Read Event
+firm_of row both = do
+  slots ← slots_of row both.0
+  within ← ok_or (number_between 0 OFFER_LIMIT both.1) (BadNumber row 4)
+  Ok (FirmEvent slots within)
+
+-- a job of the sporadic task of a name
+abbrev pub sporadic_of : TaskSet → ℕ → List ℕ → Read Event
+sporadic_of set row name = do
+  index ← ok_or (sporadic_named set.sporadics name) (UnknownSporadic row)
+  Ok (SporadicEvent index)
+
+-- the withdrawal of the firm job of a row
+abbrev pub withdraw_of : ℕ → List ℕ → Read Event
+withdraw_of row text = do
+  firm ← ok_or (row_number text) (BadNumber row 3)
+  Ok (WithdrawEvent firm)
+
 -- the one field of these
 abbrev pub one_field : ℕ → List (List ℕ) → Read (List ℕ)
 one_field row (field ∷ []) = Ok field
 one_field row fields = Err (BadRow row)
+
+-- the two fields of these
+abbrev pub two_fields : ℕ → List (List ℕ) → Read (List ℕ × List ℕ)
+two_fields row (first ∷ second ∷ []) = Ok (first, second)
+two_fields row fields = Err (BadRow row)
 
 -- the event of a row of this kind, from its fields after the second
 abbrev pub event_of : TaskSet → ℕ → Kind → List (List ℕ) → Read Event
 event_of set row Soft fields = do
   slots ← one_field row fields
   soft_of row slots
+event_of set row Firm fields = do
+  both ← two_fields row fields
+  firm_of row both
+event_of set row Sporadic fields = do
+  name ← one_field row fields
+  sporadic_of set row name
 event_of set row Done fields = do
   text ← one_field row fields
   done_of set row text
+event_of set row Withdraw fields = do
+  text ← one_field row fields
+  withdraw_of row text
 
 -- the slot, where it is not below the one before and not at or past the end
 abbrev pub slot_in_turn : ℕ → ℕ → ℕ → ℕ → Read ℕ

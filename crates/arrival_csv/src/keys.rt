@@ -93,7 +93,7 @@ fn task_named(tasks: &[Task], name: &[u8]) -> Option<usize>
 }
 
 /// The index of the first sporadic task of this name.
-fn sporadic_named(sporadics: &[Sporadic], name: &[u8]) -> Option<usize>
+pub fn sporadic_named(sporadics: &[Sporadic], name: &[u8]) -> Option<usize>
     ensures found { result ≡ sporadic_named sporadics.now name.now }
     ensures there { IfSome result (λ index. index < length sporadics.now) }
 {

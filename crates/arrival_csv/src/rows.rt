@@ -3,12 +3,12 @@
 ghost use Rattle.std.specs.Prelude.{◌≡◌, ◌≤◌, true, drop, Ok, Err, IfOk, MatchResult};
 ghost use Rattle.csv.specs.Records.{fields_of};
 ghost use Rattle.slot_core.specs.Ranges.{is_sound};
-ghost use Rattle.arrival_csv.specs.Reading.{arrival_of, done_of, event_of, first_fields, one_field, slot_in_turn, soft_of};
+ghost use Rattle.arrival_csv.specs.Reading.{arrival_of, done_of, event_of, firm_of, first_fields, one_field, slot_in_turn, slots_of, soft_of, sporadic_of, two_fields, withdraw_of};
 
 use crate::ArrivalFault;
-use crate::keys::key_of;
+use crate::keys::{key_of, sporadic_named};
 use crate::kinds::Kind;
-use crate::numbers::{number_between, number_of};
+use crate::numbers::{number_between, number_of, row_number};
 use csv::ByteRecord;
 use slot_core::{ARRIVAL_LIMIT, Arrival, Event, OFFER_LIMIT, TaskSet};
 
@@ -57,7 +57,13 @@ fn event_of(
 {
     match kind {
         Kind::Soft => soft_of(row, one_field(row, fields)?),
+        Kind::Firm => {
+            let (slots, within) = two_fields(row, fields)?;
+            firm_of(row, slots, within)
+        }
+        Kind::Sporadic => sporadic_of(tasks, row, one_field(row, fields)?),
         Kind::Done => done_of(tasks, row, one_field(row, fields)?),
+        Kind::Withdraw => withdraw_of(row, one_field(row, fields)?),
     }
 }
 
@@ -73,12 +79,58 @@ fn one_field(row: u32, fields: &ByteRecord) -> Result<&[u8], ArrivalFault>
     fields.get(2).ok_or(ArrivalFault::BadRow(row))
 }
 
+/// The two fields after the second, where there are two.
+fn two_fields(row: u32, fields: &ByteRecord) -> Result<(&[u8], &[u8]), ArrivalFault>
+    ensures { MatchResult result
+        (λ both. two_fields row (drop 2 (fields_of fields.now)) ≡ Ok (both.0.now, both.1.now))
+        (λ e. two_fields row (drop 2 (fields_of fields.now)) ≡ Err e) }
+{
+    if fields.len() != 4 {
+        return Err(ArrivalFault::BadRow(row));
+    }
+    let both = fields.get(2).zip(fields.get(3));
+    both.ok_or(ArrivalFault::BadRow(row))
+}
+
 /// Soft work of these slots.
 fn soft_of(row: u32, slots: &[u8]) -> Result<Event, ArrivalFault>
     ensures { result ≡ soft_of row slots.now }
 {
-    let slots = number_between(slots, 1, OFFER_LIMIT).ok_or(ArrivalFault::BadNumber(row, 3))?;
-    Ok(Event::Soft(slots))
+    Ok(Event::Soft(slots_of(row, slots)?))
+}
+
+/// The slots of soft or firm work, in the third field.
+fn slots_of(row: u32, field: &[u8]) -> Result<u32, ArrivalFault>
+    ensures { result ≡ slots_of row field.now }
+{
+    number_between(field, 1, OFFER_LIMIT).ok_or(ArrivalFault::BadNumber(row, 3))
+}
+
+/// A firm task of these slots, due within so many from now.
+fn firm_of(row: u32, slots: &[u8], within: &[u8]) -> Result<Event, ArrivalFault>
+    ensures { result ≡ firm_of row (slots.now, within.now) }
+{
+    let slots = slots_of(row, slots)?;
+    let within = number_between(within, 0, OFFER_LIMIT).ok_or(ArrivalFault::BadNumber(row, 4))?;
+    Ok(Event::Firm(slots, within))
+}
+
+/// A job of the sporadic task of this name.
+fn sporadic_of(tasks: &TaskSet, row: u32, name: &[u8]) -> Result<Event, ArrivalFault>
+    requires { is_sound tasks.now ≡ true }
+    ensures { result ≡ sporadic_of tasks.now row name.now }
+{
+    let found = sporadic_named(tasks.sporadics.items(), name);
+    let index = found.ok_or(ArrivalFault::UnknownSporadic(row))?;
+    Ok(Event::Sporadic(index as u8))
+}
+
+/// The withdrawal of the firm job that arrived in this row.
+fn withdraw_of(row: u32, firm: &[u8]) -> Result<Event, ArrivalFault>
+    ensures { result ≡ withdraw_of row firm.now }
+{
+    let firm = row_number(firm).ok_or(ArrivalFault::BadNumber(row, 3))?;
+    Ok(Event::Withdraw(firm))
 }
 
 /// The early end of the job of this key.

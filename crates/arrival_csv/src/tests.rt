@@ -1,10 +1,10 @@
-//! Arrivals files for four slots of a pair of tasks: the arrivals of each, or its first fault.
+//! Arrivals files for four slots of a pair of tasks beside an alarm: the arrivals of each, or its first fault.
 
 ghost use Rattle.std.specs.Prelude.{◌≡◌, true};
 ghost use Rattle.slot_core.specs.Ranges.{is_sound};
 
 use crate::{ArrivalFault, read_arrivals};
-use sample_sets::pair_set;
+use sample_sets::alarm_set;
 use slot_core::{ARRIVAL_LIMIT, Arrival, TaskSet};
 use std::alloc::Global;
 use std::fmt::Write;
@@ -28,9 +28,27 @@ const FILES: &str = r#" =>
 0,done,firm:1\n1,done,soft:65535 => 1 0 Done(Firm(1)); 2 1 Done(Soft(65535));
 4,soft,1 => past end 1 4
 2,soft,1\n1,soft,1 => out of order 2 2 1
-0,sporadic,bell => unknown kind 1
-0,firm,1,2 => unknown kind 1
-0,withdraw,firm:1 => unknown kind 1
+0,firm,1,2 => 1 0 Firm(1, 2);
+1,firm,65535,0\n3,firm,1,65535 => 1 1 Firm(65535, 0); 2 3 Firm(1, 65535);
+2,sporadic,alarm => 1 2 Sporadic(0);
+0,done,alarm@1 => 1 0 Done(Sporadic(0, 1));
+0,withdraw,1\n0,withdraw,65535 => 1 0 Withdraw(1); 2 0 Withdraw(65535);
+0,sporadic,bell => unknown sporadic 1
+0,sporadic,g => unknown sporadic 1
+0,sporadic, => unknown sporadic 1
+0,sporadic => bad row 1
+0,sporadic,alarm,1 => bad row 1
+0,firm,1 => bad row 1
+0,firm,1,2,3 => bad row 1
+0,firm,0,2 => bad number 1 3
+0,firm,65536,2 => bad number 1 3
+0,firm,x,x => bad number 1 3
+0,firm,1,65536 => bad number 1 4
+0,firm,1,02 => bad number 1 4
+0,withdraw,0 => bad number 1 3
+0,withdraw,65536 => bad number 1 3
+0,withdraw,firm:1 => bad number 1 3
+0,withdraw => bad row 1
 0,hard,1 => unknown kind 1
 0,Soft,1 => unknown kind 1
 0, soft,1 => unknown kind 1
@@ -73,7 +91,8 @@ const FILES: &str = r#" =>
 0,done,.a#0 => bad key 1
 0,done,g.#0 => bad key 1
 0,done,g.a#4294967296 => bad key 1
-0,done,alarm@1 => bad key 1
+0,done,alarm@0 => bad key 1
+0,done,bell@1 => bad key 1
 0,done,g@1 => bad key 1
 0,done,firm:0 => bad key 1
 0,done,firm:01 => bad key 1
@@ -143,7 +162,7 @@ fn told(alloc: Global, bytes: &[u8], tasks: &TaskSet) -> Result<String, Fail>
 #[test]
 fn reads_files_and_tells_first_faults(rt: HostRuntime) -> Result<(), Fail> {
     let alloc = rt.alloc();
-    let tasks = pair_set(alloc)?;
+    let tasks = alarm_set(alloc)?;
     for file in FILES.lines() {
         let (text, want) = file.split_once(" =>").ok_or("no arrow")?;
         let bytes = bytes_of(alloc, text)?;
@@ -169,7 +188,7 @@ fn rows(alloc: Global, count: u32, last: &[u8]) -> Result<Vec<u8>, Fail> {
 #[test]
 fn takes_rows_up_to_their_limit(rt: HostRuntime) -> Result<(), Fail> {
     let alloc = rt.alloc();
-    let tasks = pair_set(alloc)?;
+    let tasks = alarm_set(alloc)?;
     let most = rows(alloc, ARRIVAL_LIMIT, b"")?;
     let arrivals = read_arrivals(alloc, most.as_slice(), 4, &tasks)?;
     assert_eq!(rt; arrivals.len(), ARRIVAL_LIMIT as usize);

@@ -23,7 +23,7 @@ use Rattle.slot_facts.proofs.Lists.Members.{Has-from_slice_get, passes_from_list
 use Rattle.slot_facts.proofs.Replays.Entries.{AreLeft, entries_left, time_of-arrival, time_of-ran, entries_left-arrival, entries_left-slot, AreLeft-arrival, AreLeft-slot}
 use Rattle.slot_facts.proofs.Replays.Following.{NoneIsDue}
 use Rattle.slot_facts.proofs.Replays.Named.{IsNamed, told-named}
-use Rattle.arrival_replay.specs.Replays.{due_at, due_arrival, is_answered, next_occurrence}
+use Rattle.arrival_replay.specs.Replays.{due_at, due_arrival, next_occurrence}
 use Rattle.arrival_replay.proofs.UnderWay.{IsUnderWay, IsToTell, IsToTell-next}
 
 -- the place of the next arrival after what is due
@@ -190,10 +190,3 @@ module _ (Took : List Entry → Type 0) (plan : PlanParts) (before : Executive) 
       let legal = subst (λ c. IsLegal p.tasks c so_far) is_plan.cycle u.stands.legal in
       let plan_is = ap (λ (p : PlanParts). what_in_set p.tasks what) does.plan in
       plan_is ∙ (ap (what_in_set p.tasks) told ∙ told-named p.tasks so_far (next_occurrence due) legal named)
-
--- an arrival that is due is answered where all are
-pub due-answered : (arrivals : List Arrival) (place time : ℕ) (due : Option Arrival) → due ≡ due_arrival arrivals place time → list_all (λ (a : Arrival). is_answered a.event) arrivals ≡ true → IfSome due (λ a. is_answered a.event ≡ true)
-due-answered arrivals place time None is all = tt
-due-answered arrivals place time (Some a) is all =
-    let d = IsDueAt-from arrivals place time a (sym is) in
-    passes_from_list_all (λ (a : Arrival). is_answered a.event) arrivals a all (Has-from_slice_get arrivals place a d.at)

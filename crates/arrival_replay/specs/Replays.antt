@@ -1,17 +1,9 @@
 -- How a replay goes, and how it ends before its trace does.
-use Rattle.std.specs.Prelude.{ℕ, ◌≤◌, ◌==◌, Bool, true, false, List, length, take, slice_get, Option, Some, None, if◌then◌else◌}
+use Rattle.std.specs.Prelude.{ℕ, ◌≤◌, ◌==◌, List, length, take, slice_get, Option, Some, None, if◌then◌else◌}
 use Rattle.slot_core.specs.declared.events.Arrival.{Arrival}
 use Rattle.slot_core.specs.declared.events.Entry.{Entry}
-use Rattle.slot_core.specs.declared.events.Event.{Event}
-use Rattle.slot_core.specs.declared.events.Event.TheVariants.{Soft, Done}
 use Rattle.slot_core.specs.Executives.{Executive, StandsFor}
 use Rattle.slot_core.specs.Traces.{Occurrence, arrive, slot, history_of}
-
--- the executive answers such an event: soft work and early ends, and no others yet
-abbrev pub is_answered : Event → Bool
-is_answered (Soft slots) = true
-is_answered (Done key) = true
-is_answered _ = false
 
 -- the arrival, where it is due at this time
 abbrev pub due_at : ℕ → Option Arrival → Option Arrival

@@ -3,10 +3,8 @@
 #![tactic(auto)]
 
 ghost use Rattle.std.specs.Prelude.{◌≡◌, ◌≤◌, ◌<◌, ◌^◌, [], ◌∷◌, true, OnErr, OnOk, IfSome};
-ghost use Rattle.std.specs.List.{list_all};
 ghost use Rattle.std.specs.Io.KnownBytes.{Appends};
 ghost use Rattle.slot_core.specs.declared.TheConstants.{REPLAY_LIMIT};
-ghost use Rattle.slot_core.specs.declared.events.Arrival.{Arrival};
 ghost use Rattle.slot_core.specs.Arrivals.{are_fitting, event_may_come, what_in_set};
 ghost use Rattle.slot_core.specs.Counts.{Rose};
 ghost use Rattle.slot_core.specs.Executives.{Does, StandsFor};
@@ -16,7 +14,7 @@ ghost use Rattle.slot_core.specs.Texts.{trace_text};
 ghost use Rattle.slot_core.specs.Traces.{arrive, end_entry, history_of, shown_entry, slot, trace};
 ghost use Rattle.slot_io.specs.Sinks.{AppendsPart};
 ghost use Rattle.trace_text.specs.Takers.{AppendsBroken};
-ghost use Rattle.arrival_replay.specs.Replays.{due_arrival, is_answered, next_occurrence, BreaksOff};
+ghost use Rattle.arrival_replay.specs.Replays.{due_arrival, next_occurrence, BreaksOff};
 
 #[cfg(test)]
 mod tests;
@@ -42,7 +40,6 @@ pub fn drive<T: SpareTable, W: Taker>(
     requires some { 1 ≤ slots }
     requires few { slots ≤ REPLAY_LIMIT }
     requires fitting { are_fitting exec.old.plan.tasks slots arrivals.now ≡ true }
-    requires answered { list_all (λ (a : Arrival). is_answered a.event) arrivals.now ≡ true }
 
     // The whole trace is taken, and the executive stands for its history.
     ensures took { OnOk result (W.took
@@ -77,7 +74,6 @@ pub fn replay<T: SpareTable, K: Sink>(
     requires some { 1 ≤ slots }
     requires few { slots ≤ REPLAY_LIMIT }
     requires fitting { are_fitting exec.old.plan.tasks slots arrivals.now ≡ true }
-    requires answered { list_all (λ (a : Arrival). is_answered a.event) arrivals.now ≡ true }
     ensures text { OnOk result (Appends
         (K.written out.old)
         (K.written out.new)
@@ -119,7 +115,6 @@ fn drive_counted<T: SpareTable, W: Taker, L: Ledger>(
     requires some { 1 ≤ slots }
     requires few { slots ≤ REPLAY_LIMIT }
     requires fitting { are_fitting exec.old.plan.tasks slots arrivals.now ≡ true }
-    requires answered { list_all (λ (a : Arrival). is_answered a.event) arrivals.now ≡ true }
     ensures took { OnOk result (W.took
         exec.old.plan.tasks
         taker.old
@@ -171,7 +166,6 @@ fn happen<T: SpareTable, L: Ledger>(
     requires early { exec.old.scene.time < 2 ^ 32 }
     requires later { IfSome due (λ a. exec.old.last_row < a.row) }
     requires may_come { IfSome due (λ a. event_may_come exec.old.plan.tasks a.event ≡ true) }
-    requires answered { IfSome due (λ a. is_answered a.event ≡ true) }
     ensures does { Does exec.old exec.new (next_occurrence due) result }
 {
     match due {
@@ -188,14 +182,17 @@ fn answer<T: SpareTable, L: Ledger>(
 ) -> What
     requires later { exec.old.last_row < arrival.row }
     requires may_come { event_may_come exec.old.plan.tasks arrival.event ≡ true }
-    requires answered { is_answered arrival.event ≡ true }
     ensures does { Does exec.old exec.new (arrive arrival.row arrival.event) result }
 {
     let row = arrival.row;
     match arrival.event {
         Event::Soft(slots) => What::Soft(row, slots, exec.soft(row, slots)),
+        Event::Firm(slots, within) => {
+            What::Firm(row, slots, within, exec.firm(row, slots, within, steps))
+        }
+        Event::Sporadic(index) => What::Sporadic(row, index, exec.sporadic(row, index, steps)),
         Event::Done(key) => What::Done(row, key, exec.done(row, key, steps)),
-        Event::Firm(..) | Event::Sporadic(_) | Event::Withdraw(_) => unreachable!(),
+        Event::Withdraw(firm) => What::Withdraw(row, firm, exec.withdraw(row, firm, steps)),
     }
 }
 

@@ -1,12 +1,9 @@
 //! Traces of small sets with their arrivals, and a sink that fails.
 
 ghost use Rattle.std.specs.Prelude.{◌≡◌, ◌≤◌, true};
-ghost use Rattle.std.specs.List.{list_all};
 ghost use Rattle.slot_core.specs.declared.TheConstants.{REPLAY_LIMIT};
-ghost use Rattle.slot_core.specs.declared.events.Arrival.{Arrival};
 ghost use Rattle.slot_core.specs.Arrivals.{are_fitting};
 ghost use Rattle.slot_core.specs.Ranges.{is_sound};
-ghost use Rattle.arrival_replay.specs.Replays.{is_answered};
 
 use crate::{drive, replay};
 use cycle_plan::make_plan;
@@ -30,7 +27,6 @@ fn replayed(
     requires some { 1 ≤ slots }
     requires few { slots ≤ REPLAY_LIMIT }
     requires fitting { are_fitting tasks slots arrivals.now ≡ true }
-    requires answered { list_all (λ (a : Arrival). is_answered a.event) arrivals.now ≡ true }
 {
     let plan = make_plan(alloc, tasks)?;
     let mut exec: Exec<RowTable> = Exec::start(alloc, plan)?;

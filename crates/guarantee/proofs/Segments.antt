@@ -1,6 +1,6 @@
 -- The search in a stretch in which the same work is due.
 use Rattle.std.proofs.Common.{◌≡◌, ℕ, ◌+◌, ◌-◌, ◌^◌, ◌<◌, ◌≤◌, pos, ◌+ℤ◌, ◌≤ℤ◌, max, true, false, List, [], length, take, Option, Some, None, refl, sym, ap, ◌∙◌, inl, inr, arith}
-use Rattle.std.specs.Prelude.{find, nat_lt, slice_get}
+use Rattle.std.specs.Prelude.{find, nat_lt, slice_get, MatchOption}
 use Rattle.std.specs.Option.{option_map, option_or}
 use Rattle.std.specs.List.{range_with_len}
 use Rattle.std.proofs.lemmas.Bool.{cases_lt, lt-ltb, le-ltb}
@@ -14,7 +14,8 @@ use Rattle.spare_capacity.specs.Recurrence.{filled, last_end, FollowOn}
 use Rattle.spare_capacity.specs.Laws.{work_until}
 use Rattle.sporadic_reserve.specs.Reserves.{Reserved, IsNextRise}
 use Rattle.guarantee.specs.Offers.{evidence_at, first_short, is_short, need_until}
-use Rattle.guarantee.specs.Stretches.{exceeds, evidence_of}
+use Rattle.guarantee.specs.declared.search.Level.{Level}
+use Rattle.guarantee.specs.Stretches.{exceeds, evidence_of, IsLevelFrom}
 use Rattle.guarantee.proofs.Places.{works, end-after, start-at, Stands-at, work_until-all, slack-at, work_until-inside, works-more, works-small}
 use Rattle.guarantee.proofs.Searches.{fails-from_none, find-here, find-none, find-skip, search-parts, search-same}
 
@@ -43,15 +44,43 @@ fails-at : (reserve : Reserved) (t r needed at x : ℕ) → t ≤ at → at ≤ 
 fails-at reserve t r needed at x after low fits stays =
     le-ltb (x - t) (needed + demand reserve r x) (omega arith)
 
-pub found-later : (reserve : Reserved) (t r needed at later until : ℕ) → t ≤ at → needed + demand reserve r at ≤ at - t → IsNextRise (λ z. demand reserve r z) at later → found_from reserve t r needed at until ≡ found_from reserve t r needed later until
-found-later reserve t r needed at later until after fits rise =
-    find-skip (exceeds reserve t r needed) at later until (omega (arith, rise.after)) (λ x low high. fails-at reserve t r needed at x after low fits (rise.stays x low high))
+pub found-later : (reserve : Reserved) (t r needed at until : ℕ) (level : Level) → t ≤ at → at < level.until → IsLevelFrom reserve r at level → needed + level.demand ≤ at - t → found_from reserve t r needed at until ≡ found_from reserve t r needed level.until until
+found-later reserve t r needed at until level after more is fits =
+    let here : demand reserve r at ≡ level.demand = is.flat at (omega arith) more in
+    find-skip (exceeds reserve t r needed) at level.until until (omega arith) (λ x low high. fails-at reserve t r needed at x after low (omega (arith, here)) (is.flat x low high ∙ sym here))
 
--- and up to the end where no sporadic task may come
-pub found-none : (reserve : Reserved) (t r needed at until : ℕ) → t ≤ at → needed + demand reserve r at ≤ at - t → reserve.sporadics ≡ [] → found_from reserve t r needed at until ≡ None
-found-none reserve t r needed at until after fits none =
-    let stays : (x : ℕ) → demand reserve r x ≡ demand reserve r at = λ x. rw none refl in
-    find-none (exceeds reserve t r needed) at until (λ x low high. fails-at reserve t r needed at x after low fits (stays x))
+-- where a level holds and there is enough room at the start, no time is short
+pub found-level : (reserve : Reserved) (t r needed at until : ℕ) (level : Level) → t ≤ at → until ≤ level.until → IsLevelFrom reserve r at level → needed + level.demand ≤ at - t → found_from reserve t r needed at until ≡ None
+found-level reserve t r needed at until level after holds is fits =
+    find-none (exceeds reserve t r needed) at until (λ x low high.
+    let here : demand reserve r at ≡ level.demand = is.flat at (omega arith) (omega arith) in
+    fails-at reserve t r needed at x after low (omega (arith, here)) (is.flat x low (omega arith) ∙ sym here))
+
+-- a level stays one from a later time on
+pub IsLevelFrom-later : (reserve : Reserved) (r from later : ℕ) (level : Level) → from ≤ later → IsLevelFrom reserve r from level → IsLevelFrom reserve r later level
+IsLevelFrom-later reserve r from later level le is =
+    record {
+      flat = λ x low high. is.flat x (omega arith) high;
+      small = is.small;
+    }
+
+-- up to the next rise the demand is level
+pub IsLevelFrom-rise : (reserve : Reserved) (r at : ℕ) (level : Level) (rise : Option ℕ) → level.demand ≡ demand reserve r at → level.demand ≤ 2 ^ 56 → MatchOption rise (reserve.sporadics ≡ []) (λ y. IsNextRise (λ z. demand reserve r z) at y) → MatchOption rise (level.until ≡ 2 ^ 64 - 1) (λ y. level.until ≡ y) → IsLevelFrom reserve r at level
+IsLevelFrom-rise reserve r at level None is few none ends =
+    let no_task : (x : ℕ) → demand reserve r x ≡ 0 = λ x. rw none refl in
+    record {
+      flat = λ x low high. no_task x ∙ sym (no_task at) ∙ sym is;
+      small = few;
+    }
+IsLevelFrom-rise reserve r at level (Some y) is few rise ends =
+    record {
+      flat = λ x low high. rise.stays x low (omega (arith, ends)) ∙ sym is;
+      small = few;
+    }
+
+pub after-rise : (reserve : Reserved) (r at until : ℕ) (rise : Option ℕ) → at < 2 ^ 41 → MatchOption rise (reserve.sporadics ≡ []) (λ y. IsNextRise (λ z. demand reserve r z) at y) → MatchOption rise (until ≡ 2 ^ 64 - 1) (λ y. until ≡ y) → at < until
+after-rise reserve r at until None near none ends = omega (arith, ends)
+after-rise reserve r at until (Some y) near rise ends = omega (arith, ends, rise.after)
 
 -- with more slots, of which some are due, the two tests and their evidence are one
 short-exceeds : (spans : List Span) (reserve : Reserved) (t r slots due x : ℕ) → work_until spans x ≡ due → is_short spans reserve t r slots x ≡ exceeds reserve t r (slots + due) x
@@ -143,6 +172,13 @@ SearchStands-later spans reserve t r slots from i now needed start first s stand
       place = sym (end-after t i spans s at);
       same = stands.same ∙ ap (λ n. first_short spans reserve t r slots (max from n)) stands.place ∙ first_short-later spans reserve t r slots from i s follow at there;
     }
+
+-- and a level that holds after the span holds there
+pub SearchStands-level : (spans : List Span) (reserve : Reserved) (t r slots from i now needed start first : ℕ) (s : Span) (level : Level) → SearchStands spans reserve t r slots from i now needed start → first ≡ max from start → FollowOn t spans → slice_get spans i ≡ Some s → IsLevelFrom reserve r (max first s.end) level → IsLevelFrom reserve r (max from s.end) level
+SearchStands-level spans reserve t r slots from i now needed start first s level stands is follow at holds =
+    let rising = (Stands-at t i spans s follow at).rising in
+    let place = start-at t i spans s follow at in
+    IsLevelFrom-later reserve r (max first s.end) (max from s.end) level (omega (arith, is, stands.place, place, rising)) holds
 
 -- after the last span its last look is the answer
 pub SearchStands-last : (spans : List Span) (reserve : Reserved) (t r slots from i now needed start first : ℕ) → SearchStands spans reserve t r slots from i now needed start → first ≡ max from start → FollowOn t spans → length spans ≤ i → option_map (evidence_of reserve now r needed) (found_from reserve now r needed first (start + 1)) ≡ option_map (evidence_at spans reserve t r slots) (first_short spans reserve t r slots from)

@@ -1,8 +1,12 @@
 pub mod Cuts
 pub mod Cycles
+pub mod Ends
 pub mod Fillings
+pub mod Ids
+pub mod InChains
 pub mod Inserts
 pub mod Kept
 pub mod Places
 pub mod Spots
+pub mod WalkBack
 pub mod Works

@@ -1,3 +1,4 @@
+pub mod ChainTables
 pub mod Changes
 pub mod Examples
 pub mod RowTables

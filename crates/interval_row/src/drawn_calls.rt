@@ -2,11 +2,10 @@
 
 ghost use Rattle.std.specs.Prelude.{◌≡◌, ◌<◌, [], ◌∷◌, IsTrue};
 ghost use Rattle.spare_capacity.specs.Recurrence.{FollowOn};
-ghost use Rattle.interval_row.specs.RowTables.{numbered};
 ghost use Rattle.interval_row.specs.Tables.{IsLive};
 
-use crate::{RowTable, SpareTable, Spot};
-use slot_core::{Span, Steps};
+use crate::{ChainTable, RowTable, SpareTable, Spot};
+use slot_core::{Memory, Span, Steps};
 use spare_capacity::fill;
 use std::alloc::Global;
 use std::marker::Brand;
@@ -30,19 +29,27 @@ fn drawn_calls<R: Abort, L: Ledger>(rt: &R, alloc: Global, blank: Blank) -> Resu
     let cycle = [span(0, 4, 1, 1), span(4, 10, 8, -2)];
     let mut steps: Steps<L> = Steps::new(blank);
     let mut table = RowTable::with_room(alloc, &cycle, 3, ROOM)?;
+    let mut chain = ChainTable::with_room(alloc, &cycle, 3, ROOM)?;
     let mut word: u64 = 1;
     for _call in 0..3000 {
         word = word.wrapping_mul(6_364_136_223_846_793_005).wrapping_add(1);
         call(&mut table, word >> 32, &mut steps);
+        call(&mut chain, word >> 32, &mut steps);
         expect_filled(rt, alloc, &table, &mut steps)?;
+        let rows = spans(alloc, &table, &mut steps)?;
+        assert_eq!(rt; spans(alloc, &chain, &mut steps)?, rows);
+        assert_eq!(rt;
+            (chain.time(), chain.last_end()),
+            (table.time(), table.last_end())
+        );
     }
     Ok(())
 }
 
 /// The call that this word names, where its conditions hold.
-fn call<L: Ledger>(table: &mut RowTable, word: u64, steps: &mut Steps<L>)
-    requires { table.old.room ≡ 24 }
-    ensures { table.new.room ≡ 24 }
+fn call<T: SpareTable, L: Ledger>(table: &mut T, word: u64, steps: &mut Steps<L>)
+    requires { T.limit table.old ≡ 24 }
+    ensures { T.limit table.new ≡ 24 }
 {
     let time = table.time();
     let end = table.last_end();
@@ -71,8 +78,13 @@ fn call<L: Ledger>(table: &mut RowTable, word: u64, steps: &mut Steps<L>)
 }
 
 /// More or fewer slots of work for the span at a place, where it can have them.
-fn change_work<L: Ledger>(table: &mut RowTable, amount: u32, more: bool, steps: &mut Steps<L>)
-    ensures { table.new.room ≡ table.old.room }
+fn change_work<T: SpareTable, L: Ledger>(
+    table: &mut T,
+    amount: u32,
+    more: bool,
+    steps: &mut Steps<L>,
+)
+    ensures { T.limit table.new ≡ T.limit table.old }
 {
     let spot = spot_near(table, amount % table.count());
     let row = table.read(spot, steps);
@@ -85,8 +97,8 @@ fn change_work<L: Ledger>(table: &mut RowTable, amount: u32, more: bool, steps: 
 }
 
 /// The spot of the span at this place, or of the last one.
-fn spot_near(table: &RowTable, place: u32) -> Spot
-    ensures { IsLive (numbered 0 table.now.spans) result }
+fn spot_near<T: SpareTable>(table: &T, place: u32) -> Spot
+    ensures { IsLive (T.pairs table.now) result }
 {
     let mut spot = table.first();
     for _place in 0..place {
@@ -95,6 +107,23 @@ fn spot_near(table: &RowTable, place: u32) -> Spot
         }
     }
     spot
+}
+
+/// The spans of a table.
+fn spans<T: SpareTable, L: Ledger>(
+    alloc: Global,
+    table: &T,
+    steps: &mut Steps<L>,
+) -> Result<Vec<Span>, Memory> {
+    let mut rows = Vec::new(alloc);
+    let mut spot = table.first();
+    for _place in 0..table.count() {
+        rows.push(table.read(spot, steps))?;
+        if let Some(next) = table.next(spot) {
+            spot = next;
+        }
+    }
+    Ok(rows)
 }
 
 /// The table's spans are those that `fill` makes of them without their capacities.

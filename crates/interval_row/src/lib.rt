@@ -5,14 +5,19 @@
 //! shifting afterwards. Nothing here knows of jobs.
 #![tactic(auto)]
 
+pub mod chain_table;
 #[cfg(test)]
 mod drawn_calls;
 mod live;
+mod nodes;
 pub mod row_table;
 mod rows;
+mod spares;
 pub mod table;
 #[cfg(test)]
 mod tests;
+mod walk;
 
+pub use chain_table::ChainTable;
 pub use row_table::RowTable;
 pub use table::{SpareTable, Spot};

@@ -142,7 +142,7 @@ pub fn append(rows: &mut Vec<Span>, spans: &[Span])
 }
 
 /// The span, so many slots later.
-fn shifted(span: Span, by: u64) -> Span
+pub fn shifted(span: Span, by: u64) -> Span
     requires start { span.start + by < 2 ^ 64 }
     requires end { span.end + by < 2 ^ 64 }
     ensures { result ≡ shifted by span }

@@ -92,7 +92,7 @@ pub fn halve(rows: &mut [Span], place: usize, at: u64)
 }
 
 /// The part of the row before `at`, without work.
-fn part_before(row: Span, at: u64) -> Span
+pub fn part_before(row: Span, at: u64) -> Span
     ensures { result ≡ part_before at row }
 {
     Span {
@@ -103,7 +103,7 @@ fn part_before(row: Span, at: u64) -> Span
 }
 
 /// The part of the row from `at` on, with all its work.
-fn part_from(row: Span, at: u64) -> Span
+pub fn part_from(row: Span, at: u64) -> Span
     ensures { result ≡ part_from at row }
 {
     Span { start: at, ..row }

@@ -3,7 +3,7 @@
 ghost use Rattle.std.specs.Prelude.{◌≡◌, ◌<◌};
 ghost use Rattle.interval_row.specs.Examples.{borrowing};
 
-use crate::{RowTable, SpareTable};
+use crate::{ChainTable, RowTable, SpareTable};
 use slot_core::{Span, Steps};
 use std::alloc::Global;
 use std::marker::Brand;
@@ -13,22 +13,28 @@ use std::test::Fail;
 
 #[test]
 fn keeps_capacities(rt: HostRuntime) -> Result<(), Fail> {
-    each_call::<HostRuntime, Brand>(&rt, rt.alloc(), Blank::new(1))
+    each_call::<RowTable, HostRuntime, Brand>(&rt, rt.alloc(), Blank::new(1))?;
+    each_call::<ChainTable, HostRuntime, Brand>(&rt, rt.alloc(), Blank::new(1))
 }
 
 #[test]
 fn moves_rows_both_ways(rt: HostRuntime) -> Result<(), Fail> {
-    later_calls::<HostRuntime, Brand>(&rt, rt.alloc(), Blank::new(1))
+    later_calls::<RowTable, HostRuntime, Brand>(&rt, rt.alloc(), Blank::new(1))?;
+    later_calls::<ChainTable, HostRuntime, Brand>(&rt, rt.alloc(), Blank::new(1))
 }
 
-fn each_call<R: Abort, L: Ledger>(rt: &R, alloc: Global, blank: Blank) -> Result<(), Fail>
+fn each_call<T: SpareTable, R: Abort, L: Ledger>(
+    rt: &R,
+    alloc: Global,
+    blank: Blank,
+) -> Result<(), Fail>
     requires name { blank.name ≡ L.name }
     requires parts { blank.parts ≡ L.parts }
     requires some { 0 < L.parts }
 {
     let cycle = [span(0, 4, 1, 1), span(4, 10, 8, -2)];
     let mut steps: Steps<L> = Steps::new(blank);
-    let mut table = RowTable::with_room(alloc, &cycle, 3, 7)?;
+    let mut table = T::with_room(alloc, &cycle, 3, 7)?;
     let points = [0, 4, 10, 14, 20, 24, 30];
     expect(rt, &table, &points, &[1, -2, 1, -2, 1, -2], &mut steps);
     table.split(2, &mut steps);
@@ -46,7 +52,11 @@ fn each_call<R: Abort, L: Ledger>(rt: &R, alloc: Global, blank: Blank) -> Result
 
 // Rows have passed when the second split finds a place before them, and the second cycle finds none
 // after them.
-fn later_calls<R: Abort, L: Ledger>(rt: &R, alloc: Global, blank: Blank) -> Result<(), Fail>
+fn later_calls<T: SpareTable, R: Abort, L: Ledger>(
+    rt: &R,
+    alloc: Global,
+    blank: Blank,
+) -> Result<(), Fail>
     requires name { blank.name ≡ L.name }
     requires parts { blank.parts ≡ L.parts }
     requires some { 0 < L.parts }
@@ -54,7 +64,7 @@ fn later_calls<R: Abort, L: Ledger>(rt: &R, alloc: Global, blank: Blank) -> Resu
     let spans = borrowing();
     let cycle = [span(0, 5, 2, 3)];
     let mut steps: Steps<L> = Steps::new(blank);
-    let mut table = RowTable::with_room(alloc, &spans, 1, 8)?;
+    let mut table = T::with_room(alloc, &spans, 1, 8)?;
     table.split(2, &mut steps);
     table.pass_slot(&mut steps);
     table.pass_slot(&mut steps);
@@ -84,9 +94,9 @@ fn later_calls<R: Abort, L: Ledger>(rt: &R, alloc: Global, blank: Blank) -> Resu
 }
 
 /// The table has the spans between these points, with these capacities.
-fn expect<R: Abort, L: Ledger>(
+fn expect<T: SpareTable, R: Abort, L: Ledger>(
     rt: &R,
-    table: &RowTable,
+    table: &T,
     points: &[u64],
     spares: &[i64],
     steps: &mut Steps<L>,

@@ -7,12 +7,15 @@ use Rattle.slot_core.specs.declared.faults.TaskFault.TheVariants.{Memory as Task
 use Rattle.arrival_csv.specs.FaultTexts.{arrival_fault_text}
 use Rattle.arrival_csv.specs.declared.faults.ArrivalFault.{ArrivalFault}
 use Rattle.arrival_csv.specs.declared.faults.ArrivalFault.TheVariants.{Memory as ArrivalsMemory}
+use Rattle.table_codec.specs.FaultTexts.{table_fault_text}
+use Rattle.table_codec.specs.declared.faults.TableFault.{TableFault}
+use Rattle.table_codec.specs.declared.faults.TableFault.TheVariants.{Memory as TableMemory}
 use Rattle.run_outcome.specs.declared.status.Status.{Status}
 use Rattle.run_outcome.specs.declared.file.File.{File}
-use Rattle.run_outcome.specs.declared.file.File.TheVariants.{Tasks, Arrivals}
+use Rattle.run_outcome.specs.declared.file.File.TheVariants.{Tasks, Table, Arrivals}
 use Rattle.run_outcome.specs.declared.refusal.Refusal.{Refusal}
-use Rattle.run_outcome.specs.declared.refusal.Refusal.TheVariants.{Usage, Unreadable, TooLarge, BadTasks, Infeasible, BadArrivals, WriteFault, Memory}
-use Rattle.slot_core.specs.declared.TheConstants.{TASK_FILE_LIMIT, ARRIVALS_FILE_LIMIT}
+use Rattle.run_outcome.specs.declared.refusal.Refusal.TheVariants.{Usage, Unreadable, TooLarge, BadTasks, Infeasible, BadTable, BadArrivals, WriteFault, Memory}
+use Rattle.slot_core.specs.declared.TheConstants.{TASK_FILE_LIMIT, TABLE_FILE_LIMIT, ARRIVALS_FILE_LIMIT}
 
 -- how a step of the work, or a whole run, comes out: a value, or the refusal that ends the run
 abbrev pub Outcome : Type 0 → Type 0
@@ -22,19 +25,32 @@ Outcome X = Result X Refusal
 abbrev pub word_at : List (List ℕ) → ℕ → List ℕ
 word_at words i = unwrap_or (slice_get words i) []
 
+-- the two are the same file
+abbrev pub same_file : File → File → Bool
+same_file Tasks Tasks = true
+same_file Table Table = true
+same_file Arrivals Arrivals = true
+same_file _ _ = false
+
 -- the name of a file among the words, and the most bytes that it may have
 abbrev pub name_of : List (List ℕ) → File → List ℕ
 name_of words Tasks = word_at words 1
+name_of words Table = word_at words 1
 name_of words Arrivals = word_at words 2
 
 abbrev pub limit_of : File → ℕ
 limit_of Tasks = TASK_FILE_LIMIT
+limit_of Table = TABLE_FILE_LIMIT
 limit_of Arrivals = ARRIVALS_FILE_LIMIT
 
--- the refusal of a fault of the task file, and of the arrivals file
+-- the refusal of a fault of the task file, of the table file, and of the arrivals file
 abbrev pub refusal_of_task_fault : TaskFault → Refusal
 refusal_of_task_fault TasksMemory = Memory
 refusal_of_task_fault fault = BadTasks fault
+
+abbrev pub refusal_of_table_fault : TableFault → Refusal
+refusal_of_table_fault TableMemory = Memory
+refusal_of_table_fault fault = BadTable fault
 
 abbrev pub refusal_of_arrival_fault : ArrivalFault → Refusal
 refusal_of_arrival_fault ArrivalsMemory = Memory
@@ -47,6 +63,7 @@ refusal_status (Unreadable file) = Status.FileFault
 refusal_status (TooLarge file) = Status.TooLarge
 refusal_status (BadTasks fault) = Status.BadTasks
 refusal_status (Infeasible window) = Status.Infeasible
+refusal_status (BadTable fault) = Status.BadTable
 refusal_status (BadArrivals fault) = Status.BadArrivals
 refusal_status WriteFault = Status.WriteFault
 refusal_status Memory = Status.Memory
@@ -64,6 +81,7 @@ reason_of words (Unreadable file) = codes "cannot read " ++ name_of words file
 reason_of words (TooLarge file) = codes "too large " ++ worded (name_of words file) (limit_of file)
 reason_of words (BadTasks fault) = codes "tasks " ++ task_fault_text fault
 reason_of words (Infeasible window) = infeasible_text window
+reason_of words (BadTable fault) = codes "table " ++ table_fault_text fault
 reason_of words (BadArrivals fault) = codes "arrivals " ++ arrival_fault_text fault
 reason_of words WriteFault = codes "cannot write"
 reason_of words Memory = codes "out of memory"
@@ -71,6 +89,7 @@ reason_of words Memory = codes "out of memory"
 -- the same where the words are not known: a file is told by what it is
 abbrev pub file_text : File → List ℕ
 file_text Tasks = codes "task file"
+file_text Table = codes "table file"
 file_text Arrivals = codes "arrivals file"
 
 abbrev pub refusal_text : Refusal → List ℕ
@@ -92,6 +111,7 @@ abbrev pub is_found : Refusal → Bool
 is_found (TooLarge file) = true
 is_found (BadTasks fault) = true
 is_found (Infeasible window) = true
+is_found (BadTable fault) = true
 is_found (BadArrivals fault) = true
 is_found _ = false
 

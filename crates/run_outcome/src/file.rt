@@ -3,7 +3,7 @@
 ghost use Rattle.std.specs.Prelude.{◌≡◌, ◌≤◌};
 ghost use Rattle.run_outcome.specs.Refusals.{word_at, name_of, limit_of};
 
-use slot_core::{ARRIVALS_FILE_LIMIT, READ_LIMIT, TASK_FILE_LIMIT, Words};
+use slot_core::{ARRIVALS_FILE_LIMIT, READ_LIMIT, TABLE_FILE_LIMIT, TASK_FILE_LIMIT, Words};
 use std::fmt;
 
 /// A file of the command line.
@@ -11,6 +11,8 @@ use std::fmt;
 pub enum File {
     /// The task file, the second word.
     Tasks,
+    /// The table file, the second word.
+    Table,
     /// The arrivals file, the third word.
     Arrivals,
 }
@@ -24,6 +26,7 @@ impl fmt::Display for File {
     fn fmt<W: fmt::Write>(&self, f: &mut fmt::Formatter<W>) -> fmt::Result {
         match self {
             File::Tasks => write!(f, "task file"),
+            File::Table => write!(f, "table file"),
             File::Arrivals => write!(f, "arrivals file"),
         }
     }
@@ -35,7 +38,7 @@ impl File {
         ensures { result.now ≡ name_of words.now self }
     {
         match self {
-            File::Tasks => word_or_nothing(words, 1),
+            File::Tasks | File::Table => word_or_nothing(words, 1),
             File::Arrivals => word_or_nothing(words, 2),
         }
     }
@@ -47,6 +50,7 @@ impl File {
     {
         match self {
             File::Tasks => TASK_FILE_LIMIT,
+            File::Table => TABLE_FILE_LIMIT,
             File::Arrivals => ARRIVALS_FILE_LIMIT,
         }
     }

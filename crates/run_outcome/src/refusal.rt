@@ -1,7 +1,7 @@
 //! Every way in which a run ends that is not Done.
 
 ghost use Rattle.std.specs.Prelude.{◌≡◌};
-ghost use Rattle.run_outcome.specs.Refusals.{refusal_status, refusal_of_task_fault, refusal_of_arrival_fault};
+ghost use Rattle.run_outcome.specs.Refusals.{refusal_status, refusal_of_task_fault, refusal_of_table_fault, refusal_of_arrival_fault};
 ghost use Rattle.run_outcome.specs.declared.refusal.Refusal.TheVariants.{WriteFault as WriteRefusal, Memory as MemoryRefusal};
 
 use crate::{File, Status};
@@ -9,6 +9,7 @@ use arrival_csv::ArrivalFault;
 use slot_core::{Failed, Memory, TaskFault, Window};
 use std::error::Error;
 use std::fmt;
+use table_codec::TableFault;
 
 /// Why a run is not done, with the values that its line on standard error tells.
 #[derive(Clone, Copy, PartialEq, Eq, Debug)]
@@ -23,6 +24,8 @@ pub enum Refusal {
     BadTasks(TaskFault),
     /// A window has more demand than slots.
     Infeasible(Window),
+    /// The bytes of the table file spell no plan.
+    BadTable(TableFault),
     /// The bytes of the arrivals file write no arrivals that fit the set and the slots.
     BadArrivals(ArrivalFault),
     /// The output takes no more.
@@ -42,6 +45,7 @@ impl Refusal {
             Refusal::TooLarge(_) => Status::TooLarge,
             Refusal::BadTasks(_) => Status::BadTasks,
             Refusal::Infeasible(_) => Status::Infeasible,
+            Refusal::BadTable(_) => Status::BadTable,
             Refusal::BadArrivals(_) => Status::BadArrivals,
             Refusal::WriteFault => Status::WriteFault,
             Refusal::Memory => Status::Memory,
@@ -65,6 +69,7 @@ impl fmt::Display for Refusal {
             Refusal::TooLarge(file) => write!(f, "too large {file} {}", file.limit()),
             Refusal::BadTasks(fault) => write!(f, "tasks {fault}"),
             Refusal::Infeasible(w) => write!(f, "infeasible {} {} {}", w.from, w.until, w.demand),
+            Refusal::BadTable(fault) => write!(f, "table {fault}"),
             Refusal::BadArrivals(fault) => write!(f, "arrivals {fault}"),
             Refusal::WriteFault => write!(f, "cannot write"),
             Refusal::Memory => write!(f, "out of memory"),
@@ -108,6 +113,17 @@ impl From<ArrivalFault> for Refusal {
         match fault {
             ArrivalFault::Memory => Refusal::Memory,
             other => Refusal::BadArrivals(other),
+        }
+    }
+}
+
+impl From<TableFault> for Refusal {
+    ghost from_gives = { λ fault refusal. refusal ≡ refusal_of_table_fault fault };
+
+    fn from(fault: TableFault) -> Refusal {
+        match fault {
+            TableFault::Memory => Refusal::Memory,
+            other => Refusal::BadTable(other),
         }
     }
 }

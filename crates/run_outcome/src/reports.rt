@@ -4,6 +4,7 @@ ghost use Rattle.std.specs.Prelude.{◌≡◌, ◌++◌, ℕ, List, false, IfOk,
 ghost use Rattle.slot_core.specs.FaultTexts.{task_fault_text};
 ghost use Rattle.slot_core.specs.Texts.{worded};
 ghost use Rattle.arrival_csv.specs.FaultTexts.{arrival_fault_text};
+ghost use Rattle.table_codec.specs.FaultTexts.{table_fault_text};
 ghost use Rattle.run_outcome.specs.Refusals.{reason_of, refusal_line, has_fixed_line};
 ghost use Rattle.run_outcome.specs.Reports.{IsTold, IsReport};
 
@@ -13,6 +14,7 @@ use arrival_csv::ArrivalFault;
 use slot_core::{Memory, TaskFault, Words};
 use slot_io::Sink;
 use std::alloc::Global;
+use table_codec::TableFault;
 
 /// Puts the line of the refusal on `err`, in one put, and answers why the run is refused: as it
 /// was, or for want of memory where there is none for the line. A failing put changes nothing of
@@ -88,6 +90,7 @@ fn push_reason(
         Refusal::Unreadable(file) => push_both(line, b"cannot read ", file.name(words).as_bytes()),
         Refusal::TooLarge(file) => push_too_large(line, file.name(words).as_bytes(), file.limit()),
         Refusal::BadTasks(fault) => push_bad_tasks(alloc, line, fault),
+        Refusal::BadTable(fault) => push_bad_table(alloc, line, fault),
         Refusal::BadArrivals(fault) => push_bad_arrivals(alloc, line, fault),
         Refusal::Infeasible(window) => push_window(line, window),
         _ => Ok(()),
@@ -120,6 +123,15 @@ fn push_bad_tasks(alloc: Global, line: &mut Vec<u8>, fault: TaskFault) -> Result
     push_both(line, b"tasks ", words.as_bytes())
 }
 
+/// Appends what is wrong with the table file.
+fn push_bad_table(alloc: Global, line: &mut Vec<u8>, fault: TableFault) -> Result<(), Memory>
+    ensures { OnOk result
+        (line.new.items ≡ line.old.items ++ (codes "table " ++ table_fault_text fault)) }
+{
+    let words = table_fault_words(alloc, fault)?;
+    push_both(line, b"table ", words.as_bytes())
+}
+
 /// Appends what is wrong with the arrivals file.
 fn push_bad_arrivals(alloc: Global, line: &mut Vec<u8>, fault: ArrivalFault) -> Result<(), Memory>
     ensures { OnOk result
@@ -132,6 +144,14 @@ fn push_bad_arrivals(alloc: Global, line: &mut Vec<u8>, fault: ArrivalFault) -> 
 /// The words of a fault of a task file.
 fn task_fault_words(alloc: Global, fault: TaskFault) -> Result<String, Memory>
     ensures { IfOk result (λ words. string_bytes words ≡ task_fault_text fault) }
+{
+    let words = format!(in alloc; "{fault}")?;
+    Ok(words)
+}
+
+/// The words of a fault of a table file.
+fn table_fault_words(alloc: Global, fault: TableFault) -> Result<String, Memory>
+    ensures { IfOk result (λ words. string_bytes words ≡ table_fault_text fault) }
 {
     let words = format!(in alloc; "{fault}")?;
     Ok(words)

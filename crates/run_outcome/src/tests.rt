@@ -5,6 +5,7 @@ use arrival_csv::ArrivalFault;
 use slot_core::{Field, Part, Place, TaskFault, Window, Words};
 use slot_io::MemorySink;
 use std::test::Fail;
+use table_codec::TableFault;
 
 const PERIOD: Place = Place {
     part: Part::Graph(3),
@@ -18,7 +19,7 @@ const WINDOW: Window = Window {
 };
 
 /// Refusals of the words below, their statuses and their lines.
-const REFUSALS: [(Refusal, Status, &str); 9] = [
+const REFUSALS: [(Refusal, Status, &str); 11] = [
     (
         Refusal::Unreadable(File::Arrivals),
         Status::FileFault,
@@ -43,6 +44,16 @@ const REFUSALS: [(Refusal, Status, &str); 9] = [
         Refusal::Infeasible(WINDOW),
         Status::Infeasible,
         "infeasible 5 9 6\n",
+    ),
+    (
+        Refusal::BadTable(TableFault::Short(88)),
+        Status::BadTable,
+        "table short 88\n",
+    ),
+    (
+        Refusal::BadTable(TableFault::BadSource(TaskFault::Loop(1, 2))),
+        Status::BadTable,
+        "table source loop graph 1 task 2\n",
     ),
     (
         Refusal::BadArrivals(ArrivalFault::OutOfOrder(65535, 99999, 0)),

@@ -2,7 +2,7 @@
 
 ghost use Rattle.std.specs.Prelude.{◌≡◌, [], ◌∷◌, true, codes, IfOk};
 ghost use Rattle.slot_core.specs.Names.{is_name};
-ghost use Rattle.sample_sets.specs.Sets.{borrowing_set, crowded_set, gps_graph, imu_graph, link_graph, long_names_set, offset_set, overlong_set, pair_set, set_of, sporadic, two_periods_set, unmanned_flight_set};
+ghost use Rattle.sample_sets.specs.Sets.{alarm_set, borrowing_set, crowded_set, gps_graph, imu_graph, link_graph, long_names_set, offset_set, overlong_set, pair_set, set_of, sporadic, two_periods_set, unmanned_flight_set};
 
 use crate::graphs::{graph_of_three, graph_of_two, lone_task, task};
 use slot_core::{Graph, Graphs, Memory, Name, Sporadic, Sporadics, TaskSet};
@@ -45,6 +45,15 @@ pub fn pair_set(alloc: Global) -> Result<TaskSet, Memory>
     let a = task(alloc, b"a", 2, &[])?;
     let b = task(alloc, b"b", 1, &[0])?;
     set_of_one(alloc, graph_of_two(alloc, b"g", 8, a, b)?)
+}
+
+/// The pair beside a sporadic alarm.
+pub fn alarm_set(alloc: Global) -> Result<TaskSet, Memory>
+    ensures { IfOk result (λ set. set ≡ alarm_set) }
+{
+    let mut tasks = pair_set(alloc)?;
+    tasks.sporadics.push(sporadic(b"alarm"))?;
+    Ok(tasks)
 }
 
 /// A short deadline beside long work, which borrows from it.

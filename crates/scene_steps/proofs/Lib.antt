@@ -1,5 +1,7 @@
+pub mod Arrivals
 pub mod Ends
 pub mod Facts
+pub mod Joins
 pub mod Model
 pub mod Rows
 pub mod Same

@@ -29,9 +29,10 @@ pub fn the_densest_pattern_shows_it()
     ensures { TheDensestPatternShowsIt }
 {}
 
-/// So each offer of a legal history that was accepted could be served, and each that was refused
-/// for want of room could not. One in reach, due later and at most a cycle ahead, was answered in
-/// one of these two ways.
+/// So each offer of a legal history that was accepted could be served whatever followed, and for
+/// each that was refused for want of room some legal pattern of arrivals left no slot schedule. One
+/// in reach, due later and at most a cycle ahead, was answered in one of these two ways. In a set
+/// without sporadic tasks one in reach was refused exactly where no slot schedule served it.
 pub fn offers_are_always_exact()
     ensures { OffersAreAlwaysExact }
 {}

@@ -12,18 +12,21 @@ use Rattle.slot_core.specs.declared.jobs.Window.{Window}
 use Rattle.slot_core.specs.declared.tasks.TaskSet.{TaskSet}
 use Rattle.slot_core.specs.Cycles.{cycle_of}
 use Rattle.slot_core.specs.Feasible.{counterexample}
-use Rattle.slot_core.specs.Reports.{check_line}
-use Rattle.slot_core.specs.Texts.{trace_text}
-use Rattle.slot_core.specs.Traces.{trace}
+use Rattle.slot_core.specs.Plans.{PlanParts}
 use Rattle.slot_io.specs.Files.{Held, first_bytes}
+use Rattle.table_codec.specs.Reading.{planned, reading_of_table}
+use Rattle.table_codec.specs.declared.faults.TableFault.{TableFault}
 use Rattle.task_toml.specs.Reading.{reading_of_tasks}
 use Rattle.run_outcome.specs.declared.file.File.{File}
-use Rattle.run_outcome.specs.declared.file.File.TheVariants.{Tasks, Arrivals}
-use Rattle.run_outcome.specs.declared.refusal.Refusal.TheVariants.{Unreadable, TooLarge, BadTasks, Infeasible, BadArrivals}
+use Rattle.run_outcome.specs.declared.file.File.TheVariants.{Tasks as TaskFile, Table as TableFile, Arrivals as ArrivalsFile}
+use Rattle.run_outcome.specs.declared.refusal.Refusal.TheVariants.{Unreadable, TooLarge, BadTasks, Infeasible, BadTable, BadArrivals}
 use Rattle.run_outcome.specs.Refusals.{Outcome, name_of, limit_of, is_found}
 use Rattle.slot_cli.specs.declared.command.Command.{Command}
-use Rattle.slot_cli.specs.declared.command.Command.TheVariants.{Check, Replay}
-use Rattle.slot_cli.specs.Due.{limited_bytes, bytes_of, sound_set, feasible_set, planned_set, fitting_arrivals, recorded_arrivals, text_of}
+use Rattle.slot_cli.specs.declared.command.Command.TheVariants.{Check, Table, Show, Replay, ReplayTable, Gantt, Selfrun}
+use Rattle.slot_cli.specs.declared.command.Source.{Source}
+use Rattle.slot_cli.specs.declared.command.Source.TheVariants.{Tasks, Spelled, Load}
+use Rattle.slot_cli.specs.Commands.{source_of}
+use Rattle.slot_cli.specs.Due.{limited_bytes, bytes_of, sound_set, feasible_plan, planned_plan, spelled_plan, plan_from, fitting_arrivals, recorded_arrivals, arrivals_for, text_from, text_of}
 use Rattle.slot_cli.specs.Runs.{stage_of, stage_due}
 
 -- the refusal of a step, if it has one, is found in bytes
@@ -31,7 +34,7 @@ abbrev pub AllFound : {X : Type 0} → Outcome X → Type 0
 AllFound (Ok x) = ⊤
 AllFound (Err e) = is_found e ≡ true
 
-pub AllFound-bind : {X Y : Type 0} (first : Outcome X) (next : X → Outcome Y) → AllFound first → ((x : X) → AllFound (next x)) → AllFound (first >>= next)
+AllFound-bind : {X Y : Type 0} (first : Outcome X) (next : X → Outcome Y) → AllFound first → ((x : X) → AllFound (next x)) → AllFound (first >>= next)
 AllFound-bind (Ok x) next before after = after x
 AllFound-bind (Err e) next before after = before
 
@@ -71,62 +74,88 @@ IsFoundFrom-set : (r : Result TaskSet TaskFault) → IsFoundFrom 3 (let step : O
 IsFoundFrom-set (Ok set) = record { found = tt; from = tt }
 IsFoundFrom-set (Err fault) = record { found = refl; from = omega arith }
 
-IsFoundFrom-feasible : (set : TaskSet) (o : Option Window) → IsFoundFrom 4 (let step : Outcome TaskSet = option_map_or (λ window. Err (Infeasible window)) o (Ok set) in step)
-IsFoundFrom-feasible set None = record { found = tt; from = tt }
-IsFoundFrom-feasible set (Some window) = record { found = refl; from = omega arith }
+IsFoundFrom-tested : (plan : PlanParts) (o : Option Window) → IsFoundFrom 3 (let step : Outcome PlanParts = option_map_or (λ window. Err (Infeasible window)) o (Ok plan) in step)
+IsFoundFrom-tested plan None = record { found = tt; from = tt }
+IsFoundFrom-tested plan (Some window) = record { found = refl; from = omega arith }
+
+IsFoundFrom-table : (r : Result PlanParts TableFault) → IsFoundFrom 3 (let step : Outcome PlanParts = result_map_both (λ (plan : PlanParts). plan) BadTable r in step)
+IsFoundFrom-table (Ok plan) = record { found = tt; from = tt }
+IsFoundFrom-table (Err fault) = record { found = refl; from = omega arith }
 
 IsFoundFrom-arrivals : (r : Result (List Arrival) ArrivalFault) → IsFoundFrom 7 (let step : Outcome (List Arrival) = result_map_both (λ (arrivals : List Arrival). arrivals) BadArrivals r in step)
 IsFoundFrom-arrivals (Ok arrivals) = record { found = tt; from = tt }
 IsFoundFrom-arrivals (Err fault) = record { found = refl; from = omega arith }
 
-IsFoundFrom-sound_set : (bytes : List ℕ) → IsFoundFrom 3 (sound_set bytes)
-IsFoundFrom-sound_set bytes = IsFoundFrom-set (reading_of_tasks bytes)
+IsFoundFrom-bind : {X Y : Type 0} (n : ℕ) (first : Outcome X) (next : X → Outcome Y) → IsFoundFrom n first → ((x : X) → IsFoundFrom n (next x)) → IsFoundFrom n (first >>= next)
+IsFoundFrom-bind n first next before after =
+    record {
+      found = AllFound-bind first next before.found (λ x. (after x).found);
+      from = AllFrom-bind n first next before.from (λ x. (after x).from);
+    }
 
-IsFoundFrom-feasible_set : (set : TaskSet) → IsFoundFrom 4 (feasible_set set)
-IsFoundFrom-feasible_set set = IsFoundFrom-feasible set (counterexample set (cycle_of set))
+IsFoundFrom-planned : (bytes : List ℕ) → IsFoundFrom 3 (planned_plan bytes)
+IsFoundFrom-planned bytes =
+    IsFoundFrom-bind 3 (sound_set bytes) feasible_plan (IsFoundFrom-set (reading_of_tasks bytes)) (λ set. IsFoundFrom-tested (planned set) (counterexample set (cycle_of set)))
 
--- the set of the bytes and its cycle test refuse what is found in bytes
-pub found-tested : (bytes : List ℕ) → AllFound (sound_set bytes >>= feasible_set)
-found-tested bytes =
-    AllFound-bind (sound_set bytes) feasible_set (IsFoundFrom-sound_set bytes).found (λ set. (IsFoundFrom-feasible_set set).found)
+IsFoundFrom-spelled : (bytes : List ℕ) → IsFoundFrom 3 (spelled_plan bytes)
+IsFoundFrom-spelled bytes = IsFoundFrom-table (reading_of_table bytes)
 
-IsFoundFrom-fitting_arrivals : (bytes : List ℕ) (slots : ℕ) (set : TaskSet) → IsFoundFrom 7 (fitting_arrivals bytes slots set)
-IsFoundFrom-fitting_arrivals bytes slots set = IsFoundFrom-arrivals (reading_of_arrivals bytes slots set)
+IsFoundFrom-fitting : (bytes : List ℕ) (slots : ℕ) (set : TaskSet) → IsFoundFrom 7 (fitting_arrivals bytes slots set)
+IsFoundFrom-fitting bytes slots set = IsFoundFrom-arrivals (reading_of_arrivals bytes slots set)
 
--- so does the reading of the arrivals
-pub found-fitting_arrivals : (bytes : List ℕ) (slots : ℕ) (set : TaskSet) → AllFound (fitting_arrivals bytes slots set)
-found-fitting_arrivals bytes slots set = (IsFoundFrom-fitting_arrivals bytes slots set).found
+-- the plan of a task file, that of a table and the arrivals refuse what is found in bytes
+pub found-planned : (bytes : List ℕ) → AllFound (planned_plan bytes)
+found-planned bytes = (IsFoundFrom-planned bytes).found
 
--- the plan's set, from the reading of the task file on
-AllFrom-planned : (held : Held) (words : List (List ℕ)) → AllFrom 1 (planned_set held words)
-AllFrom-planned held words =
-    let read = AllFrom-bytes 1 Tasks (first_bytes held (name_of words Tasks) (limit_of Tasks)) (omega arith) (omega arith) in
-    AllFrom-bind 1 (bytes_of held words Tasks) (λ bytes. sound_set bytes >>= feasible_set) read (λ bytes. AllFrom-bind 1 (sound_set bytes) feasible_set (AllFrom-lower 1 3 (sound_set bytes) (omega arith) (IsFoundFrom-sound_set bytes).from) (λ set. AllFrom-lower 1 4 (feasible_set set) (omega arith) (IsFoundFrom-feasible_set set).from))
+pub found-spelled : (bytes : List ℕ) → AllFound (spelled_plan bytes)
+found-spelled bytes = (IsFoundFrom-spelled bytes).found
+
+pub found-fitting : (bytes : List ℕ) (slots : ℕ) (set : TaskSet) → AllFound (fitting_arrivals bytes slots set)
+found-fitting bytes slots set = (IsFoundFrom-fitting bytes slots set).found
+
+-- a file is read, and then its bytes
+AllFrom-read : {X : Type 0} (held : Held) (words : List (List ℕ)) (n m : ℕ) (file : File) (next : List ℕ → Outcome X) → n ≤ stage_of (Unreadable file) → n ≤ stage_of (TooLarge file) → n ≤ m → ((bytes : List ℕ) → IsFoundFrom m (next bytes)) → AllFrom n (bytes_of held words file >>= next)
+AllFrom-read held words n m file next unreadable large lower after =
+    let read = AllFrom-bytes n file (first_bytes held (name_of words file) (limit_of file)) unreadable large in
+    AllFrom-bind n (bytes_of held words file) next read (λ bytes. AllFrom-lower n m (next bytes) lower (after bytes).from)
+
+-- the plan, from the reading of its file on
+AllFrom-plan : (held : Held) (words : List (List ℕ)) (source : Source) → AllFrom 1 (plan_from held words source)
+AllFrom-plan held words Tasks = AllFrom-read held words 1 3 TaskFile planned_plan (omega arith) (omega arith) (omega arith) IsFoundFrom-planned
+AllFrom-plan held words Spelled = AllFrom-read held words 1 3 TableFile spelled_plan (omega arith) (omega arith) (omega arith) IsFoundFrom-spelled
+AllFrom-plan held words (Load n) = tt
 
 -- the arrivals, from the reading of their file on
 AllFrom-recorded : (held : Held) (words : List (List ℕ)) (slots : ℕ) (set : TaskSet) → AllFrom 5 (recorded_arrivals held words slots set)
 AllFrom-recorded held words slots set =
-    let read = AllFrom-bytes 5 Arrivals (first_bytes held (name_of words Arrivals) (limit_of Arrivals)) (omega arith) (omega arith) in
-    AllFrom-bind 5 (bytes_of held words Arrivals) (λ bytes. fitting_arrivals bytes slots set) read (λ bytes. AllFrom-lower 5 7 (fitting_arrivals bytes slots set) (omega arith) (IsFoundFrom-fitting_arrivals bytes slots set).from)
+    AllFrom-read held words 5 7 ArrivalsFile (λ bytes. fitting_arrivals bytes slots set) (omega arith) (omega arith) (omega arith) (λ bytes. IsFoundFrom-fitting bytes slots set)
 
--- what a replay has to write after the plan
-abbrev pub traced : ℕ → TaskSet → List Arrival → Outcome (List ℕ)
-traced slots set arrivals = Ok (trace_text set (trace set arrivals slots))
+AllFrom-arrivals : (held : Held) (words : List (List ℕ)) (command : Command) (set : TaskSet) → AllFrom 5 (arrivals_for held words command set)
+AllFrom-arrivals held words (Replay slots) set = AllFrom-recorded held words slots set
+AllFrom-arrivals held words (ReplayTable slots) set = AllFrom-recorded held words slots set
+AllFrom-arrivals held words (Gantt slots) set = AllFrom-recorded held words slots set
+AllFrom-arrivals held words Check set = tt
+AllFrom-arrivals held words Table set = tt
+AllFrom-arrivals held words Show set = tt
+AllFrom-arrivals held words (Selfrun n) set = tt
 
--- what a command has to write
-AllFrom-text : (held : Held) (words : List (List ℕ)) (command : Command) → AllFrom 1 (text_of held words command)
-AllFrom-text held words Check =
-    let next = λ (set : TaskSet). let line : Outcome (List ℕ) = Ok (check_line set) in line in
-    AllFrom-bind 1 (planned_set held words) next (AllFrom-planned held words) (λ set. tt)
-AllFrom-text held words (Replay slots) =
-    let next = λ (set : TaskSet). recorded_arrivals held words slots set >>= traced slots set in
-    AllFrom-bind 1 (planned_set held words) next (AllFrom-planned held words) (λ set. AllFrom-bind 1 (recorded_arrivals held words slots set) (traced slots set) (AllFrom-lower 1 5 (recorded_arrivals held words slots set) (omega arith) (AllFrom-recorded held words slots set)) (λ arrivals. tt))
+-- what a command has to write after the plan, and after the arrivals
+abbrev pub text_with : Command → PlanParts → List Arrival → Outcome (List ℕ)
+text_with command plan arrivals = Ok (text_from command plan arrivals)
 
--- it comes at the first stage of the work or later
+abbrev pub text_after : Held → List (List ℕ) → Command → PlanParts → Outcome (List ℕ)
+text_after held words command plan = arrivals_for held words command plan.tasks >>= text_with command plan
+
+AllFrom-after : (held : Held) (words : List (List ℕ)) (command : Command) (plan : PlanParts) → AllFrom 5 (text_after held words command plan)
+AllFrom-after held words command plan =
+    AllFrom-bind 5 (arrivals_for held words command plan.tasks) (text_with command plan) (AllFrom-arrivals held words command plan.tasks) (λ arrivals. tt)
+
+-- it comes at the stage of the arrivals or later
+pub stage-after : (held : Held) (words : List (List ℕ)) (command : Command) (plan : PlanParts) → 5 ≤ stage_due (text_after held words command plan)
+stage-after held words command plan =
+    stage-from 5 (text_after held words command plan) (omega arith) (AllFrom-after held words command plan)
+
+-- the whole comes at the first stage of the work or later
 pub stage-text : (held : Held) (words : List (List ℕ)) (command : Command) → 1 ≤ stage_due (text_of held words command)
-stage-text held words command = stage-from 1 (text_of held words command) (omega arith) (AllFrom-text held words command)
-
--- what a replay has to write after the plan comes at the stage of the arrivals or later
-pub stage-traced : (held : Held) (words : List (List ℕ)) (slots : ℕ) (set : TaskSet) → 5 ≤ stage_due (recorded_arrivals held words slots set >>= traced slots set)
-stage-traced held words slots set =
-    stage-from 5 (recorded_arrivals held words slots set >>= traced slots set) (omega arith) (AllFrom-bind 5 (recorded_arrivals held words slots set) (traced slots set) (AllFrom-recorded held words slots set) (λ arrivals. tt))
+stage-text held words command =
+    stage-from 1 (text_of held words command) (omega arith) (AllFrom-bind 1 (plan_from held words (source_of command)) (text_after held words command) (AllFrom-plan held words (source_of command)) (λ plan. AllFrom-lower 1 5 (text_after held words command plan) (omega arith) (AllFrom-after held words command plan)))

@@ -1,25 +1,16 @@
 -- What a run says of the set that the task file writes means slot schedules.
 use Rattle.std.proofs.Common.{◌≡◌, ℕ, List, Option, Ok, Err}
-use Rattle.slot_core.specs.declared.tasks.TaskSet.{TaskSet}
 use Rattle.slot_core.specs.declared.jobs.Window.{Window}
-use Rattle.slot_core.specs.Futures.{CyclesCanBeServed}
 use Rattle.slot_io.specs.Files.{Held}
-use Rattle.slot_facts.proofs.Offers.Verdicts.{feasible_sets_can_be_served_for_ever}
 use Rattle.demand_test.proofs.Schedules.{unserved-from_some}
 use Rattle.run_outcome.specs.declared.file.File.TheVariants.{Tasks}
 use Rattle.run_outcome.specs.declared.refusal.Refusal.TheVariants.{Infeasible}
 use Rattle.run_outcome.specs.Refusals.{refusal_line}
 use Rattle.run_outcome.specs.Reports.{IsTold}
-use Rattle.slot_cli.specs.Due.{bytes_of, planned_set, expected}
+use Rattle.slot_cli.specs.Due.{bytes_of, expected}
 use Rattle.slot_cli.specs.Verdicts.{IsInfeasibleRun}
 use Rattle.slot_cli.proofs.InfeasibleRuns.{infeasible-expected}
-use Rattle.slot_cli.proofs.ServedRuns.{is_sound-from_bytes, IsPlanned-read}
-
--- any number of cycles of the plan's set can be served
-pub cycles-planned : (held : Held) (words : List (List ℕ)) (set : TaskSet) → planned_set held words ≡ Ok set → (cycles : ℕ) → CyclesCanBeServed set cycles
-cycles-planned held words set is cycles =
-    let planned = IsPlanned-read (bytes_of held words Tasks) set is in
-    feasible_sets_can_be_served_for_ever set cycles planned.sound planned.feasible
+use Rattle.slot_cli.proofs.RunPlans.{is_sound-from_bytes}
 
 -- a run that tells the window of the refusal that is due shows that the set has no schedule
 pub IsInfeasibleRun-expected : (words : List (List ℕ)) (held : Held) (before after : Option (List ℕ)) (faults_before faults_after : ℕ) (window : Window) → expected held words ≡ Err (Infeasible window) → IsTold (refusal_line words (Infeasible window)) before after faults_before faults_after → IsInfeasibleRun words held before after faults_before faults_after

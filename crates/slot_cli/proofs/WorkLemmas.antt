@@ -1,26 +1,24 @@
 -- How the work of a command ends.
-use Rattle.std.proofs.Common.{◌≡◌, ℕ, ◌≤◌, true, false, List, Option, None, Some, Ok, Err, refl, sym, ap, subst, ◌∙◌, inl, inr, arith}
+use Rattle.std.proofs.Common.{◌≡◌, ℕ, ◌≤◌, Bool, true, false, List, Option, None, Some, Ok, Err, refl, sym, ap, subst, ◌∙◌, inl, inr, arith}
 use Rattle.std.proofs.KnownBytes.{Appends-nil}
 use Rattle.std.specs.Io.KnownBytes.{Appends}
 use Rattle.slot_core.specs.Results.{◌>>=◌}
 use Rattle.slot_core.specs.declared.events.Arrival.{Arrival}
-use Rattle.slot_core.specs.declared.tasks.TaskSet.{TaskSet}
-use Rattle.slot_core.specs.Reports.{check_line}
-use Rattle.slot_core.specs.Texts.{trace_text}
-use Rattle.slot_core.specs.Traces.{trace}
+use Rattle.slot_core.specs.Plans.{PlanParts}
 use Rattle.slot_io.specs.Files.{Held}
 use Rattle.slot_io.specs.Sinks.{AppendsPart}
 use Rattle.run_outcome.specs.declared.file.File.{File}
-use Rattle.run_outcome.specs.declared.file.File.TheVariants.{Tasks, Arrivals}
 use Rattle.run_outcome.specs.declared.refusal.Refusal.{Refusal}
-use Rattle.run_outcome.specs.declared.refusal.Refusal.TheVariants.{Usage, Unreadable, TooLarge, BadTasks, Infeasible, BadArrivals, WriteFault, Memory}
+use Rattle.run_outcome.specs.declared.refusal.Refusal.TheVariants.{Usage, Unreadable, TooLarge, BadTasks, Infeasible, BadTable, BadArrivals, WriteFault, Memory}
 use Rattle.run_outcome.specs.Refusals.{Outcome, is_found}
 use Rattle.slot_cli.specs.declared.command.Command.{Command}
-use Rattle.slot_cli.specs.declared.command.Command.TheVariants.{Check, Replay}
-use Rattle.slot_cli.specs.Due.{text_of, planned_set, recorded_arrivals}
+use Rattle.slot_cli.specs.Commands.{source_of, recorded_for, is_file_of, is_recorded_in, reads}
+use Rattle.slot_cli.specs.Due.{plan_from, arrivals_for, text_from, text_of}
 use Rattle.slot_cli.specs.Runs.{stage_of, stage_due, Reads, IsHostFault}
-use Rattle.slot_cli.specs.Steps.{IsOfReading, IsReading, IsWriting, IsWork}
-use Rattle.slot_cli.proofs.StageLemmas.{stage-text, stage-traced, traced}
+use Rattle.slot_cli.specs.Steps.{IsUnreadable, IsOfReading, IsReading, IsWriting, IsWork}
+use Rattle.slot_cli.proofs.CommandLemmas.{reads-plan, reads-recorded, stage-plan_file, stage-arrivals_file}
+use Rattle.slot_cli.proofs.StageLemmas.{stage-text, stage-after, text_after, text_with}
+use Rattle.slot_cli.proofs.StepLemmas.{bind_Ok, bind_Err, reading-since}
 
 -- nothing is a part of any text
 part_of_nothing : (o : Option (List ℕ)) (text : List ℕ) → AppendsPart o o text
@@ -33,72 +31,74 @@ part_of_same written before after text same = rw same (part_of_nothing (written 
 not_found : (e other : Refusal) → is_found other ≡ false → is_found e ≡ true → e ≡ other → ⊥
 not_found e other apart found is = let same : is_found e ≡ is_found other = ap is_found is in cc
 
-not_usage : (file : File) (e : Refusal) → IsOfReading file e → e ≡ Usage → ⊥
-not_usage file e (inl unread) is = cc
-not_usage file e (inr (inl memory)) is = cc
-not_usage file e (inr (inr found)) is = not_found e Usage refl found is
+unread_apart : (file : File) (e other : Refusal) → e ≡ Unreadable file → (Unreadable file ≡ other → ⊥) → e ≡ other → ⊥
+unread_apart file e other unread apart is = apart (sym unread ∙ is)
 
-not_write : (file : File) (e : Refusal) → IsOfReading file e → e ≡ WriteFault → ⊥
-not_write file e (inl unread) is = cc
-not_write file e (inr (inl memory)) is = cc
-not_write file e (inr (inr found)) is = not_found e WriteFault refl found is
+not_usage : (may : File → Bool) (e : Refusal) → IsOfReading may e → e ≡ Usage → ⊥
+not_usage may e (inl (file, in_may, unread)) is = unread_apart file e Usage unread (λ same. cc) is
+not_usage may e (inr (inl memory)) is = cc
+not_usage may e (inr (inr found)) is = not_found e Usage refl found is
 
--- a file that cannot be read is the one that was to be read
-own_file : (file other : File) (e : Refusal) → IsOfReading file e → e ≡ Unreadable other → file ≡ other
-own_file file other e (inl unread) is = cc
-own_file file other e (inr (inl memory)) is = cc
-own_file file other e (inr (inr found)) is = absurd (not_found e (Unreadable other) refl found is)
+not_write : (may : File → Bool) (e : Refusal) → IsOfReading may e → e ≡ WriteFault → ⊥
+not_write may e (inl (file, in_may, unread)) is = unread_apart file e WriteFault unread (λ same. cc) is
+not_write may e (inr (inl memory)) is = cc
+not_write may e (inr (inr found)) is = not_found e WriteFault refl found is
 
 Err_of : {X : Type 0} (e other : Refusal) → (let r : Outcome X = Err e in r) ≡ Err other → e ≡ other
 Err_of e other is = cc
 
--- what the reading tells of the text that is due: its refusal is the text's, and its stage is reached
-pub record IsOnTheWay {X : Type 0} (file : File) (due : Outcome X) (text : Outcome (List ℕ)) : Type 0 where
+-- what the reading tells of the text that is due: its refusal is the text's, and the stages of its
+-- files are reached
+pub record IsOnTheWay {X : Type 0} (may : File → Bool) (due : Outcome X) (text : Outcome (List ℕ)) : Type 0 where
   pub passes : (e : Refusal) → due ≡ Err e → text ≡ Err e
-  pub reached : stage_of (Unreadable file) ≤ stage_due text
+  pub reached : (file : File) → may file ≡ true → stage_of (Unreadable file) ≤ stage_due text
+
+host_reading : (may : File → Bool) (command : Command) (text : Outcome (List ℕ)) (e : Refusal) → ((file : File) → may file ≡ true → reads command file ≡ true) → ((file : File) → may file ≡ true → stage_of (Unreadable file) ≤ stage_due text) → IsUnreadable may e → IsHostFault (Some command) e × (stage_of e ≤ stage_due text)
+host_reading may command text e read reached (file, in_may, is) =
+    let P : Refusal → Type 0 = λ r. IsHostFault (Some command) r × (stage_of r ≤ stage_due text) in subst P (sym is) (read file in_may, reached file in_may)
 
 -- where a reading ends the run so does the work
-pub work-refused : {S T A X Y : Type 0} (held : S → Option Held) (faults : S → ℕ) (blamed : S → Option (List ℕ)) (written : T → Option (List ℕ)) (failed : T → ℕ) (old new : S) (out : T) (words : List (List ℕ)) (command : Command) (file : File) (due : Held → Outcome X) (e : Refusal) (view : A → X) → Reads (Some command) file → ((files : Held) → held old ≡ Some files → IsOnTheWay file (due files) (text_of files words command)) → IsReading held faults blamed old new words file due (Err e) view → IsWork {X = Y} held faults blamed written failed old new out out words (Some command) (Err e)
-work-refused held faults blamed written failed old new out words command file due e view reads way reading =
-    let host = λ (files : Held) (is : e ≡ Unreadable file) (on : IsOnTheWay file (due files) (text_of files words command)). let P : Refusal → Type 0 = λ r. IsHostFault (Some command) r × (stage_of r ≤ stage_due (text_of files words command)) in subst P (sym is) (reads, on.reached) in
+pub work-refused : {S T A X Y : Type 0} (held : S → Option Held) (faults : S → ℕ) (blamed : S → Option (List ℕ)) (written : T → Option (List ℕ)) (failed : T → ℕ) (old new : S) (out : T) (words : List (List ℕ)) (command : Command) (may : File → Bool) (due : Held → Outcome X) (e : Refusal) (view : A → X) → ((file : File) → may file ≡ true → reads command file ≡ true) → ((files : Held) → held old ≡ Some files → IsOnTheWay may (due files) (text_of files words command)) → IsReading held faults blamed old new words may due (Err e) view → IsWork {X = Y} held faults blamed written failed old new out out words (Some command) (Err e)
+work-refused held faults blamed written failed old new out words command may due e view read way reading =
     record {
       answers = λ files told. elim (reading.answers files told) [
-        | inl fault ↦ inr (inr (host files fault (way files told)))
+        | inl fault ↦ inr (inr (host_reading may command (text_of files words command) e read (way files told).reached fault))
         | inr (inl memory) ↦ inr (inl memory)
         | inr (inr is) ↦ inl ((way files told).passes e is)
       ];
-      usage = ((λ is. absurd (not_usage file e reading.refuses (Err_of e Usage is))), (λ none. cc));
-      blames = λ other is. let same = own_file file other e reading.refuses (Err_of e (Unreadable other) is) in let P : File → Type 0 = λ f. e ≡ Unreadable f in let unread : e ≡ Unreadable file = subst P (sym same) (Err_of e (Unreadable other) is) in rw (← same) (reads, (reading.blames (ap Err unread)).0, (reading.blames (ap Err unread)).1);
+      usage = ((λ is. absurd (not_usage may e reading.refuses (Err_of e Usage is))), (λ none. cc));
+      blames = λ file is. let (in_may, rose, name) = reading.blames file (ap Err (Err_of e (Unreadable file) is)) in (read file in_may, rose, name);
       writes = λ files told text is. part_of_nothing (written out) text;
-      counts = λ is. absurd (not_write file e reading.refuses (Err_of e WriteFault is));
+      counts = λ is. absurd (not_write may e reading.refuses (Err_of e WriteFault is));
       output = λ leaves. refl;
-      files = λ is. absurd (not_usage file e reading.refuses (Err_of e Usage is));
+      files = λ is. absurd (not_usage may e reading.refuses (Err_of e Usage is));
     }
 
--- the way from the task file to the text
-pub way-planned : (files : Held) (words : List (List ℕ)) (command : Command) → IsOnTheWay Tasks (planned_set files words) (text_of files words command)
-way-planned files words Check = record { passes = λ e is. ap (λ (o : Outcome TaskSet). o >>= (λ set. let line : Outcome (List ℕ) = Ok (check_line set) in line)) is; reached = stage-text files words Check }
-way-planned files words (Replay slots) = record { passes = λ e is. ap (λ (o : Outcome TaskSet). o >>= (λ set. recorded_arrivals files words slots set >>= traced slots set)) is; reached = stage-text files words (Replay slots) }
+-- the way from the plan to the text
+pub way-plan : (files : Held) (words : List (List ℕ)) (command : Command) → IsOnTheWay (is_file_of (source_of command)) (plan_from files words (source_of command)) (text_of files words command)
+way-plan files words command =
+    record {
+      passes = λ e is. bind_Err (plan_from files words (source_of command)) (text_after files words command) e is;
+      reached = λ file is. omega (arith, stage-plan_file (source_of command) file is, stage-text files words command);
+    }
 
-text-planned : (files : Held) (words : List (List ℕ)) (slots : ℕ) (set : TaskSet) → planned_set files words ≡ Ok set → text_of files words (Replay slots) ≡ (recorded_arrivals files words slots set >>= traced slots set)
-text-planned files words slots set planned =
-    ap (λ (o : Outcome TaskSet). o >>= (λ set. recorded_arrivals files words slots set >>= traced slots set)) planned
+text-planned : (files : Held) (words : List (List ℕ)) (command : Command) (plan : PlanParts) → plan_from files words (source_of command) ≡ Ok plan → text_of files words command ≡ text_after files words command plan
+text-planned files words command plan is =
+    bind_Ok (plan_from files words (source_of command)) (text_after files words command) plan is
 
--- the way from the arrivals file to the text, where the plan's set is due
-pub way-arrivals : (files : Held) (words : List (List ℕ)) (slots : ℕ) (set : TaskSet) → planned_set files words ≡ Ok set → IsOnTheWay Arrivals (recorded_arrivals files words slots set) (text_of files words (Replay slots))
-way-arrivals files words slots set planned =
-    let way : IsOnTheWay Arrivals (recorded_arrivals files words slots set) (recorded_arrivals files words slots set >>= traced slots set) = record { passes = λ e is. ap (λ o. o >>= traced slots set) is; reached = stage-traced files words slots set } in
-    subst (IsOnTheWay Arrivals (recorded_arrivals files words slots set)) (sym (text-planned files words slots set planned)) way
+-- the way from the arrivals to the text, where the plan is due
+pub way-arrivals : (files : Held) (words : List (List ℕ)) (command : Command) (plan : PlanParts) → plan_from files words (source_of command) ≡ Ok plan → IsOnTheWay (is_recorded_in (recorded_for command)) (arrivals_for files words command plan.tasks) (text_of files words command)
+way-arrivals files words command plan planned =
+    let way : IsOnTheWay (is_recorded_in (recorded_for command)) (arrivals_for files words command plan.tasks) (text_after files words command plan) = record {
+      passes = λ e is. bind_Err (arrivals_for files words command plan.tasks) (text_with command plan) e is;
+      reached = λ file is. omega (arith, stage-arrivals_file file, stage-after files words command plan);
+    } in
+    subst (IsOnTheWay (is_recorded_in (recorded_for command)) (arrivals_for files words command plan.tasks)) (sym (text-planned files words command plan planned)) way
 
--- the text of a check is due where the plan's set is
-pub text-checked : (files : Held) (words : List (List ℕ)) (set : TaskSet) → planned_set files words ≡ Ok set → text_of files words Check ≡ Ok (check_line set)
-text-checked files words set planned =
-    ap (λ (o : Outcome TaskSet). o >>= (λ set. let line : Outcome (List ℕ) = Ok (check_line set) in line)) planned
-
--- the text of a replay is due where the plan's set and the recorded arrivals are
-pub text-replayed : (files : Held) (words : List (List ℕ)) (slots : ℕ) (set : TaskSet) (arrivals : List Arrival) → planned_set files words ≡ Ok set → recorded_arrivals files words slots set ≡ Ok arrivals → text_of files words (Replay slots) ≡ Ok (trace_text set (trace set arrivals slots))
-text-replayed files words slots set arrivals planned recorded =
-    text-planned files words slots set planned ∙ ap (λ o. o >>= traced slots set) recorded
+-- the text is due where the plan and the arrivals are
+pub text-due : (files : Held) (words : List (List ℕ)) (command : Command) (plan : PlanParts) (arrivals : List Arrival) → plan_from files words (source_of command) ≡ Ok plan → arrivals_for files words command plan.tasks ≡ Ok arrivals → text_of files words command ≡ Ok (text_from command plan arrivals)
+text-due files words command plan arrivals planned gathered =
+    text-planned files words command plan planned ∙ bind_Ok (arrivals_for files words command plan.tasks) (text_with command plan) arrivals gathered
 
 -- a text that is due is what is written
 same_text : (due : Outcome (List ℕ)) (text other : List ℕ) → due ≡ Ok text → due ≡ Ok other → text ≡ other
@@ -110,10 +110,6 @@ part_of_due due text other before after is is_too part =
 
 late : (due : Outcome (List ℕ)) (text : List ℕ) → due ≡ Ok text → 8 ≤ stage_due due
 late due text is = let P : Outcome (List ℕ) → Type 0 = λ o. 8 ≤ stage_due o in subst P (sym is) (omega arith)
-
-host_writing : (command : Command) → IsHostFault (Some command) WriteFault
-host_writing Check = tt
-host_writing (Replay slots) = tt
 
 -- where the text that is due is written the work ends so
 pub work-writing : {S T X : Type 0} (held : S → Option Held) (faults : S → ℕ) (blamed : S → Option (List ℕ)) (written : T → Option (List ℕ)) (failed : T → ℕ) (old new : S) (out_old out_new : T) (words : List (List ℕ)) (command : Command) (text : List ℕ) (result : Outcome X) → ((files : Held) → held old ≡ Some files → text_of files words command ≡ Ok text) → IsWriting written failed text result out_old out_new → IsWork held faults blamed written failed old new out_old out_new words (Some command) result
@@ -129,7 +125,7 @@ work-writing held faults blamed written failed old new out_old out_new words com
     }
 work-writing held faults blamed written failed old new out_old out_new words command text (Err WriteFault) due writing =
     record {
-      answers = λ files told. inr (inr (host_writing command, late (text_of files words command) text (due files told)));
+      answers = λ files told. inr (inr (tt, late (text_of files words command) text (due files told)));
       usage = ((λ is. cc), (λ none. cc));
       blames = λ file is. cc;
       writes = λ files told other is. part_of_due (text_of files words command) text other (written out_old) (written out_new) (due files told) is writing.0;
@@ -152,6 +148,7 @@ work-writing held faults blamed written failed old new out_old out_new words com
 work-writing held faults blamed written failed old new out_old out_new words command text (Err (TooLarge file)) due writing = absurd writing
 work-writing held faults blamed written failed old new out_old out_new words command text (Err (BadTasks fault)) due writing = absurd writing
 work-writing held faults blamed written failed old new out_old out_new words command text (Err (Infeasible window)) due writing = absurd writing
+work-writing held faults blamed written failed old new out_old out_new words command text (Err (BadTable fault)) due writing = absurd writing
 work-writing held faults blamed written failed old new out_old out_new words command text (Err (BadArrivals fault)) due writing = absurd writing
 
 -- words that write no command are refused for them

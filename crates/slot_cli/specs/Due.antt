@@ -1,25 +1,35 @@
 -- What is due of a run, where the files tell what they hold.
-use Rattle.std.specs.Prelude.{ℕ, List, length, nat_lt, if◌then◌else◌, Option, Ok, Err}
+use Rattle.std.specs.Prelude.{ℕ, List, [], length, nat_lt, if◌then◌else◌, Option, Some, None, Ok, Err}
 use Rattle.std.specs.Option.{option_map_or}
 use Rattle.std.specs.Result.{result_map_both}
 use Rattle.slot_core.specs.Results.{◌>>=◌}
 use Rattle.slot_core.specs.declared.events.Arrival.{Arrival}
+use Rattle.slot_core.specs.declared.events.Entry.{Entry}
 use Rattle.slot_core.specs.declared.tasks.TaskSet.{TaskSet}
+use Rattle.slot_core.specs.Charts.{chart_text, tally_text}
 use Rattle.slot_core.specs.Cycles.{cycle_of}
 use Rattle.slot_core.specs.Feasible.{counterexample}
-use Rattle.slot_core.specs.Reports.{check_line}
+use Rattle.slot_core.specs.Plans.{PlanParts}
+use Rattle.slot_core.specs.Reports.{check_line, show_text}
+use Rattle.slot_core.specs.Spelling.{spelling}
 use Rattle.slot_core.specs.Texts.{trace_text}
 use Rattle.slot_core.specs.Traces.{trace}
 use Rattle.slot_io.specs.Files.{Held, first_bytes}
 use Rattle.arrival_csv.specs.Reading.{reading_of_arrivals}
+use Rattle.load_gen.specs.LoadArrivals.{load_arrivals}
+use Rattle.load_gen.specs.Loads.{load_set}
+use Rattle.table_codec.specs.Reading.{planned, reading_of_table}
 use Rattle.task_toml.specs.Reading.{reading_of_tasks}
 use Rattle.run_outcome.specs.declared.file.File.{File}
-use Rattle.run_outcome.specs.declared.file.File.TheVariants.{Tasks, Arrivals}
-use Rattle.run_outcome.specs.declared.refusal.Refusal.TheVariants.{Usage, Unreadable, TooLarge, BadTasks, Infeasible, BadArrivals}
+use Rattle.run_outcome.specs.declared.file.File.TheVariants.{Tasks as TaskFile, Table as TableFile, Arrivals as ArrivalsFile}
+use Rattle.run_outcome.specs.declared.refusal.Refusal.TheVariants.{Usage, Unreadable, TooLarge, BadTasks, Infeasible, BadTable, BadArrivals}
 use Rattle.run_outcome.specs.Refusals.{Outcome, name_of, limit_of}
+use Rattle.slot_cli.specs.declared.command.TheConstants.{LOAD_SLOTS}
 use Rattle.slot_cli.specs.declared.command.Command.{Command}
-use Rattle.slot_cli.specs.declared.command.Command.TheVariants.{Check, Replay}
-use Rattle.slot_cli.specs.Commands.{command_of}
+use Rattle.slot_cli.specs.declared.command.Command.TheVariants.{Check, Table, Show, Replay, ReplayTable, Gantt, Selfrun}
+use Rattle.slot_cli.specs.declared.command.Source.{Source}
+use Rattle.slot_cli.specs.declared.command.Source.TheVariants.{Tasks, Spelled, Load}
+use Rattle.slot_cli.specs.Commands.{command_of, source_of}
 
 -- the bytes of a file within its limit
 abbrev pub limited_bytes : File → List ℕ → Outcome (List ℕ)
@@ -35,17 +45,33 @@ bytes_of held words file =
 abbrev pub sound_set : List ℕ → Outcome TaskSet
 sound_set bytes = result_map_both (λ set. set) BadTasks (reading_of_tasks bytes)
 
--- the set, where it passes the cycle test
-abbrev pub feasible_set : TaskSet → Outcome TaskSet
-feasible_set set =
-    option_map_or (λ window. Err (Infeasible window)) (counterexample set (cycle_of set)) (Ok set)
+-- the plan of a set, where it passes the cycle test
+abbrev pub feasible_plan : TaskSet → Outcome PlanParts
+feasible_plan set =
+    option_map_or
+    (λ window. Err (Infeasible window))
+    (counterexample set (cycle_of set))
+    (Ok (planned set))
 
--- the plan's set: the task file is read, its bytes are read as a set, and the set is tested
-abbrev pub planned_set : Held → List (List ℕ) → Outcome TaskSet
-planned_set held words = do
-  bytes ← bytes_of held words Tasks
+-- the plan of the task file: it is read, its bytes are read as a set, and the set is tested
+abbrev pub planned_plan : List ℕ → Outcome PlanParts
+planned_plan bytes = do
   set ← sound_set bytes
-  feasible_set set
+  feasible_plan set
+
+-- the plan that the bytes of the table file spell
+abbrev pub spelled_plan : List ℕ → Outcome PlanParts
+spelled_plan bytes = result_map_both (λ plan. plan) BadTable (reading_of_table bytes)
+
+-- the plan of a command, from where it comes: the task file, the table file, or a load
+abbrev pub plan_from : Held → List (List ℕ) → Source → Outcome PlanParts
+plan_from held words Tasks = do
+  bytes ← bytes_of held words TaskFile
+  planned_plan bytes
+plan_from held words Spelled = do
+  bytes ← bytes_of held words TableFile
+  spelled_plan bytes
+plan_from held words (Load n) = Ok (planned (load_set n))
 
 -- the arrivals that the bytes of the arrivals file write, for so many slots of the set
 abbrev pub fitting_arrivals : List ℕ → ℕ → TaskSet → Outcome (List Arrival)
@@ -55,18 +81,36 @@ fitting_arrivals bytes slots set =
 -- the recorded arrivals: the arrivals file is read, and its bytes are read as arrivals
 abbrev pub recorded_arrivals : Held → List (List ℕ) → ℕ → TaskSet → Outcome (List Arrival)
 recorded_arrivals held words slots set = do
-  bytes ← bytes_of held words Arrivals
+  bytes ← bytes_of held words ArrivalsFile
   fitting_arrivals bytes slots set
+
+-- the arrivals of a command: those recorded, those of a load, or none
+abbrev pub arrivals_for : Held → List (List ℕ) → Command → TaskSet → Outcome (List Arrival)
+arrivals_for held words (Replay slots) set = recorded_arrivals held words slots set
+arrivals_for held words (ReplayTable slots) set = recorded_arrivals held words slots set
+arrivals_for held words (Gantt slots) set = recorded_arrivals held words slots set
+arrivals_for held words (Selfrun n) set = Ok (load_arrivals n LOAD_SLOTS)
+arrivals_for held words _ set = Ok []
+
+-- the text that a command writes of a plan and arrivals
+abbrev pub text_from : Command → PlanParts → List Arrival → List ℕ
+text_from Check plan arrivals = check_line plan.tasks
+text_from Table plan arrivals = spelling plan
+text_from Show plan arrivals = show_text plan
+text_from (Replay slots) plan arrivals = trace_text plan.tasks (trace plan.tasks arrivals slots)
+text_from (ReplayTable slots) plan arrivals =
+    trace_text plan.tasks (trace plan.tasks arrivals slots)
+text_from (Gantt slots) plan arrivals =
+    chart_text plan.tasks slots (trace plan.tasks arrivals slots)
+text_from (Selfrun n) plan arrivals =
+    tally_text n LOAD_SLOTS (trace plan.tasks arrivals LOAD_SLOTS)
 
 -- the text that a command writes, or the refusal that ends the run before it
 abbrev pub text_of : Held → List (List ℕ) → Command → Outcome (List ℕ)
-text_of held words Check = do
-  set ← planned_set held words
-  Ok (check_line set)
-text_of held words (Replay slots) = do
-  set ← planned_set held words
-  arrivals ← recorded_arrivals held words slots set
-  Ok (trace_text set (trace set arrivals slots))
+text_of held words command = do
+  plan ← plan_from held words (source_of command)
+  arrivals ← arrivals_for held words command plan.tasks
+  Ok (text_from command plan arrivals)
 
 -- the same of the words' command, if they write one
 abbrev pub due_of : Held → List (List ℕ) → Option Command → Outcome (List ℕ)
@@ -74,3 +118,11 @@ due_of held words command = option_map_or (text_of held words) command (Err Usag
 
 abbrev pub expected : Held → List (List ℕ) → Outcome (List ℕ)
 expected held words = due_of held words (command_of words)
+
+-- the plan of a run
+abbrev pub plan_of_run : Held → List (List ℕ) → Outcome PlanParts
+plan_of_run held words =
+    option_map_or
+    (λ command. plan_from held words (source_of command))
+    (command_of words)
+    (Err Usage)

@@ -1,7 +1,9 @@
 pub mod Commands
 pub mod Due
+pub mod Printed
 pub mod Runs
 pub mod Steps
+pub mod Tables
 pub mod Verdicts
 pub use Rattle.run_outcome.specs.Refusals
 pub use Rattle.run_outcome.specs.Reports

@@ -1,18 +1,17 @@
 -- What a run has to answer.
-use Rattle.std.specs.Prelude.{◌≡◌, ℕ, ◌≤◌, ◌⊎◌, ⊤, List, Option, Some, Ok, Err, IfSome}
+use Rattle.std.specs.Prelude.{◌≡◌, ℕ, ◌≤◌, ◌⊎◌, ⊤, true, List, Option, None, Some, Ok, Err, IfSome}
 use Rattle.std.specs.Io.KnownBytes.{Appends}
 use Rattle.slot_io.specs.Files.{Held}
 use Rattle.slot_io.specs.Sinks.{AppendsPart}
 use Rattle.run_outcome.specs.declared.file.File.{File}
-use Rattle.run_outcome.specs.declared.file.File.TheVariants.{Tasks, Arrivals}
+use Rattle.run_outcome.specs.declared.file.File.TheVariants.{Tasks, Table, Arrivals}
 use Rattle.run_outcome.specs.declared.refusal.Refusal.{Refusal}
-use Rattle.run_outcome.specs.declared.refusal.Refusal.TheVariants.{Usage, Unreadable, TooLarge, BadTasks, Infeasible, BadArrivals, WriteFault, Memory}
+use Rattle.run_outcome.specs.declared.refusal.Refusal.TheVariants.{Usage, Unreadable, TooLarge, BadTasks, Infeasible, BadTable, BadArrivals, WriteFault, Memory}
 use Rattle.run_outcome.specs.declared.status.Status.{Status}
 use Rattle.run_outcome.specs.Refusals.{Outcome, name_of, status_of, fault_line}
 use Rattle.run_outcome.specs.Reports.{IsTold}
 use Rattle.slot_cli.specs.declared.command.Command.{Command}
-use Rattle.slot_cli.specs.declared.command.Command.TheVariants.{Replay}
-use Rattle.slot_cli.specs.Commands.{command_of}
+use Rattle.slot_cli.specs.Commands.{command_of, reads}
 use Rattle.slot_cli.specs.Due.{expected}
 
 -- the stage of the work at which a refusal comes, and at which what is due comes: the writing where
@@ -20,8 +19,11 @@ use Rattle.slot_cli.specs.Due.{expected}
 abbrev pub stage_of : Refusal → ℕ
 stage_of Usage = 0
 stage_of (Unreadable Tasks) = 1
+stage_of (Unreadable Table) = 1
 stage_of (TooLarge Tasks) = 2
+stage_of (TooLarge Table) = 2
 stage_of (BadTasks fault) = 3
+stage_of (BadTable fault) = 3
 stage_of (Infeasible window) = 4
 stage_of (Unreadable Arrivals) = 5
 stage_of (TooLarge Arrivals) = 6
@@ -35,9 +37,8 @@ stage_due (Err refusal) = stage_of refusal
 
 -- the command reads this file
 abbrev pub Reads : Option Command → File → Type 0
-Reads (Some command) Tasks = ⊤
-Reads (Some (Replay slots)) Arrivals = ⊤
-Reads command file = ⊥
+Reads None file = ⊥
+Reads (Some command) file = reads command file ≡ true
 
 -- a fault of a file that the command reads, or of the output
 abbrev pub IsHostFault : Option Command → Refusal → Type 0

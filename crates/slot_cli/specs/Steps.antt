@@ -1,5 +1,5 @@
 -- What the steps of the work answer.
-use Rattle.std.specs.Prelude.{◌≡◌, ◌↔◌, ℕ, ◌⊎◌, true, List, Option, None, Some, Ok, Err, IfOk, IfErr, MatchResult}
+use Rattle.std.specs.Prelude.{◌≡◌, ◌↔◌, ℕ, ◌⊎◌, Bool, true, List, Option, None, Some, Ok, Err, IfOk, IfErr, MatchResult}
 use Rattle.std.specs.Io.KnownBytes.{Appends}
 use Rattle.slot_core.specs.Counts.{Rose}
 use Rattle.slot_io.specs.Files.{Held}
@@ -18,29 +18,35 @@ abbrev pub IsStep : {A X : Type 0} → Outcome X → Outcome A → (A → X) →
 IsStep due result view =
     MatchResult result (λ a. due ≡ Ok (view a)) (λ e. (e ≡ Memory) ⊎ (due ≡ Err e))
 
--- a step that reads this file may answer that it cannot be read, too
-abbrev pub IsFileStep : {A X : Type 0} → File → Outcome X → Outcome A → (A → X) → Type 0
-IsFileStep file due result view =
+-- the refusal is that a file which passes the test cannot be read
+abbrev pub IsUnreadable : (File → Bool) → Refusal → Type 0
+IsUnreadable may e = (file : File) × (may file ≡ true) × (e ≡ Unreadable file)
+
+-- a step that may read files which pass a test may answer that one of them cannot be read, too
+abbrev pub IsFileStep : {A X : Type 0}
+    → (File → Bool) → Outcome X → Outcome A → (A → X) → Type 0
+IsFileStep may due result view =
     MatchResult result (λ a. due ≡ Ok (view a))
-    (λ e. (e ≡ Unreadable file) ⊎ ((e ≡ Memory) ⊎ (due ≡ Err e)))
+    (λ e. IsUnreadable may e ⊎ ((e ≡ Memory) ⊎ (due ≡ Err e)))
 
--- the refusal comes of reading this file: it cannot be read, or the bytes call for it, or memory
+-- the refusal comes of reading such a file: it cannot be read, or the bytes call for it, or memory
 -- ran out
-abbrev pub IsOfReading : File → Refusal → Type 0
-IsOfReading file e = (e ≡ Unreadable file) ⊎ ((e ≡ Memory) ⊎ (is_found e ≡ true))
+abbrev pub IsOfReading : (File → Bool) → Refusal → Type 0
+IsOfReading may e = IsUnreadable may e ⊎ ((e ≡ Memory) ⊎ (is_found e ≡ true))
 
--- a step that reads one file, whose name is among the words, over files of which contracts see
--- `held`, `faults` and `blamed`
+-- a step that may read files which pass a test, and whose names are among the words, over files of
+-- which contracts see `held`, `faults` and `blamed`
 pub record IsReading {S A X : Type 0} (held : S → Option Held) (faults : S → ℕ)
-    (blamed : S → Option (List ℕ)) (before after : S) (words : List (List ℕ)) (file : File)
+    (blamed : S → Option (List ℕ)) (before after : S) (words : List (List ℕ)) (may : File → Bool)
     (due : Held → Outcome X) (result : Outcome A) (view : A → X) : Type 0 where
   -- what it answers, where the files tell what they hold
-  pub answers : (files : Held) → held before ≡ Some files → IsFileStep file (due files) result view
+  pub answers : (files : Held) → held before ≡ Some files → IsFileStep may (due files) result view
   -- what it refuses
-  pub refuses : IfErr result (IsOfReading file)
-  -- who is blamed: the file's name, for a fault that is counted
-  pub blames : result ≡ Err (Unreadable file)
-      → Rose (faults before) (faults after) × (blamed after ≡ Some (name_of words file))
+  pub refuses : IfErr result (IsOfReading may)
+  -- who is blamed: the name of such a file, for a fault that is counted
+  pub blames : (file : File) → result ≡ Err (Unreadable file)
+      → (may file ≡ true) × Rose (faults before) (faults after)
+      × (blamed after ≡ Some (name_of words file))
   -- what stays untouched: what the files hold, and the count where the step gives a value
   pub keeps : held after ≡ held before
   pub counts : IfOk result (λ _. faults after ≡ faults before)

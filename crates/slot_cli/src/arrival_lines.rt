@@ -4,7 +4,7 @@
 /// Files with a fault. A case a line: the file, an arrow, the line on standard error.
 pub const ARRIVAL_LINES: &str = "4,soft,1 => arrivals past end 1 4
 2,soft,1/1,soft,1 => arrivals out of order 2 2 1
-0,sporadic,bell => arrivals unknown kind 1
+0,sporadic,bell => arrivals unknown sporadic 1
 0,done,g.x#0 => arrivals bad key 1
 0,soft,0 => arrivals bad number 1 3
 00,soft,1 => arrivals bad number 1 1
@@ -29,8 +29,6 @@ one,soft,1 => arrivals bad number 1 1
 0,,1 => arrivals unknown kind 1
 0,SOFT,1 => arrivals unknown kind 1
 0,soft ,1 => arrivals unknown kind 1
-0,firm,1,2 => arrivals unknown kind 1
-0,withdraw,1 => arrivals unknown kind 1
 0,soft, => arrivals bad number 1 3
 0,soft,01 => arrivals bad number 1 3
 0,soft,1  => arrivals bad number 1 3

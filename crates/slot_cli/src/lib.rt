@@ -7,16 +7,19 @@ ghost use Rattle.arrival_csv.specs.declared.faults.ArrivalFault.{ArrivalFault};
 ghost use Rattle.slot_core.specs.declared.events.Arrival.{Arrival};
 ghost use Rattle.slot_core.specs.declared.faults.TaskFault.{TaskFault};
 ghost use Rattle.slot_core.specs.declared.jobs.Window.{Window};
-ghost use Rattle.slot_core.specs.declared.tasks.TaskSet.{TaskSet};
 ghost use Rattle.slot_core.specs.Arrivals.{are_fitting};
-ghost use Rattle.slot_core.specs.Cycles.{cycle_of};
+ghost use Rattle.slot_core.specs.Futures.{OffersAreExact};
+ghost use Rattle.slot_core.specs.Plans.{IsPlan, PlanParts};
 ghost use Rattle.slot_core.specs.Service.{IsServed, IsOrdered};
 ghost use Rattle.slot_core.specs.Traces.{trace, history_of};
 ghost use Rattle.slot_core.specs.Counts.{Rose};
+ghost use Rattle.table_codec.specs.declared.faults.TableFault.{TableFault};
 ghost use Rattle.run_outcome.specs.declared.file.File.{File};
 ghost use Rattle.run_outcome.specs.declared.refusal.Refusal.{Refusal};
-ghost use Rattle.slot_cli.specs.Commands.{command_of};
-ghost use Rattle.slot_cli.specs.Due.{expected, planned_set, recorded_arrivals};
+ghost use Rattle.slot_cli.specs.declared.command.Command.{Command};
+ghost use Rattle.slot_cli.specs.Commands.{command_of, slots_of};
+ghost use Rattle.slot_cli.specs.Due.{arrivals_for, expected, plan_of_run};
+ghost use Rattle.slot_cli.specs.Printed.{IsPrinted};
 ghost use Rattle.slot_cli.specs.Runs.{IsRun};
 ghost use Rattle.slot_cli.specs.Verdicts.{RunMeansSchedules};
 
@@ -25,6 +28,8 @@ mod arrival_lines;
 pub mod command;
 #[cfg(test)]
 mod fault_lines;
+pub mod laws;
+mod reports;
 mod steps;
 #[cfg(test)]
 mod tests;
@@ -38,8 +43,9 @@ use std::alloc::Global;
 use work::work;
 
 /// Does what the words ask for: reads the files that they name, writes to `out`, and puts one line
-/// on `err` where it ends otherwise than Done. The order of work is that of `expected`: tasks read,
-/// set read, cycle test, arrivals read, replay. All memory is taken before the first put on `out`.
+/// on `err` where it ends otherwise than Done. The order of work is that of `expected`: the plan is
+/// read and tested, then the arrivals are read, then the text is written. All memory is taken
+/// before the first put on `out`.
 pub fn run<F: Files, K: Sink, E: Sink>(
     alloc: Global,
     words: &Words,
@@ -64,11 +70,12 @@ pub fn run<F: Files, K: Sink, E: Sink>(
         (λ held. (fault : TaskFault) × (expected held words.now ≡ Err (Refusal.BadTasks fault))) }
     ensures infeasible { result ≡ Status.Infeasible → IfSome (F.held files.old)
         (λ held. (window : Window) × (expected held words.now ≡ Err (Refusal.Infeasible window))) }
+    ensures bad_table { result ≡ Status.BadTable → IfSome (F.held files.old)
+        (λ held. (fault : TableFault) × (expected held words.now ≡ Err (Refusal.BadTable fault))) }
     ensures bad_arrivals { result ≡ Status.BadArrivals → IfSome (F.held files.old)
         (λ held. (fault : ArrivalFault)
         × (expected held words.now ≡ Err (Refusal.BadArrivals fault))) }
     ensures write_fault { result ≡ Status.WriteFault → Rose (K.faults out.old) (K.faults out.new) }
-    ensures no_table { result ≢ Status.BadTable }
 
     // What stays untouched.
     ensures done_says_nothing { result ≡ Status.Done → err.new ≡ err.old }
@@ -81,16 +88,33 @@ pub fn run<F: Files, K: Sink, E: Sink>(
     ensures verdict { IfSome (F.held files.old) (λ held. RunMeansSchedules words.now held
         (E.written err.old) (E.written err.new) (E.faults err.old) (E.faults err.new) result) }
 
-    // Every trace of the set serves every job, whatever arrivals fit it; the recorded ones do.
+    // What is printed where it is done: the text of a plan and of arrivals that fit it. In their
+    // trace every admitted job gets its slots, after its predecessors, and each firm offer is
+    // answered exactly.
+    ensures printed { result ≡ Status.Done → IfSome (F.held files.old) (λ held.
+        IsPrinted words.now held (K.written out.old) (K.written out.new)) }
+
+    // Every trace of the plan serves every job, whatever arrivals fit it.
     ensures served { IfSome (F.held files.old) (λ held.
-        (set : TaskSet) (slots : ℕ) (arrivals : List Arrival)
-        → planned_set held words.now ≡ Ok set → are_fitting set slots arrivals ≡ true
-        → IsServed set (cycle_of set) (history_of (trace set arrivals slots))
-        × IsOrdered set (cycle_of set) (history_of (trace set arrivals slots))) }
+        (plan : PlanParts) (slots : ℕ) (arrivals : List Arrival)
+        → plan_of_run held words.now ≡ Ok plan → are_fitting plan.tasks slots arrivals ≡ true
+        → IsServed plan.tasks plan.cycle (history_of (trace plan.tasks arrivals slots))
+        × IsOrdered plan.tasks plan.cycle (history_of (trace plan.tasks arrivals slots))) }
+
+    // Each firm offer in it is answered exactly: accepted where it can be served with the remaining
+    // jobs whatever legal arrivals follow, and refused for want of room where some leave no slot
+    // schedule; without sporadic tasks, exactly where no slot schedule serves it with them.
+    ensures offers { IfSome (F.held files.old) (λ held.
+        (plan : PlanParts) (slots : ℕ) (arrivals : List Arrival)
+        → plan_of_run held words.now ≡ Ok plan → are_fitting plan.tasks slots arrivals ≡ true
+        → OffersAreExact plan.tasks plan.cycle (history_of (trace plan.tasks arrivals slots))) }
+
+    // It is a plan, and the arrivals of the command fit it.
     ensures fitting { IfSome (F.held files.old) (λ held.
-        (set : TaskSet) (slots : ℕ) (arrivals : List Arrival)
-        → recorded_arrivals held words.now slots set ≡ Ok arrivals
-        → are_fitting set slots arrivals ≡ true) }
+        (command : Command) (plan : PlanParts) (arrivals : List Arrival)
+        → command_of words.now ≡ Some command → plan_of_run held words.now ≡ Ok plan
+        → arrivals_for held words.now command plan.tasks ≡ Ok arrivals
+        → IsPlan plan × (are_fitting plan.tasks (slots_of command) arrivals ≡ true)) }
 {
     match work(alloc, words, files, out) {
         Ok(()) => Status::Done,

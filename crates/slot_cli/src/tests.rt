@@ -3,7 +3,7 @@
 use crate::arrival_lines::{ARRIVAL_LINES, SPELLINGS};
 use crate::fault_lines::FAULT_LINES;
 use crate::{Status, run};
-use slot_core::{ARRIVAL_LIMIT, ARRIVALS_FILE_LIMIT, TASK_FILE_LIMIT, Words};
+use slot_core::{ARRIVAL_LIMIT, ARRIVALS_FILE_LIMIT, TABLE_FILE_LIMIT, TASK_FILE_LIMIT, Words};
 use slot_io::{Files, MemoryFiles, MemorySink, ReadFault};
 use std::alloc::Global;
 use std::process::Abort;
@@ -89,6 +89,8 @@ const OVERLOAD: &str = "graph = [{ name = 'g', period = 2, task = [{ name = 'a',
 
 const CHECK: &str = "check a.toml";
 
+const SHOW: &str = "show a.toml";
+
 const REPLAY: &str = "replay a.toml none.csv 1";
 
 const REPLAY_4: &str = "replay a.toml none.csv 4";
@@ -101,8 +103,11 @@ const NO_COMMANDS: &str = "
 check
 check a.toml none.csv
 Check a.toml
-table a.toml
+show a.toml none.csv
 selfrun 33
+selfrun 0
+gantt a.toml none.csv 201
+replay-table a.toml none.csv 100001
 replay a.toml none.csv
 replay a.toml none.csv 0
 replay a.toml none.csv 07
@@ -147,6 +152,37 @@ const PAIR_17: &str = "0 start | 0-7:5 7-8:0 8-15:5 15-16:0 16-23:5 23-24:0
 15 idle | 16-23:5 23-24:0 24-31:5 31-32:0 32-39:5 39-40:0
 16 run g.a#2 | 17-23:5 23-24:0 24-31:5 31-32:0 32-39:5 39-40:0
 17 end
+";
+
+/// The table of the pair.
+const PAIR_TABLE: &str =
+    "SLOT\x01\0\x40\0\x01\0\x01g\x08\0\0\0\x08\0\x02\0\x01a\x02\0\0\0\x01b\x01\0\x01\0\0\0\0\0\x02\0\0\0\0\0\0\0\0\0\0\0\x07\0\x02\0\0\0\x01\0\0\0\x02\0\x08\0\x01\0\x02\0\0\0\0\0\x07\0\x02\0\x05\0\0\0\x07\0\x08\0\x01\0\0\0\0\0";
+
+const PAIR_PLAN: &str = "plan cycle 8 soft 64 graphs 1 sporadics 0 jobs 2 spans 2
+job g.a#0 0 7 2
+job g.b#0 2 8 1
+span 0 7 2 5
+span 7 8 1 0
+";
+
+const PAIR_PLAN_CUT: &str = "plan cycle 8 soft 64 graphs 1 sporadics 0 jobs 2 spans 2
+job g.a#0 0 7 2
+job g.b#0 2 8 1
+span 0 7 2 5
+";
+
+const PAIR_CHART: &str = "gantt 4
+g.a  ##..
+g.b  ..#.
+firm ....
+soft ....
+";
+
+const SOFT_CHART: &str = "gantt 4
+g.a  ...#
+g.b  ....
+firm ....
+soft ###.
 ";
 
 const EARLY_END_3: &str = "0 start | 0-7:5 7-8:0 8-15:5 15-16:0 16-23:5 23-24:0
@@ -295,11 +331,16 @@ fn runs_as_the_files_call_for(rt: HostRuntime) -> Result<(), Fail> {
         done("replay a.toml none.csv 2", 2, BORROWING, BORROWING_2),
         done("replay a.toml none.csv 17", 2, PAIR, PAIR_17),
         done(REPLAY, 2, OFFSET, OFFSET_1),
+        done("table a.toml", 1, PAIR, PAIR_TABLE),
+        done(SHOW, 1, PAIR_TABLE, PAIR_PLAN),
+        done("replay-table a.toml none.csv 17", 2, PAIR_TABLE, PAIR_17),
+        done("gantt a.toml none.csv 4", 2, PAIR, PAIR_CHART),
         infeasible(CHECK, SPLIT, "infeasible 5 7 3\n"),
         infeasible(CHECK, CAMERA, "infeasible 5 9 5\n"),
         infeasible(CHECK, CHAIN, "infeasible 0 1 4\n"),
         infeasible(CHECK, OVERLOAD, "infeasible 0 2 3\n"),
         infeasible(REPLAY, OVERLOAD, "infeasible 0 2 3\n"),
+        infeasible("table a.toml", OVERLOAD, "infeasible 0 2 3\n"),
         refused("check b.toml", Status::FileFault, 1, unread),
         refused("replay b.toml b.csv 1", Status::FileFault, 1, unread),
         refused(
@@ -319,6 +360,16 @@ fn runs_as_the_files_call_for(rt: HostRuntime) -> Result<(), Fail> {
         Case {
             arrivals: b"0,soft,3\n0,soft,1\n",
             ..done(REPLAY_4, 2, NARROW, SOFT_4)
+        },
+        Case {
+            arrivals: b"0,soft,3\n0,soft,1\n",
+            ..done("gantt a.toml none.csv 4", 2, NARROW, SOFT_CHART)
+        },
+        Case {
+            tasks: PAIR_TABLE,
+            failing: (0, 5),
+            out: PAIR_PLAN_CUT,
+            ..refused(SHOW, Status::WriteFault, 1, "cannot write\n")
         },
         Case {
             tasks: NARROW,
@@ -387,6 +438,58 @@ fn tells_the_first_fault(rt: HostRuntime) -> Result<(), Fail> {
     Ok(())
 }
 
+/// The bytes of the pair's table, of which one is another.
+fn table_with(alloc: Global, place: usize, byte: u8) -> Result<Vec<u8>, Fail> {
+    let mut bytes = Vec::new(alloc);
+    for (at, old) in PAIR_TABLE.bytes().enumerate() {
+        bytes.push(if at == place { byte } else { old })?;
+    }
+    Ok(bytes)
+}
+
+#[test]
+fn tells_the_first_fault_of_a_table(rt: HostRuntime) -> Result<(), Fail> {
+    let alloc = rt.alloc();
+    let rows = [
+        (0, 0, "table bad magic\n"),
+        (4, 2, "table bad version 2\n"),
+        (6, 0, "table source out of range top soft 0\n"),
+        (22, 9, "table infeasible 0 8 10\n"),
+        (36, 3, "table wrong job count 3 2\n"),
+        (74, 6, "table wrong span 0 0 7 2 6 0 7 2 5\n"),
+    ];
+    for (place, byte, err) in rows {
+        let table = table_with(alloc, place, byte)?;
+        for words in [SHOW, "replay-table a.toml none.csv 1"] {
+            let case = Case {
+                tasks: std::str::from_utf8(table.as_slice())?,
+                ..refused(words, Status::BadTable, 1, err)
+            };
+            expect(&rt, alloc, &case)?;
+        }
+    }
+    let short = Case {
+        tasks: "SLO",
+        ..refused(SHOW, Status::BadTable, 1, "table short 3\n")
+    };
+    expect(&rt, alloc, &short)
+}
+
+#[test]
+fn tells_the_entries_of_a_load(rt: HostRuntime) -> Result<(), Fail> {
+    let alloc = rt.alloc();
+    let mut files = MemoryFiles::empty(alloc);
+    let words = words_of(alloc, "selfrun 1")?;
+    let mut out = MemorySink::with_room(alloc, 1024)?;
+    let mut err = MemorySink::with_room(alloc, 64)?;
+    let status = run(alloc, &words, &mut files, &mut out, &mut err);
+    assert_eq!(rt; status, Status::Done);
+    let line = std::str::from_utf8(out.bytes())?;
+    assert!(rt; line.starts_with("selfrun 1 slots 1024 soft "), "{line}");
+    assert!(rt; line.contains(" run 48 "), "{line}");
+    Ok(())
+}
+
 #[test]
 fn tells_the_first_fault_of_arrivals(rt: HostRuntime) -> Result<(), Fail> {
     for row in ARRIVAL_LINES.lines() {
@@ -447,6 +550,8 @@ fn refuses_large_files(rt: HostRuntime) -> Result<(), Fail> {
     let rows = [
         (CHECK, TASK_FILE_LIMIT, "tasks missing top graph\n"),
         (CHECK, TASK_FILE_LIMIT + 1, "too large a.toml 1048576\n"),
+        (SHOW, TABLE_FILE_LIMIT, "table bad magic\n"),
+        (SHOW, TABLE_FILE_LIMIT + 1, "too large a.toml 4194304\n"),
         (REPLAY, ARRIVALS_FILE_LIMIT, "arrivals bad row 1\n"),
         (
             REPLAY,
@@ -456,10 +561,10 @@ fn refuses_large_files(rt: HostRuntime) -> Result<(), Fail> {
     ];
     for (line, size, want) in rows {
         let large = vec![in alloc; b'#'; size]?;
-        let tasks = if line == CHECK {
-            large.as_slice()
-        } else {
+        let tasks = if line == REPLAY {
             OFFSET.as_bytes()
+        } else {
+            large.as_slice()
         };
         let mut files = files_of(alloc, tasks, large.as_slice())?;
         let words = words_of(alloc, line)?;

@@ -1,25 +1,27 @@
 //! The work of the commands.
 
-ghost use Rattle.std.specs.Prelude.{◌≡◌, ◌≤◌, true, Some, IfOk};
-ghost use Rattle.std.specs.List.{list_all};
-ghost use Rattle.slot_core.specs.declared.TheConstants.{REPLAY_LIMIT};
-ghost use Rattle.slot_core.specs.declared.events.Arrival.{Arrival};
+ghost use Rattle.std.specs.Prelude.{◌≡◌, ◌≤◌, true, Some};
+ghost use Rattle.slot_core.specs.declared.TheConstants.{CHART_LIMIT, LOAD_LIMIT, REPLAY_LIMIT};
 ghost use Rattle.slot_core.specs.Arrivals.{are_fitting};
-ghost use Rattle.slot_core.specs.Reports.{check_line, counts_line};
+ghost use Rattle.slot_core.specs.Charts.{chart_text, tally_text};
+ghost use Rattle.slot_core.specs.Spelling.{spelling};
 ghost use Rattle.slot_core.specs.Texts.{trace_text};
 ghost use Rattle.slot_core.specs.Traces.{trace};
-ghost use Rattle.arrival_replay.specs.Replays.{is_answered};
-ghost use Rattle.slot_cli.specs.declared.command.Command.{Command};
-ghost use Rattle.slot_cli.specs.Commands.{command_of};
+ghost use Rattle.slot_cli.specs.declared.command.TheConstants.{LOAD_SLOTS};
+ghost use Rattle.slot_cli.specs.Commands.{command_of, slots_of, IsInRange};
+ghost use Rattle.slot_cli.specs.Due.{text_from};
 ghost use Rattle.slot_cli.specs.Steps.{IsWriting, IsWork};
 
-use crate::command::{Command, command_of};
-use crate::steps::{planned, recorded};
+use crate::command::{Command, LOAD_SLOTS, command_of};
+use crate::reports::{check_plan, show_plan};
+use crate::steps::{arrivals_for, plan_for};
+use arrival_replay::drive;
 use cycle_plan::Plan;
+use gantt_print::Chart;
 use interval_row::RowTable;
+use load_gen::Tally;
 use run_outcome::Refusal;
-use run_outcome::append::{push, push_worded};
-use slot_core::{Arrival, Memory, Words};
+use slot_core::{Arrival, Words};
 use slot_exec::Exec;
 use slot_io::{Files, Sink};
 use std::alloc::Global;
@@ -35,73 +37,60 @@ pub fn work<F: Files, K: Sink>(
         words.now (command_of words.now) result }
 {
     match command_of(words) {
-        Some(Command::Check) => check(alloc, words, files, out),
-        Some(Command::Replay(slots)) => replay(alloc, words, files, slots, out),
+        Some(command) => carry_out(alloc, words, files, command, out),
         None => Err(Refusal::Usage),
     }
 }
 
-/// Writes the numbers of the plan.
-fn check<F: Files, K: Sink>(
+/// Does the work of a command: makes the plan, gathers the arrivals, and writes.
+fn carry_out<F: Files, K: Sink>(
     alloc: Global,
     words: &Words,
     files: &mut F,
+    command: Command,
     out: &mut K,
 ) -> Result<(), Refusal>
+    requires { IsInRange command }
     ensures { IsWork F.held F.faults F.blamed K.written K.faults files.old files.new out.old out.new
-        words.now (Some Command.Check) result }
+        words.now (Some command) result }
 {
-    let plan = planned(alloc, words, files)?;
-    check_plan(alloc, &plan, out)
+    let plan = plan_for(alloc, words, files, command)?;
+    let arrivals = arrivals_for(alloc, words, files, command, plan.tasks())?;
+    write(alloc, command, plan, arrivals.as_slice(), out)
 }
 
-/// Writes the trace of so many slots with the recorded arrivals.
-fn replay<F: Files, K: Sink>(
+/// Writes what the command asks for, of the plan and the arrivals. All memory is taken before the
+/// first put.
+fn write<K: Sink>(
     alloc: Global,
-    words: &Words,
-    files: &mut F,
-    slots: u32,
+    command: Command,
+    plan: Plan,
+    arrivals: &[Arrival],
     out: &mut K,
 ) -> Result<(), Refusal>
-    requires some { 1 ≤ slots }
-    requires few { slots ≤ REPLAY_LIMIT }
-    ensures { IsWork F.held F.faults F.blamed K.written K.faults files.old files.new out.old out.new
-        words.now (Some (Command.Replay slots)) result }
+    requires in_range { IsInRange command }
+    requires fitting { are_fitting plan.tasks (slots_of command) arrivals.now ≡ true }
+    ensures { IsWriting K.written K.faults (text_from command plan arrivals.now) result
+        out.old out.new }
 {
-    let plan = planned(alloc, words, files)?;
-    let slots = u64::from(slots);
-    let arrivals = recorded(alloc, words, files, slots, plan.tasks())?;
-    replay_plan(alloc, plan, arrivals.as_slice(), slots, out)
+    match command {
+        Command::Check => check_plan(alloc, &plan, out),
+        Command::Table => write_table(alloc, &plan, out),
+        Command::Show => show_plan(alloc, &plan, out),
+        Command::Replay(slots) => replay_plan(alloc, plan, arrivals, slots, out),
+        Command::ReplayTable(slots) => replay_plan(alloc, plan, arrivals, slots, out),
+        Command::Gantt(slots) => chart_plan(alloc, plan, arrivals, slots, out),
+        Command::Selfrun(n) => tally_plan(alloc, plan, arrivals, n, out),
+    }
 }
 
-/// Writes the numbers of the plan, in one put.
-fn check_plan<K: Sink>(alloc: Global, plan: &Plan, out: &mut K) -> Result<(), Refusal>
-    ensures { IsWriting K.written K.faults (check_line plan.now.tasks) result out.old out.new }
+/// Writes the table of the plan, in one put.
+fn write_table<K: Sink>(alloc: Global, plan: &Plan, out: &mut K) -> Result<(), Refusal>
+    ensures { IsWriting K.written K.faults (spelling plan.now) result out.old out.new }
 {
-    let line = check_line(alloc, plan)?;
-    out.put(line.as_slice())?;
+    let bytes = table_codec::encode(alloc, plan)?;
+    out.put(bytes.as_slice())?;
     Ok(())
-}
-
-/// The line of a check: the cycle in slots, and the numbers of jobs and spans of one cycle.
-fn check_line(alloc: Global, plan: &Plan) -> Result<Vec<u8>, Memory>
-    ensures { IfOk result (λ line. line.items ≡ check_line plan.now.tasks) }
-{
-    let jobs = plan.jobs().len();
-    let spans = plan.spans().len();
-    counts_line(alloc, plan.cycle(), jobs as u64, spans as u64)
-}
-
-/// The line of these numbers.
-fn counts_line(alloc: Global, cycle: u32, jobs: u64, spans: u64) -> Result<Vec<u8>, Memory>
-    ensures { IfOk result (λ line. line.items ≡ counts_line cycle jobs spans) }
-{
-    let mut line = Vec::new(alloc);
-    push_worded(&mut line, b"feasible cycle", u64::from(cycle))?;
-    push_worded(&mut line, b" jobs", jobs)?;
-    push_worded(&mut line, b" spans", spans)?;
-    push(&mut line, b"\n")?;
-    Ok(line)
 }
 
 /// Writes the trace of the plan with these arrivals. The executive takes all memory when it starts.
@@ -109,17 +98,60 @@ fn replay_plan<K: Sink>(
     alloc: Global,
     plan: Plan,
     arrivals: &[Arrival],
-    slots: u64,
+    slots: u32,
     out: &mut K,
 ) -> Result<(), Refusal>
     requires some { 1 ≤ slots }
     requires few { slots ≤ REPLAY_LIMIT }
     requires fitting { are_fitting plan.tasks slots arrivals.now ≡ true }
-    requires answered { list_all (λ (a : Arrival). is_answered a.event) arrivals.now ≡ true }
     ensures { IsWriting K.written K.faults
         (trace_text plan.tasks (trace plan.tasks arrivals.now slots)) result out.old out.new }
 {
     let mut exec: Exec<RowTable> = Exec::start(alloc, plan)?;
-    arrival_replay::replay(&mut exec, arrivals, slots, out)?;
+    arrival_replay::replay(&mut exec, arrivals, u64::from(slots), out)?;
+    Ok(())
+}
+
+/// Writes the chart of the trace of the plan with these arrivals.
+fn chart_plan<K: Sink>(
+    alloc: Global,
+    plan: Plan,
+    arrivals: &[Arrival],
+    slots: u32,
+    out: &mut K,
+) -> Result<(), Refusal>
+    requires some { 1 ≤ slots }
+    requires few { slots ≤ CHART_LIMIT }
+    requires fitting { are_fitting plan.tasks slots arrivals.now ≡ true }
+    ensures { IsWriting K.written K.faults
+        (chart_text plan.tasks slots (trace plan.tasks arrivals.now slots)) result
+        out.old out.new }
+{
+    let mut exec: Exec<RowTable> = Exec::start(alloc, plan)?;
+    let mut chart = Chart::with_room(alloc, exec.tasks(), slots)?;
+    drive(&mut exec, arrivals, u64::from(slots), &mut chart)?;
+    chart.print(exec.tasks(), out)?;
+    Ok(())
+}
+
+/// Writes the line that tells how many entries of each kind the trace of a load has, in one put.
+fn tally_plan<K: Sink>(
+    alloc: Global,
+    plan: Plan,
+    arrivals: &[Arrival],
+    n: u32,
+    out: &mut K,
+) -> Result<(), Refusal>
+    requires some { 1 ≤ n }
+    requires few { n ≤ LOAD_LIMIT }
+    requires fitting { are_fitting plan.tasks LOAD_SLOTS arrivals.now ≡ true }
+    ensures { IsWriting K.written K.faults
+        (tally_text n LOAD_SLOTS (trace plan.tasks arrivals.now LOAD_SLOTS)) result
+        out.old out.new }
+{
+    let mut exec: Exec<RowTable> = Exec::start(alloc, plan)?;
+    let mut tally = Tally::new();
+    drive(&mut exec, arrivals, u64::from(LOAD_SLOTS), &mut tally)?;
+    out.put(tally.line(n, LOAD_SLOTS).bytes())?;
     Ok(())
 }

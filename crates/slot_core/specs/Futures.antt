@@ -1,5 +1,5 @@
 -- What may still come, and whether it can be served.
-use Rattle.std.specs.Prelude.{◌≡◌, ◌⊎◌, ℕ, ◌+◌, ◌*◌, ◌≤◌, List, [], ◌∷◌, ◌++◌}
+use Rattle.std.specs.Prelude.{◌≡◌, ◌⊎◌, ◌↔◌, ℕ, ◌+◌, ◌*◌, ◌≤◌, List, [], ◌∷◌, ◌++◌}
 use Rattle.slot_core.specs.declared.jobs.Job.{Job}
 use Rattle.slot_core.specs.declared.jobs.Evidence.{Evidence}
 use Rattle.slot_core.specs.declared.tasks.Sporadic.{Sporadic}
@@ -74,21 +74,52 @@ pub record DensestLeavesNone (set : TaskSet) (r : ℕ) : Type 0 where
       0
       (3 * cycle_of set))
 
--- the firm offers of a history are answered exactly
-pub record OffersAreExact (set : TaskSet) (cycle : ℕ) (h : History) : Type 0 where
-  -- each that was accepted could be served with the jobs that remained
-  pub accepted :
-      (row slots within : ℕ) (earlier : History)
-      → Follows h (Firm row slots within Accepted) earlier
-      → OfferCanBeServed set cycle earlier slots within
-  -- each that was refused for want of room could not
-  pub refused :
-      (row slots within : ℕ) (evidence : Evidence) (earlier : History)
-      → Follows h (Firm row slots within (NoRoom evidence)) earlier
-      → ¬ (OfferCanBeServed set cycle earlier slots within)
-  -- and one in reach, due later and at most a cycle ahead, was answered in one of these two ways
-  pub in_reach :
-      (row slots within : ℕ) (answer : FirmAnswer) (earlier : History)
-      → Follows h (Firm row slots within answer) earlier
-      → 1 ≤ within → within ≤ cycle
-      → (answer ≡ Accepted) ⊎ ((evidence : Evidence) × (answer ≡ NoRoom evidence))
+-- the remaining jobs of a history and an offer of so many slots within so many from now
+abbrev pub with_offer : TaskSet → ℕ → History → ℕ → ℕ → List Job
+with_offer set cycle h slots within =
+    (scene_of set cycle h).jobs ++ offered_job (last_row h + 1) (time_of h) slots within ∷ []
+
+-- some legal pattern of arrivals from now on leaves them no slot schedule up to the horizon
+pub record OfferCannotBeServed (set : TaskSet) (cycle : ℕ) (h : History) (slots within : ℕ) : Type 0
+  where
+    pub pattern : List (ℕ × ℕ)
+    pub legal : IsLegalPattern set.sporadics (scene_of set cycle h).nexts (time_of h) pattern
+    pub none :
+        ¬ (HasSchedule
+        set
+        (with_offer set cycle h slots within
+        ++ pattern_jobs set.sporadics (last_row h + 1 + 1) pattern)
+        (time_of h)
+        (horizon cycle (time_of h)))
+
+-- the answer to an offer at a history is exact
+pub record OfferIsExact
+    (set : TaskSet) (cycle : ℕ) (h : History) (slots within : ℕ) (answer : FirmAnswer) : Type 0
+  where
+    -- accepted, it can be served with the remaining jobs, whatever legal pattern follows
+    pub accepted : answer ≡ Accepted → OfferCanBeServed set cycle h slots within
+    -- refused for want of room, it cannot
+    pub refused :
+        (evidence : Evidence) → answer ≡ NoRoom evidence
+        → OfferCannotBeServed set cycle h slots within
+    -- in reach, due later and at most a cycle ahead, it is answered in one of these two ways
+    pub in_reach :
+        1 ≤ within → within ≤ cycle
+        → (answer ≡ Accepted) ⊎ ((evidence : Evidence) × (answer ≡ NoRoom evidence))
+    -- so in a set without sporadic tasks it is refused exactly where no slot schedule serves it
+    -- with the remaining jobs
+    pub alone :
+        set.sporadics ≡ [] → 1 ≤ within → within ≤ cycle
+        → (((evidence : Evidence) × (answer ≡ NoRoom evidence))
+        ↔ ¬ (HasSchedule
+        set
+        (with_offer set cycle h slots within)
+        (time_of h)
+        (horizon cycle (time_of h))))
+
+-- each firm offer of a history was answered exactly, at the history before it
+abbrev pub OffersAreExact : TaskSet → ℕ → History → Type 0
+OffersAreExact set cycle h =
+    (row slots within : ℕ) (answer : FirmAnswer) (earlier : History)
+    → Follows h (Firm row slots within answer) earlier
+    → OfferIsExact set cycle earlier slots within answer

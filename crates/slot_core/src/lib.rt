@@ -40,7 +40,7 @@ pub const TASK_LIMIT: usize = 32;
 pub const AFTER_LIMIT: usize = 31;
 
 /// Most sporadic tasks in a task set.
-pub const SPORADIC_LIMIT: usize = 0;
+pub const SPORADIC_LIMIT: usize = 8;
 
 /// Longest period, separation, wcet and cycle, in slots.
 pub const SLOT_LIMIT: u32 = 4096;

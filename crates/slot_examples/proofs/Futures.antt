@@ -3,6 +3,7 @@ use Rattle.std.specs.Prelude.{◌≡◌, ℕ, ◌+◌, ◌-◌, ◌≤◌, ◌<�
 use Rattle.std.proofs.Common.{arith, sym, ap, ◌∙◌, inl, inr}
 use Rattle.std.proofs.lemmas.Bool.{cases_Bool, cond-true, cond-false, leb-true, and_parts}
 use Rattle.std.proofs.lemmas.List.Elements.{All-head, All-from_recursion}
+use Rattle.slot_core.specs.declared.jobs.Evidence.{Evidence}
 use Rattle.slot_core.specs.declared.jobs.Job.{Job}
 use Rattle.slot_core.specs.declared.tasks.TaskSet.{TaskSet}
 use Rattle.slot_core.specs.declared.events.What.TheVariants.{Firm as FirmEntry}
@@ -15,7 +16,7 @@ use Rattle.slot_core.specs.Scenes.{scene_of}
 use Rattle.slot_core.specs.Schedules.{holds, IsSchedule, HasSchedule}
 use Rattle.slot_core.specs.Sporadics.{densest_pattern, IsLegalPattern}
 use Rattle.slot_core.specs.Traces.{started}
-use Rattle.slot_core.specs.Futures.{pattern_jobs, OfferCanBeServed, CyclesCanBeServed, densest_from, DensestLeavesNone, OffersAreExact}
+use Rattle.slot_core.specs.Futures.{pattern_jobs, OfferCanBeServed, CyclesCanBeServed, densest_from, DensestLeavesNone, with_offer, OfferCannotBeServed, OffersAreExact}
 use Rattle.slot_facts.proofs.Scheduling.Counts.{count_in_window, holds_passing, held_item, sum_by-le_slots}
 use Rattle.sample_sets.specs.Sets.{sporadic, half_set, shared_set, overlong_set, late_half_set}
 use Rattle.slot_examples.proofs.Patterns.{IsLegalPattern-of_one}
@@ -80,6 +81,11 @@ one_slot_can_be_served (a ∷ pattern) legal =
     let none = All-head (λ (a : ℕ × ℕ). a.0 < 0) a pattern legal.named in
     absurd (omega (arith, none))
 
+-- that is the schedule that it has with the remaining jobs where nothing arrives
+one_slot_alone : HasSchedule half_set (with_offer half_set 2 started 1 2) 0 6
+one_slot_alone =
+    (Some 0 ∷ Some 3 ∷ Some 1 ∷ None ∷ Some 2 ∷ None ∷ [], IsSchedule-from_tests half_set _ 0 6 _ refl refl refl refl refl)
+
 -- without a sporadic task there is no arrival, and none is a legal pattern
 no_arrivals : {nexts : List ℕ} {from : ℕ} → IsLegalPattern [] nexts from []
 no_arrivals = record { named = All-from_recursion _ [] tt; spaced = λ index s at. cc }
@@ -104,11 +110,11 @@ two_slots_are_refused = refl
 -- reach that it is late
 pub accepted_without_room : OffersAreExact half_set 2 (FirmEntry 1 2 2 Accepted ∷ started) → ⊥
 accepted_without_room exact =
-    two_slots_cannot_be_served (exact.accepted 1 2 2 started ([], refl))
+    two_slots_cannot_be_served ((exact 1 2 2 Accepted started ([], refl)).accepted refl)
 
 pub late_in_reach : OffersAreExact half_set 2 (FirmEntry 1 1 2 Late ∷ started) → ⊥
 late_in_reach exact =
-    elim (exact.in_reach 1 1 2 Late started ([], refl) (omega arith) (omega arith)) [
+    elim ((exact 1 1 2 Late started ([], refl)).in_reach (omega arith) (omega arith)) [
       | inl accepted ↦ cc accepted
       | inr refused ↦ cc refused.1
     ]
@@ -120,7 +126,9 @@ pub refused_with_room :
     2
     (FirmEntry 1 1 2 (NoRoom (record { until = 2; need = 2; room = 2 })) ∷ started) → ⊥
 refused_with_room exact =
-    exact.refused 1 1 2 (record { until = 2; need = 2; room = 2 }) started ([], refl) one_slot_can_be_served
+    let evidence : Evidence = record { until = 2; need = 2; room = 2 } in
+    let none = ((exact 1 1 2 (NoRoom evidence) started ([], refl)).alone refl (omega arith) (omega arith)).0 (evidence, refl) in
+    none one_slot_alone
 
 -- beside a sporadic task that may take the other slot, an offer of one has a schedule where nothing
 -- arrives
@@ -140,6 +148,17 @@ offer_beside_an_arrival served =
     let (slots, schedule) = served ((0, 0) ∷ []) legal in
     let few : 3 ≤ 2 = work_in-le shared_set _ 0 6 0 2 slots schedule (omega arith) in
     omega arith
+
+-- that arrival is the pattern which shows it
+pub an_arrival_shows_it : OfferCannotBeServed shared_set 2 started 1 2
+an_arrival_shows_it =
+    record {
+      pattern = (0, 0) ∷ [];
+      legal = IsLegalPattern-of_one (sporadic (codes "s") 1 2 2) (0 ∷ []) 0 ((0, 0) ∷ []) (omega arith, tt) (omega arith, tt);
+      none = λ (slots, schedule).
+          let few : 3 ≤ 2 = work_in-le shared_set _ 0 6 0 2 slots schedule (omega arith) in
+          absurd (omega arith);
+    }
 
 -- three cycles of one slot of work in every two can be served
 pub cycles_can_be_served : CyclesCanBeServed half_set 3

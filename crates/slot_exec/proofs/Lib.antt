@@ -1,9 +1,14 @@
 pub mod EarlyEnds
 pub mod EventParts
+pub mod FirmOffers
+pub mod FirmWithdrawals
 pub mod FirstExecutives
+pub mod OfferReasons
 pub mod SceneOffers
 pub mod ShownExecutives
 pub mod SlotChoice
 pub mod SlotParts
 pub mod SoftArrivals
 pub mod SpanOffers
+pub mod StepBounds
+pub mod TakenArrivals

@@ -1,28 +1,45 @@
 //! The executive and its events.
 
-ghost use Rattle.std.specs.Prelude.{◌≡◌, ℕ, ◌+◌, ◌*◌, ◌≤◌, ◌<◌, ◌^◌, pos, ◌≤ℤ◌, [], Some, None, IfOk, length, slice_get};
+ghost use Rattle.std.specs.Prelude.{◌≡◌, ◌≢◌, ◌↔◌, ◌⊎◌, ℕ, ◌+◌, ◌*◌, ◌≤◌, ◌<◌, ◌^◌, pos, ◌≤ℤ◌, [], Some, None, IfOk, IsTrue, Contains, count_by, length, slice_get, slice_index, slice_set};
 ghost use Rattle.slot_core.specs.declared.TheConstants.{OFFER_LIMIT};
 ghost use Rattle.slot_core.specs.declared.events.Event.{Event};
 ghost use Rattle.slot_core.specs.declared.events.What.{What};
-ghost use Rattle.slot_core.specs.Answers.{done_answer, soft_answer};
+ghost use Rattle.slot_core.specs.declared.jobs.Job.{Job};
+ghost use Rattle.slot_core.specs.Answers.{done_answer, firm_answer, soft_answer, sporadic_answer, withdraw_answer};
 ghost use Rattle.slot_core.specs.Choice.{choice};
+ghost use Rattle.slot_core.specs.declared.jobs.Evidence.{Evidence};
+ghost use Rattle.slot_core.specs.Demand.{HasRoom};
+ghost use Rattle.slot_exec.specs.Offers.{ShowsNoRoom};
 ghost use Rattle.slot_core.specs.Executives.{Does, IsKept, Shows, StandsFor, StandsForSome};
+ghost use Rattle.slot_core.specs.Futures.{OfferIsExact};
 ghost use Rattle.slot_core.specs.Histories.{History};
+ghost use Rattle.slot_core.specs.Keys.{same_key};
 ghost use Rattle.slot_core.specs.Plans.{IsPlan};
 ghost use Rattle.slot_core.specs.Scenes.{scene_of};
 ghost use Rattle.slot_core.specs.Spans.{shown_of, spans_of};
 ghost use Rattle.spare_capacity.specs.Recurrence.{first_spare};
 ghost use Rattle.slot_core.specs.Traces.{arrive, slot, started, told_of_slot};
+ghost use Rattle.interval_row.specs.Changes.{ends_before};
+ghost use Rattle.scene_steps.specs.Steps.{separation_of};
+
+#[cfg(test)]
+mod tests;
 
 use crate::cycles::{first_jobs, pass};
 use crate::ends::end_early;
+use crate::offers::{admit, answer_offer, offered};
 use crate::runs::{choose, run};
 use crate::shown::{first_spans, spot_of};
+use crate::sporadic_arrivals::{arriving_job, take_arrival};
+use crate::withdrawals::take_back;
 use circular_buffer::HeapCircularBuffer;
 use cycle_plan::Plan;
 use interval_row::SpareTable;
 use job_queue::JobQueue;
-use slot_core::{Done, Key, Memory, Ran, SHOWN_LIMIT, Shown, Soft, SoftJob, Span, Steps, TaskSet};
+use slot_core::{
+    Done, Firm, Gone, Key, Memory, Ran, SHOWN_LIMIT, Shown, Soft, SoftJob, Span, Spo, Steps,
+    TaskSet,
+};
 use sporadic_reserve::Reserve;
 use std::alloc::Global;
 use std::marker::Model;
@@ -184,6 +201,96 @@ impl<T: SpareTable> Exec<T> {
         Soft::Taken
     }
 
+    /// A firm task of `c` slots arrives in this row, due within `d` slots from now. Late where d is
+    /// 0; else Far where d is more than a cycle; else NoRoom exactly where its slots do not fit
+    /// beside the remaining jobs and the densest sporadic arrivals, up to the least time that shows
+    /// it; else Accepted: then its job is guaranteed. Without sporadic tasks, and over a counted
+    /// table, an accepted offer takes at most five steps a span that ends before its deadline, and
+    /// 13.
+    pub fn firm<L: Ledger>(&mut self, row: u32, c: u32, d: u32, steps: &mut Steps<L>) -> Firm
+        requires later { self.old.last_row < row }
+        requires some { 1 ≤ c }
+        requires few { c ≤ OFFER_LIMIT }
+        requires near { d ≤ OFFER_LIMIT }
+        ensures does { Does
+            self.old
+            self.new
+            (arrive row (Event.Firm c d))
+            (What.Firm row c d result) }
+        ensures answer { result
+            ≡ firm_answer self.old.plan.tasks.sporadics self.old.plan.cycle self.old.scene c d }
+        ensures late { (result ≡ Firm.Late) ↔ (d ≡ 0) }
+        ensures far { (result ≡ Firm.Far) ↔ (self.old.plan.cycle < d) }
+        ensures no_room { 1 ≤ d → d ≤ self.old.plan.cycle
+            → (((e : Evidence) × (result ≡ Firm.NoRoom e))
+            ↔ ¬ (HasRoom self.old.plan.tasks.sporadics self.old.plan.cycle self.old.scene c d)) }
+        ensures evidence { (e : Evidence) → result ≡ Firm.NoRoom e
+            → ShowsNoRoom self.old.plan.tasks.sporadics self.old.plan.cycle self.old.scene c d e }
+        ensures exact { (h : History) → StandsFor self.old h
+            → OfferIsExact self.old.plan.tasks self.old.plan.cycle h c d result }
+        ensures stays { result ≢ Firm.Accepted → self.new ≡ record self.old { last_row = row } }
+        ensures free { (d ≡ 0) ⊎ (self.old.plan.cycle < d) → steps.new ≡ steps.old }
+        ensures row { self.new.last_row ≡ row }
+        ensures time { self.new.scene.time ≡ self.old.scene.time }
+        ensures steps { steps.old ≤ steps.new }
+        ensures few_steps { IsTrue T.counted → self.old.plan.tasks.sporadics ≡ []
+            → result ≡ Firm.Accepted
+            → steps.new
+            ≤ steps.old
+            + 5 * ends_before
+            (self.old.scene.time + d)
+            (spans_of self.old.plan.cycle self.old.scene)
+            + 13 }
+    {
+        self.last_row = row;
+        let cycle = self.plan.cycle();
+        let answer = answer_offer(&self.table, &self.reserve, cycle, c, d, steps);
+        if answer != Firm::Accepted {
+            return answer;
+        }
+        let job = offered(row, self.table.time(), c, d);
+        admit(&mut self.table, &mut self.queue, job, steps);
+        answer
+    }
+
+    /// A job of the sporadic task of this index arrives in this row. Soon(next) exactly where now
+    /// lies before its next legal arrival, else Taken with its deadline: the job is guaranteed, and
+    /// the task may come again one separation from now.
+    pub fn sporadic<L: Ledger>(&mut self, row: u32, index: u8, steps: &mut Steps<L>) -> Spo
+        requires later { self.old.last_row < row }
+        requires known { index < length self.old.plan.tasks.sporadics }
+        ensures does { Does
+            self.old
+            self.new
+            (arrive row (Event.Sporadic index))
+            (What.Sporadic row index result) }
+        ensures answer { result
+            ≡ sporadic_answer self.old.plan.tasks.sporadics self.old.scene index }
+        ensures soon { (n : ℕ) → (result ≡ Spo.Soon n)
+            ↔ ((slice_index self.old.scene.nexts index ≡ n) × (self.old.scene.time < n)) }
+        ensures stays { (n : ℕ) → result ≡ Spo.Soon n
+            → self.new ≡ record self.old { last_row = row } }
+        ensures next { (n : ℕ) → result ≡ Spo.Taken n → self.new.scene.nexts
+            ≡ slice_set
+            self.old.scene.nexts
+            index
+            (self.old.scene.time + separation_of self.old.plan.tasks.sporadics index) }
+        ensures row { self.new.last_row ≡ row }
+        ensures time { self.new.scene.time ≡ self.old.scene.time }
+        ensures steps { steps.old ≤ steps.new }
+    {
+        self.last_row = row;
+        let job = arriving_job(self.plan.sporadics(), index, row, self.table.time());
+        take_arrival(
+            &mut self.table,
+            &mut self.reserve,
+            &mut self.queue,
+            index,
+            job,
+            steps,
+        )
+    }
+
     /// The job of this key has ended, before it ran all its slots. Freed(n) where it has started
     /// and not ended, with n slots left, and NotRunning exactly where no such job has.
     pub fn done<L: Ledger>(&mut self, row: u32, key: Key, steps: &mut Steps<L>) -> Done
@@ -202,6 +309,38 @@ impl<T: SpareTable> Exec<T> {
     {
         self.last_row = row;
         end_early(&mut self.table, &mut self.queue, &mut self.soft, key, steps)
+    }
+
+    /// The firm job that arrived in row `firm` is taken back before it has ended, whether it has
+    /// started or not. Freed(n) where it remains, with n slots left, which are free at once; NoJob
+    /// exactly where no remaining job has that key. Over a counted table it takes at most one step
+    /// a remaining job and, where there is one, three a span that ends before its deadline, and 3.
+    pub fn withdraw<L: Ledger>(&mut self, row: u32, firm: u32, steps: &mut Steps<L>) -> Gone
+        requires later { self.old.last_row < row }
+        ensures does { Does
+            self.old
+            self.new
+            (arrive row (Event.Withdraw firm))
+            (What.Withdraw row firm result) }
+        ensures answer { result ≡ withdraw_answer self.old.scene firm }
+        ensures no_job { (result ≡ Gone.NoJob)
+            ↔ (count_by (λ (j : Job). same_key j.key (Key.Firm firm)) self.old.scene.jobs ≡ 0) }
+        ensures stays { result ≡ Gone.NoJob → self.new ≡ record self.old { last_row = row } }
+        ensures some { (n : ℕ) → result ≡ Gone.Freed n → 1 ≤ n }
+        ensures row { self.new.last_row ≡ row }
+        ensures time { self.new.scene.time ≡ self.old.scene.time }
+        ensures steps { steps.old ≤ steps.new }
+        ensures few_steps { IsTrue T.counted → (job : Job) → Contains self.old.scene.jobs job
+            → job.key ≡ Key.Firm firm
+            → steps.new
+            ≤ steps.old + length self.old.scene.jobs
+            + 3 * ends_before job.dl (spans_of self.old.plan.cycle self.old.scene)
+            + 3 }
+        ensures no_job_steps { result ≡ Gone.NoJob
+            → steps.new ≤ steps.old + length self.old.scene.jobs }
+    {
+        self.last_row = row;
+        take_back(&mut self.table, &mut self.queue, firm, steps)
     }
 
     /// One slot passes. The first soft job runs where soft work may, else the earliest guaranteed

@@ -7,9 +7,12 @@
 mod cycles;
 mod ends;
 pub mod exec;
+mod offers;
 mod runs;
 mod shown;
+mod sporadic_arrivals;
 #[cfg(test)]
 mod tests;
+mod withdrawals;
 
 pub use exec::Exec;

@@ -1,62 +1,301 @@
-//! An executive of a small set, with soft work and early ends.
+//! Executives of small sets, with each kind of arrival.
 
-ghost use Rattle.std.specs.Prelude.{◌≡◌, ◌<◌};
+ghost use Rattle.std.specs.Prelude.{◌≡◌, ◌<◌, true};
+ghost use Rattle.slot_core.specs.Ranges.{is_sound};
 
 use crate::Exec;
 use cycle_plan::make_plan;
 use interval_row::RowTable;
-use sample_sets::pair_set;
-use slot_core::{Done, Key, Ran, Soft, Span, Steps};
+use sample_sets::{alarm_set, borrowing_set, pair_set};
+use slot_core::{
+    Done, Evidence, Firm, Gone, Key, OFFER_LIMIT, Ran, Soft, Span, Spo, Steps, TaskSet, What,
+};
 use std::alloc::Global;
 use std::marker::Brand;
 use std::process::Abort;
 use std::sync::ledger::{Blank, Ledger};
 use std::test::Fail;
 
+const FIRST: Key = Key::Offline(0, 0, 0);
+
+const SECOND: Key = Key::Offline(0, 1, 0);
+
+// The first job ends a slot early, and its successor does not start before its time. Soft work
+// takes the slots to spare, first come, first served.
 #[test]
 fn follows_a_plan(rt: HostRuntime) -> Result<(), Fail> {
-    follow::<HostRuntime, Brand>(&rt, rt.alloc(), Blank::new(1))
+    let entries = [
+        (What::Run(FIRST), span(1, 7, 1, 5), span(7, 8, 1, 0)),
+        (
+            What::Done(1, FIRST, Done::Freed(1)),
+            span(1, 7, 0, 6),
+            span(7, 8, 1, 0),
+        ),
+        (
+            What::Done(2, FIRST, Done::NotRunning),
+            span(1, 7, 0, 6),
+            span(7, 8, 1, 0),
+        ),
+        (What::Idle, span(2, 7, 0, 5), span(7, 8, 1, 0)),
+        (What::Run(SECOND), span(3, 7, 0, 4), span(7, 8, 0, 1)),
+        (
+            What::Soft(3, 1, Soft::Taken),
+            span(3, 7, 0, 4),
+            span(7, 8, 0, 1),
+        ),
+        (
+            What::Soft(4, 1, Soft::Taken),
+            span(3, 7, 0, 4),
+            span(7, 8, 0, 1),
+        ),
+        (
+            What::Done(5, Key::Soft(4), Done::NotRunning),
+            span(3, 7, 0, 4),
+            span(7, 8, 0, 1),
+        ),
+        (What::Run(Key::Soft(3)), span(4, 7, 0, 3), span(7, 8, 0, 1)),
+        (What::Run(Key::Soft(4)), span(5, 7, 0, 2), span(7, 8, 0, 1)),
+    ];
+    let exec = start(rt.alloc(), pair_set(rt.alloc())?)?;
+    each_entry::<HostRuntime, Brand>(&rt, exec, &entries, Blank::new(1))
 }
 
-fn follow<R: Abort, L: Ledger>(rt: &R, alloc: Global, blank: Blank) -> Result<(), Fail>
+#[test]
+fn takes_an_alarm(rt: HostRuntime) -> Result<(), Fail> {
+    let entries = [
+        (
+            What::Sporadic(1, 0, Spo::Taken(2)),
+            span(0, 2, 1, 1),
+            span(2, 7, 2, 3),
+        ),
+        (
+            What::Run(Key::Sporadic(0, 1)),
+            span(1, 2, 0, 1),
+            span(2, 7, 2, 3),
+        ),
+        (
+            What::Sporadic(2, 0, Spo::Soon(8)),
+            span(1, 2, 0, 1),
+            span(2, 7, 2, 3),
+        ),
+    ];
+    let exec = start(rt.alloc(), alarm_set(rt.alloc())?)?;
+    each_entry::<HostRuntime, Brand>(&rt, exec, &entries, Blank::new(1))
+}
+
+// Where a span ends, the slots that fit and one more. Taken back, they leave room for an offer that
+// is due a cycle ahead. Past a cycle, and now.
+#[test]
+fn answers_firm_offers(rt: HostRuntime) -> Result<(), Fail> {
+    let entries = [
+        (
+            What::Firm(1, 6, 7, no_room(7, 8, 7)),
+            span(0, 7, 2, 5),
+            span(7, 8, 1, 0),
+        ),
+        (
+            What::Firm(2, 5, 7, Firm::Accepted),
+            span(0, 7, 7, 0),
+            span(7, 8, 1, 0),
+        ),
+        (
+            What::Withdraw(3, 2, Gone::Freed(5)),
+            span(0, 7, 2, 5),
+            span(7, 8, 1, 0),
+        ),
+        (
+            What::Withdraw(4, 2, Gone::NoJob),
+            span(0, 7, 2, 5),
+            span(7, 8, 1, 0),
+        ),
+        (
+            What::Firm(5, 5, 8, Firm::Accepted),
+            span(0, 7, 2, 0),
+            span(7, 8, 6, -5),
+        ),
+        (
+            What::Firm(6, 6, 8, no_room(8, 14, 8)),
+            span(0, 7, 2, 0),
+            span(7, 8, 6, -5),
+        ),
+        (
+            What::Firm(7, 1, 9, Firm::Far),
+            span(0, 7, 2, 0),
+            span(7, 8, 6, -5),
+        ),
+        (
+            What::Firm(8, 1, 0, Firm::Late),
+            span(0, 7, 2, 0),
+            span(7, 8, 6, -5),
+        ),
+    ];
+    let exec = start(rt.alloc(), pair_set(rt.alloc())?)?;
+    each_entry::<HostRuntime, Brand>(&rt, exec, &entries, Blank::new(1))
+}
+
+// A deadline inside a span that borrows, and inside the first one.
+#[test]
+fn cuts_spans(rt: HostRuntime) -> Result<(), Fail> {
+    let entries = [
+        (
+            What::Firm(1, 1, 5, Firm::Accepted),
+            span(0, 4, 1, 0),
+            span(4, 5, 1, -3),
+        ),
+        (
+            What::Withdraw(2, 1, Gone::Freed(1)),
+            span(0, 4, 1, 1),
+            span(4, 5, 0, -2),
+        ),
+        (
+            What::Firm(3, 1, 2, Firm::Accepted),
+            span(0, 2, 1, 0),
+            span(2, 4, 1, -1),
+        ),
+    ];
+    let exec = start(rt.alloc(), borrowing_set(rt.alloc())?)?;
+    each_entry::<HostRuntime, Brand>(&rt, exec, &entries, Blank::new(1))
+}
+
+#[test]
+fn tells_what_it_keeps(rt: HostRuntime) -> Result<(), Fail> {
+    let exec = start(rt.alloc(), pair_set(rt.alloc())?)?;
+    at_start::<HostRuntime, Brand>(&rt, &exec, Blank::new(1));
+    Ok(())
+}
+
+/// Makes each entry happen, and compares what is told, and the first two spans then.
+fn each_entry<R: Abort, L: Ledger>(
+    rt: &R,
+    exec: Exec<RowTable>,
+    entries: &[(What, Span, Span)],
+    blank: Blank,
+) -> Result<(), Fail>
+    requires name { blank.name ≡ L.name }
+    requires parts { blank.parts ≡ L.parts }
+    requires some { 0 < L.parts }
+{
+    let mut exec = exec;
+    let mut steps: Steps<L> = Steps::new(blank);
+    for (entry, first, second) in entries {
+        assert_eq!(rt; told(&mut exec, *entry, &mut steps), Some(*entry));
+        assert_eq!(rt; first_two(&exec, &mut steps), Some((*first, *second)));
+    }
+    Ok(())
+}
+
+/// What is told of an entry's event, where that is in its range.
+fn told<L: Ledger>(exec: &mut Exec<RowTable>, entry: What, steps: &mut Steps<L>) -> Option<What> {
+    match entry {
+        What::Soft(row, c, _) => soft(exec, row, c),
+        What::Firm(row, c, d, _) => firm(exec, row, c, d, steps),
+        What::Sporadic(row, index, _) => sporadic(exec, row, index, steps),
+        What::Done(row, key, _) => done(exec, row, key, steps),
+        What::Withdraw(row, firm, _) => withdraw(exec, row, firm, steps),
+        What::Run(_) | What::Idle => slot(exec, steps),
+        What::Start | What::End => None,
+    }
+}
+
+fn soft(exec: &mut Exec<RowTable>, row: u32, c: u32) -> Option<What> {
+    if row <= exec.last_row() || c < 1 || OFFER_LIMIT < c {
+        return None;
+    }
+    Some(What::Soft(row, c, exec.soft(row, c)))
+}
+
+fn firm<L: Ledger>(
+    exec: &mut Exec<RowTable>,
+    row: u32,
+    c: u32,
+    d: u32,
+    steps: &mut Steps<L>,
+) -> Option<What> {
+    if row <= exec.last_row() || c < 1 || OFFER_LIMIT < c || OFFER_LIMIT < d {
+        return None;
+    }
+    Some(What::Firm(row, c, d, exec.firm(row, c, d, steps)))
+}
+
+fn sporadic<L: Ledger>(
+    exec: &mut Exec<RowTable>,
+    row: u32,
+    index: u8,
+    steps: &mut Steps<L>,
+) -> Option<What> {
+    if row <= exec.last_row() || exec.tasks().sporadics.len() <= usize::from(index) {
+        return None;
+    }
+    Some(What::Sporadic(row, index, exec.sporadic(row, index, steps)))
+}
+
+fn done<L: Ledger>(
+    exec: &mut Exec<RowTable>,
+    row: u32,
+    key: Key,
+    steps: &mut Steps<L>,
+) -> Option<What> {
+    if row <= exec.last_row() {
+        return None;
+    }
+    Some(What::Done(row, key, exec.done(row, key, steps)))
+}
+
+fn withdraw<L: Ledger>(
+    exec: &mut Exec<RowTable>,
+    row: u32,
+    firm: u32,
+    steps: &mut Steps<L>,
+) -> Option<What> {
+    if row <= exec.last_row() {
+        return None;
+    }
+    Some(What::Withdraw(row, firm, exec.withdraw(row, firm, steps)))
+}
+
+fn slot<L: Ledger>(exec: &mut Exec<RowTable>, steps: &mut Steps<L>) -> Option<What> {
+    if 1 << 32 <= exec.now() {
+        return None;
+    }
+    Some(match exec.slot(steps) {
+        Ran::Idle => What::Idle,
+        Ran::Key(key) => What::Run(key),
+    })
+}
+
+/// Six spans up to the horizon, of which the last has a job of one slot.
+fn at_start<R: Abort, L: Ledger>(rt: &R, exec: &Exec<RowTable>, blank: Blank)
     requires name { blank.name ≡ L.name }
     requires parts { blank.parts ≡ L.parts }
     requires some { 0 < L.parts }
 {
     let mut steps: Steps<L> = Steps::new(blank);
-    let plan = make_plan(alloc, pair_set(alloc)?).ok().ok_or("no plan")?;
-    let mut exec: Exec<RowTable> = Exec::start(alloc, plan)?;
-    let (first, second) = (Key::Offline(0, 0, 0), Key::Offline(0, 1, 0));
-
-    // The first job ends a slot early, and its successor does not start before its time.
     assert_eq!(rt; (exec.now(), exec.last_row(), exec.span_count()), (0, 0, 6));
     assert_eq!(rt; exec.tasks().graphs.len(), 1);
-    assert_eq!(rt; exec.slot(&mut steps), Ran::Key(first));
-    assert_eq!(rt; exec.done(1, first, &mut steps), Done::Freed(1));
-    assert_eq!(rt; exec.done(2, first, &mut steps), Done::NotRunning);
-    assert_eq!(rt;
-        exec.shown(&mut steps).spans().first(),
-        Some(&span(1, 7, 0, 6))
-    );
     let last = exec.span_count() - 1;
-    assert_eq!(rt;
-        (last, exec.span(last, &mut steps)),
-        (5, span(23, 24, 1, 0))
-    );
-    assert_eq!(rt; exec.slot(&mut steps), Ran::Idle);
-    assert_eq!(rt; exec.slot(&mut steps), Ran::Key(second));
-    assert_eq!(rt;
-        exec.shown(&mut steps).spans().get(1),
-        Some(&span(7, 8, 0, 1))
-    );
+    assert_eq!(rt; exec.span(last, &mut steps), span(23, 24, 1, 0));
+}
 
-    // Soft work takes the slots to spare, first come, first served.
-    assert_eq!(rt; exec.soft(3, 1), Soft::Taken);
-    assert_eq!(rt; exec.soft(4, 1), Soft::Taken);
-    assert_eq!(rt; exec.done(5, Key::Soft(4), &mut steps), Done::NotRunning);
-    assert_eq!(rt; exec.slot(&mut steps), Ran::Key(Key::Soft(3)));
-    assert_eq!(rt; exec.slot(&mut steps), Ran::Key(Key::Soft(4)));
-    Ok(())
+/// The executive of a set before the first slot.
+fn start(alloc: Global, tasks: TaskSet) -> Result<Exec<RowTable>, Fail>
+    requires { is_sound tasks ≡ true }
+{
+    let plan = make_plan(alloc, tasks).ok().ok_or("no plan")?;
+    Ok(Exec::start(alloc, plan)?)
+}
+
+/// The first two of its spans, where there are two.
+fn first_two<L: Ledger>(exec: &Exec<RowTable>, steps: &mut Steps<L>) -> Option<(Span, Span)> {
+    let shown = exec.shown(steps);
+    match shown.spans() {
+        [first, second, ..] => Some((*first, *second)),
+        _ => None,
+    }
+}
+
+/// The answer that by `until` more is needed than there is room.
+fn no_room(until: u64, need: u64, room: u64) -> Firm {
+    Firm::NoRoom(Evidence { until, need, room })
 }
 
 fn span(start: u64, end: u64, work: u64, spare: i64) -> Span {

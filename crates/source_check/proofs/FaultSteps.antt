@@ -1,5 +1,5 @@
 -- What is left of a search for faults from a place of a list on, one item further and at the end.
-use Rattle.std.proofs.Common.{◌≡◌, ℕ, ◌+◌, ◌<◌, Bool, true, false, ◌||◌, ◌==◌, List, [], ◌∷◌, map, reverse, length, take, drop, get_or, Option, Some, None, refl, sym, ap, ◌∙◌}
+use Rattle.std.proofs.Common.{◌≡◌, ◌≢◌, IfErr, Result, Ok, Err, ℕ, ◌+◌, ◌<◌, Bool, true, false, ◌||◌, ◌==◌, List, [], ◌∷◌, map, reverse, length, take, drop, get_or, Option, Some, None, refl, sym, ap, ◌∙◌}
 use Rattle.std.specs.Prelude.{nat_le}
 use Rattle.std.specs.Option.{option_or}
 use Rattle.std.specs.List.{list_any}
@@ -12,8 +12,9 @@ use Rattle.slot_core.specs.declared.faults.Part.TheVariants.{Graph as GraphPart,
 use Rattle.slot_core.specs.declared.faults.Field.TheVariants.{Name}
 use Rattle.slot_core.specs.declared.faults.Place.{Place}
 use Rattle.slot_core.specs.declared.faults.TaskFault.{TaskFault}
-use Rattle.slot_core.specs.declared.faults.TaskFault.TheVariants.{Doubled, NoSuchTask}
+use Rattle.slot_core.specs.declared.faults.TaskFault.TheVariants.{Doubled, Memory, NoSuchTask}
 use Rattle.std.specs.Str.{bytes_eq}
+use Rattle.source_check.specs.Checks.{Tells}
 use Rattle.slot_core.specs.Faults.{fault_if, first_fault, names_fault, graph_names_fault, entries_fault}
 
 -- the items before a place, newest first
@@ -102,3 +103,21 @@ entries_step place count entries i within =
     let rest = drop (i + 1) entries in
     let low = fault_if (nat_le count a) (NoSuchTask place) in
     at_drop_more (entries_fault place count before) entries i 0 within ∙ ap (λ test. option_or low (option_or (fault_if test (Doubled place)) (entries_fault place count (a ∷ before) rest))) (any_earlier (λ e. a == e) entries i) ∙ ap (λ es. option_or low (option_or (fault_if (list_any (λ e. a == e) (take i entries)) (Doubled place)) (entries_fault place count es rest))) (sym (earlier_more entries i 0 within))
+
+-- what is told of the second of five parts, where the first has no fault; and so on
+pub fault_of_second : (a b rest : Option TaskFault) (e : TaskFault) → a ≡ None → b ≡ Some e → option_or a (option_or b rest) ≡ Some e
+fault_of_second a b rest e first second = rw (first, second) refl
+
+pub fault_of_third : (a b c rest : Option TaskFault) (e : TaskFault) → a ≡ None → b ≡ None → c ≡ Some e → option_or a (option_or b (option_or c rest)) ≡ Some e
+fault_of_third a b c rest e first second third = rw (first, second, third) refl
+
+pub fault_of_fourth : (a b c d rest : Option TaskFault) (e : TaskFault) → a ≡ None → b ≡ None → c ≡ None → d ≡ Some e → option_or a (option_or b (option_or c (option_or d rest))) ≡ Some e
+fault_of_fourth a b c d rest e first second third fourth = rw (first, second, third, fourth) refl
+
+pub fault_of_fifth : (a b c d rest : Option TaskFault) → a ≡ None → b ≡ None → c ≡ None → d ≡ None → option_or a (option_or b (option_or c (option_or d rest))) ≡ rest
+fault_of_fifth a b c d rest first second third fourth = rw (first, second, third, fourth) refl
+
+-- a part that tells its fault tells that of the whole, where the whole has the part's
+pub tells-whole : {T : Type 0} (result : Result T TaskFault) (part whole : Option TaskFault) → Tells result part → whole ≡ part → IfErr result (λ e. e ≢ Memory → whole ≡ Some e)
+tells-whole (Ok done) part whole tells same = tt
+tells-whole (Err e) part whole tells same = λ other. same ∙ tells

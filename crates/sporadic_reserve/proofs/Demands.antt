@@ -21,6 +21,11 @@ sporadic_demand-rows [] r x = refl
 sporadic_demand-rows (row ∷ rows) r x =
     ap (λ n. row_demand r x row + n) (sporadic_demand-rows rows r x) ∙ sym (sum_by-cons (row_demand r x) row rows)
 
+-- the sum over all rows
+pub demand-all : (rows : List Row) (i needed r x : ℕ) → length rows ≤ i → needed ≡ sum_by (row_demand r x) (take i rows) → needed ≡ sporadic_demand (reserved rows).sporadics (reserved rows).nexts r x
+demand-all rows i needed r x all is =
+    is ∙ ap (sum_by (row_demand r x)) (take_all i rows all) ∙ sym (sporadic_demand-rows rows r x)
+
 -- names take no part
 pub sporadic_demand-without_name : (sporadics : List Sporadic) (nexts : List ℕ) (r x : ℕ) → sporadic_demand (map without_name sporadics) nexts r x ≡ sporadic_demand sporadics nexts r x
 sporadic_demand-without_name [] nexts r x = refl

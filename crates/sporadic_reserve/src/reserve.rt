@@ -9,7 +9,7 @@ ghost use Rattle.sporadic_reserve.specs.Reserves.{without_name, IsNextRise};
 ghost use Rattle.sporadic_reserve.specs.Rows.{first_row};
 
 use crate::RESERVE_LIMIT;
-use crate::rows::{Row, demand_of, move_next, next_rise};
+use crate::rows::{Row, demand_and_rise, demand_of, move_next, next_rise};
 use arrayvec::ArrayVec;
 use slot_core::Sporadic;
 use std::marker::Model;
@@ -103,6 +103,20 @@ impl Reserve {
             (λ y. IsNextRise (λ z. sporadic_demand self.now.sporadics self.now.nexts r z) x y) }
     {
         next_rise(&self.rows, r, x)
+    }
+
+    /// That demand, and the first time after `x` at which it rises, in one pass over the tasks. No
+    /// time exactly where there is no task.
+    pub fn demand_and_rise(&self, r: u64, x: u64) -> (u64, Option<u64>)
+        requires near { r < 2 ^ 41 }
+        requires soon { x < 2 ^ 41 }
+        ensures demand { result.0 ≡ sporadic_demand self.now.sporadics self.now.nexts r x }
+        ensures small { result.0 ≤ 2 ^ 56 }
+        ensures rise { MatchOption result.1
+            (self.now.sporadics ≡ [])
+            (λ y. IsNextRise (λ z. sporadic_demand self.now.sporadics self.now.nexts r z) x y) }
+    {
+        demand_and_rise(&self.rows, r, x)
     }
 }
 

@@ -87,6 +87,29 @@ pub fn next_rise(rows: &[Row], r: u64, x: u64) -> Option<u64>
     first
 }
 
+/// What rows need by a time, and the first time after it at which that rises, in one pass.
+pub fn demand_and_rise(rows: &[Row], r: u64, x: u64) -> (u64, Option<u64>)
+    requires rows { AreRows rows.now }
+    requires few { length rows.now ≤ RESERVE_LIMIT }
+    requires near { r < 2 ^ 41 }
+    requires soon { x < 2 ^ 41 }
+    ensures demand { let reserve = reserved rows.now in
+        result.0 ≡ sporadic_demand reserve.sporadics reserve.nexts r x }
+    ensures small { result.0 ≤ 2 ^ 56 }
+    ensures rise { let reserve = reserved rows.now in
+        MatchOption result.1
+        (rows.now ≡ [])
+        (λ y. IsNextRise (λ z. sporadic_demand reserve.sporadics reserve.nexts r z) x y) }
+{
+    let mut needed = 0;
+    let mut first = None;
+    for row in rows {
+        needed += u64::from(row.wcet) * arrivals_due(*row, r, x);
+        first = Some(earlier(first, next_due(*row, r, x)));
+    }
+    (needed, first)
+}
+
 /// The earlier of two times, the second where there is no first.
 fn earlier(first: Option<u64>, due: u64) -> u64
     ensures { MatchOption first (result ≡ due) (λ y. result ≡ min y due) }

@@ -45,6 +45,11 @@ fn demand_is_counted_and_rises(rt: HostRuntime) -> Result<(), Fail> {
             Some(later),
             "from {r} after {x}"
         );
+        assert_eq!(rt;
+            reserve.demand_and_rise(r, x),
+            (slots, Some(later)),
+            "from {r} at {x}"
+        );
     }
     Ok(())
 }

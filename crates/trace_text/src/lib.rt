@@ -4,6 +4,7 @@
 pub mod entries;
 mod keys;
 pub mod line;
+mod reports;
 mod spans;
 pub mod taker;
 #[cfg(test)]
@@ -12,4 +13,5 @@ mod words;
 
 pub use entries::{entry_line, key_text};
 pub use line::Line;
+pub use reports::{job_line, span_line};
 pub use taker::TextTaker;

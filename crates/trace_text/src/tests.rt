@@ -4,9 +4,10 @@ ghost use Rattle.std.specs.Prelude.{◌≡◌};
 ghost use Rattle.slot_core.specs.Arrivals.{key_in_set, what_in_set};
 
 use crate::entries::{entry_line, key_text};
+use crate::reports::{job_line, span_line};
 use sample_sets::long_names_set;
 use slot_core::{
-    Done, Entry, Evidence, Firm, Gone, Key, SHOWN_LIMIT, Shown, Soft, Span, Spo, TaskSet, What,
+    Done, Entry, Evidence, Firm, Gone, Job, Key, SHOWN_LIMIT, Shown, Soft, Span, Spo, TaskSet, What,
 };
 use std::test::Fail;
 
@@ -242,5 +243,48 @@ fn writes_each_kind_of_key(rt: HostRuntime) -> Result<(), Fail> {
         assert!(rt; is_key_of(key, &tasks));
         assert_eq!(rt; key_text(key, &tasks).bytes(), want.as_bytes(), "at {want}");
     }
+    Ok(())
+}
+
+/// A job that has run one of its slots.
+fn job(key: Key, est: u64, dl: u64, declared: u32) -> Job {
+    Job {
+        key,
+        est,
+        dl,
+        left: 1,
+        declared,
+    }
+}
+
+#[test]
+fn writes_the_lines_of_a_plan(rt: HostRuntime) -> Result<(), Fail> {
+    let tasks = long_names_set(rt.alloc())?;
+    let rows = [
+        (job(Key::Offline(0, 0, 0), 0, 7, 2), "job g.a#0 0 7 2\n"),
+        (
+            job(LONGEST, LAST, LAST, ROW),
+            "job graph-name-of-24-bytes_x.Task_name-of-24-bytes-yz#18446744073709551615 18446744073709551615 18446744073709551615 4294967295\n",
+        ),
+    ];
+    for (job, want) in rows {
+        assert!(rt; is_key_of(job.key, &tasks));
+        assert_eq!(rt;
+            job_line(&job, &tasks).bytes(),
+            want.as_bytes(),
+            "at {want}"
+        );
+    }
+    let last = Span {
+        work: LAST,
+        ..span(LAST, LAST, i64::MIN)
+    };
+    let want =
+        "span 18446744073709551615 18446744073709551615 18446744073709551615 -9223372036854775808\n";
+    assert_eq!(rt; span_line(&last).bytes(), want.as_bytes());
+    assert_eq!(rt;
+        span_line(&span(0, 7, 5)).bytes(),
+        b"span 0 7 0 5\n".as_slice()
+    );
     Ok(())
 }

@@ -10,7 +10,7 @@ use crate::line::Line;
 use slot_core::{Done, Firm, Gone, Key, Soft, Spo, TaskSet, What};
 
 /// Appends a space and the number.
-fn push_number(line: &mut Line, n: u64)
+pub fn push_number(line: &mut Line, n: u64)
     requires { length line.old + 21 ≤ 1024 }
     ensures text { line.new ≡ line.old ++ 32 ∷ decimal n }
     ensures short { length line.new ≤ length line.old + 21 }

@@ -5,7 +5,7 @@ use Rattle.slot_core.specs.declared.events.What.TheVariants.{Start}
 use Rattle.slot_core.specs.Plans.{PlanParts}
 use Rattle.slot_core.specs.Traces.{shown_entry, end_entry, trace, history_of}
 use Rattle.arrival_replay.proofs.UnderWay.{IsToTell, entry-to_tell, IsUnderWay-told, BreaksOff-told, all-taken, all-stands, BreaksOff-end, IsToTell-start}
-use Rattle.arrival_replay.proofs.Happenings.{place_after, place_after-some, place_after-none, place_after-within, left-falls, IsToTell-happened, time-happened, due-may_come, due-later, due-answered, happened-named}
+use Rattle.arrival_replay.proofs.Happenings.{place_after, place_after-some, place_after-none, place_after-within, left-falls, IsToTell-happened, time-happened, due-may_come, due-later, happened-named}
 use Rattle.arrival_replay.proofs.drive_counted.Given.{Over}
 use Rattle.arrival_replay.proofs.drive_counted.Goals as goal
 use Rattle.arrival_replay.proofs.drive_counted.Goals.{After-happen-what, then-is_some, else-is_some}
@@ -67,10 +67,6 @@ happen-what-requires-clause-may_come g c =
     let set = exec.plan.tasks in
     let l = c.loop-exec in
     due-may_come (g.W.Taker.took set c.args.taker.now l.taker) exec.plan l.exec (trace set c.args.arrivals.now c.args.slots) c.args.slots l.next c.now-time.result c.args.arrivals.now l.invariant.under_way c.now-time.ensures.time c.due_arrival-due.result c.due_arrival-due.ensures
-
-pub happen-what-requires-clause-answered : goal.happen-what-requires-clause-answered
-happen-what-requires-clause-answered g c =
-    due-answered c.args.arrivals.now c.loop-exec.next c.now-time.result c.due_arrival-due.result c.due_arrival-due.ensures c.requires.answered
 
 pub tell-requires-in-loop-exec : goal.tell-requires-in-loop-exec
 tell-requires-in-loop-exec g c =

@@ -28,7 +28,7 @@ ended key scene = record scene {
 }
 
 -- a filter that all pass leaves the list
-filter_passed : {X : Type 0} (p : X → Bool) (xs : List X) → ((x : X) → Has xs x → p x ≡ true) → filter p xs ≡ xs
+pub filter_passed : {X : Type 0} (p : X → Bool) (xs : List X) → ((x : X) → Has xs x → p x ≡ true) → filter p xs ≡ xs
 filter_passed p [] passes = refl
 filter_passed p (x ∷ xs) passes =
     rw (passes x (inl refl)) (ap (λ ys. x ∷ ys) (filter_passed p xs (λ y at. passes y (inr at))))
@@ -40,7 +40,7 @@ jobs-without_soft key jobs soft hard =
     (λ j at. not_from_false (same_key j.key key) (false_from_ne_true (same_key j.key key) (λ same. both_ways (is_soft j.key) (hard j at) (ap is_soft (same_from_key j.key key same) ∙ soft))))
 
 -- without a key that is not soft all soft jobs stay
-soft-without_guaranteed : (key : Key) (soft : List SoftJob) → is_soft key ≡ false → filter (λ (s : SoftJob). not (same_key (SoftKey s.row) key)) soft ≡ soft
+pub soft-without_guaranteed : (key : Key) (soft : List SoftJob) → is_soft key ≡ false → filter (λ (s : SoftJob). not (same_key (SoftKey s.row) key)) soft ≡ soft
 soft-without_guaranteed key soft hard =
     filter_passed (λ (s : SoftJob). not (same_key (SoftKey s.row) key)) soft
     (λ s at. not_from_false (same_key (SoftKey s.row) key) (false_from_ne_true (same_key (SoftKey s.row) key) (λ same. both_ways (is_soft key) hard (ap is_soft (sym (same_from_key (SoftKey s.row) key same))))))

@@ -27,7 +27,7 @@ use Rattle.scene_steps.proofs.Spans.Executives.{give_back-left}
 use Rattle.scene_steps.proofs.Spans.Proper.{point-from_job}
 
 -- with all that one of the jobs has left less at its deadline, the spans are those without it
-spans-without : (cycle : ℕ) (scene : Scene) (job : Job) → IsProperScene cycle scene → AreApart scene.jobs → Has scene.jobs job → filled (with_less job.dl job.left (spans_of cycle scene)) ≡ spans_of cycle (record scene { jobs = filter (λ (j : Job). not (same_key j.key job.key)) scene.jobs })
+pub spans-without : (cycle : ℕ) (scene : Scene) (job : Job) → IsProperScene cycle scene → AreApart scene.jobs → Has scene.jobs job → filled (with_less job.dl job.left (spans_of cycle scene)) ≡ spans_of cycle (record scene { jobs = filter (λ (j : Job). not (same_key j.key job.key)) scene.jobs })
 spans-without cycle scene job proper apart at =
     let stays = λ (j : Job). not (same_key j.key job.key) in
     let after = filter stays scene.jobs in

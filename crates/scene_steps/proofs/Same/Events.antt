@@ -50,7 +50,7 @@ scene_at-follows set cycle h what is sound feasible legal =
     legal
 
 -- what is told of an occurrence in the scene of an executive is told of it at each history for which it stands
-told_in-stands : (exec : Executive) (next : Occurrence) (h : History) → IsPlan exec.plan → StandsFor exec h → told_in exec.plan.tasks exec.plan.cycle exec.scene next ≡ told_of exec.plan.tasks exec.plan.cycle h next
+pub told_in-stands : (exec : Executive) (next : Occurrence) (h : History) → IsPlan exec.plan → StandsFor exec h → told_in exec.plan.tasks exec.plan.cycle exec.scene next ≡ told_of exec.plan.tasks exec.plan.cycle h next
 told_in-stands exec next h plan stands =
     let set = exec.plan.tasks in
     let cycle = exec.plan.cycle in

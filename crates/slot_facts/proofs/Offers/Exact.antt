@@ -1,9 +1,12 @@
 -- The firm offers of every legal history are answered exactly.
-use Rattle.std.proofs.Common.{◌≡◌, ◌⊎◌, ℕ, ◌≤◌, [], ◌∷◌, ◌++◌, subst, arith}
+use Rattle.std.proofs.Common.{◌≡◌, ◌⊎◌, ℕ, ◌+◌, ◌≤◌, ◌<◌, true, List, [], ◌∷◌, ◌++◌, refl, sym, ap, ◌∙◌, subst, inl, inr, arith}
 use Rattle.std.specs.Prelude.{nat_le}
 use Rattle.std.proofs.lemmas.Bool.{and_parts}
+use Rattle.std.proofs.lemmas.List.{append-nil}
+use Rattle.std.proofs.lemmas.List.Elements.{All-head, All-from_recursion}
 use Rattle.slot_core.specs.declared.TheConstants.{OFFER_LIMIT}
 use Rattle.slot_core.specs.declared.jobs.Evidence.{Evidence}
+use Rattle.slot_core.specs.declared.tasks.Sporadic.{Sporadic as SporadicTask}
 use Rattle.slot_core.specs.declared.tasks.TaskSet.{TaskSet}
 use Rattle.slot_core.specs.declared.events.Event.{Event}
 use Rattle.slot_core.specs.declared.events.Event.TheVariants.{Soft, Firm, Sporadic, Done, Withdraw}
@@ -14,16 +17,20 @@ use Rattle.slot_core.specs.declared.events.What.{What}
 use Rattle.slot_core.specs.declared.events.What.TheVariants.{Start, End, Firm as FirmEntry}
 use Rattle.slot_core.specs.declared.events.Firm.TheVariants.{Accepted, NoRoom}
 use Rattle.slot_core.specs.Cycles.{cycle_of}
-use Rattle.slot_core.specs.Ranges.{is_between}
-use Rattle.slot_core.specs.Histories.{History, Follows}
-use Rattle.slot_core.specs.Scenes.{scene_of}
+use Rattle.slot_core.specs.Feasible.{IsFeasible}
+use Rattle.slot_core.specs.Ranges.{is_between, is_sound}
+use Rattle.slot_core.specs.Futures.{pattern_jobs, with_offer, OfferCanBeServed, OfferCannotBeServed, OfferIsExact}
+use Rattle.slot_core.specs.Histories.{History, Follows, time_of, last_row}
+use Rattle.slot_core.specs.Schedules.{HasSchedule}
+use Rattle.slot_core.specs.Scenes.{Scene, horizon, scene_of}
+use Rattle.slot_core.specs.Sporadics.{IsLegalPattern}
 use Rattle.slot_core.specs.Choice.{choice}
 use Rattle.slot_core.specs.Answers.{firm_answer, answer}
 use Rattle.slot_core.specs.Traces.{arrive, slot, told_of_slot, MayCome, IsDue, IsLegal}
 use Rattle.slot_facts.specs.Offers.{OffersAreAlwaysExact}
 use Rattle.slot_facts.proofs.Sets.Ranges.{bounds}
 use Rattle.slot_facts.proofs.Offers.Answers.{accepted_or_no_room, room-from_accepted, short-from_no_room, no_room-from_short}
-use Rattle.slot_facts.proofs.Offers.Room.{room_is_exact}
+use Rattle.slot_facts.proofs.Offers.Room.{room_is_exact, the_densest_pattern_shows_it}
 
 -- the history before an entry of a legal one is legal
 IsLegal-tail : (set : TaskSet) (cycle : ℕ) (what : What) (h : History) → IsLegal set cycle (what ∷ h) → IsLegal set cycle h
@@ -76,23 +83,88 @@ offered-from_legal set cycle h earlier row slots within a legal (later, same) =
     let own = IsLegal-earlier set cycle later (FirmEntry row slots within a ∷ earlier) (subst (IsLegal set cycle) same legal) in
     (offered-from_due set cycle earlier row slots within a own.0, own.1)
 
+-- without a sporadic task nothing arrives
+no_arrivals : (nexts : List ℕ) (r : ℕ) (pattern : List (ℕ × ℕ)) → IsLegalPattern [] nexts r pattern → pattern ≡ []
+no_arrivals nexts r [] legal = refl
+no_arrivals nexts r (a ∷ pattern) legal =
+    let none = All-head (λ (a : ℕ × ℕ). a.0 < 0) a pattern legal.named in
+    absurd (omega (arith, none))
+
+-- and nothing is a legal pattern
+nothing_is_legal : (nexts : List ℕ) (r : ℕ) → IsLegalPattern [] nexts r []
+nothing_is_legal nexts r = record { named = All-from_recursion _ [] tt; spaced = λ index s at. cc }
+
+module _ (set : TaskSet) (h : History) (slots within : ℕ) (sound : is_sound set ≡ true) (feasible : IsFeasible set (cycle_of set)) (legal : IsLegal set (cycle_of set) h) (some : 1 ≤ slots) where
+  -- the cycle, and the scene of the history
+  abbrev cycle : ℕ
+  cycle = cycle_of set
+
+  abbrev scene : Scene
+  scene = scene_of set cycle h
+
+  -- a schedule of the remaining jobs and the offer
+  abbrev IsAlone : Type 0
+  IsAlone = HasSchedule set (with_offer set cycle h slots within) (time_of h) (horizon cycle (time_of h))
+
+  -- what can be served whatever follows has a schedule where nothing does
+  alone-from_served : set.sporadics ≡ [] → OfferCanBeServed set cycle h slots within → IsAlone
+  alone-from_served bare can =
+      let nothing = subst (λ (ss : List SporadicTask). IsLegalPattern ss scene.nexts (time_of h) []) (sym bare) (nothing_is_legal scene.nexts (time_of h)) in
+      subst
+      (λ jobs. HasSchedule set jobs (time_of h) (horizon cycle (time_of h)))
+      (append-nil (with_offer set cycle h slots within))
+      (can [] nothing)
+
+  -- where nothing can follow, what cannot be served has none
+  none-from_refused : set.sporadics ≡ [] → OfferCannotBeServed set cycle h slots within → ¬ IsAlone
+  none-from_refused bare cannot alone =
+      let nothing = no_arrivals scene.nexts (time_of h) cannot.pattern (subst (λ (ss : List SporadicTask). IsLegalPattern ss scene.nexts (time_of h) cannot.pattern) bare cannot.legal) in
+      let jobs = with_offer set cycle h slots within in
+      let row = last_row h + 1 + 1 in
+      let same : jobs ++ pattern_jobs set.sporadics row cannot.pattern ≡ jobs = ap (λ p. jobs ++ pattern_jobs set.sporadics row p) nothing ∙ append-nil jobs in
+      cannot.none (subst (λ js. HasSchedule set js (time_of h) (horizon cycle (time_of h))) (sym same) alone)
+
+  module _ (a : FirmAnswer) (told : firm_answer set.sporadics cycle scene slots within ≡ a) where
+    -- an accepted offer can be served
+    served-from_accepted : a ≡ Accepted → OfferCanBeServed set cycle h slots within
+    served-from_accepted is =
+        (room_is_exact set h slots within sound feasible legal some).0 (room-from_accepted set.sporadics cycle scene slots within (told ∙ is))
+
+    -- one that is refused cannot
+    cannot-from_refused : (evidence : Evidence) → a ≡ NoRoom evidence → OfferCannotBeServed set cycle h slots within
+    cannot-from_refused evidence is =
+        let short = short-from_no_room set.sporadics cycle scene slots within evidence (told ∙ is) in
+        let shown = the_densest_pattern_shows_it set h slots within sound feasible legal some (no_room-from_short set.sporadics cycle scene slots within evidence short) in
+        record { pattern = _; legal = shown.0; none = shown.1 }
+
+    -- one in reach is accepted or refused
+    answered-in_reach : 1 ≤ within → within ≤ cycle → (a ≡ Accepted) ⊎ ((evidence : Evidence) × (a ≡ NoRoom evidence))
+    answered-in_reach due near =
+        subst
+        (λ (b : FirmAnswer). (b ≡ Accepted) ⊎ ((evidence : Evidence) × (b ≡ NoRoom evidence)))
+        told
+        (accepted_or_no_room set.sporadics cycle scene slots within due near)
+
+    -- where no schedule serves it, one in reach is refused
+    refused-from_none : set.sporadics ≡ [] → 1 ≤ within → within ≤ cycle → ¬ IsAlone → (evidence : Evidence) × (a ≡ NoRoom evidence)
+    refused-from_none bare due near none =
+        elim (answered-in_reach due near) [
+          | inl accepted ↦ absurd (none (alone-from_served bare (served-from_accepted accepted)))
+          | inr refused ↦ refused
+        ]
+
+    -- the answer of the definitions is exact
+    pub OfferIsExact-from_told : OfferIsExact set cycle h slots within a
+    OfferIsExact-from_told =
+        record {
+          accepted = served-from_accepted;
+          refused = cannot-from_refused;
+          in_reach = answered-in_reach;
+          alone = λ bare due near. (λ refused. none-from_refused bare (cannot-from_refused refused.0 refused.1), refused-from_none bare due near);
+        }
+
 -- the offers of a legal history are answered exactly
 pub offers_are_always_exact : OffersAreAlwaysExact
-offers_are_always_exact set h sound feasible legal =
-    let cycle = cycle_of set in
-    record {
-      accepted = λ row slots within earlier follows.
-          let o = offered-from_legal set cycle h earlier row slots within Accepted legal follows in
-          let room = room-from_accepted set.sporadics cycle (scene_of set cycle earlier) slots within o.0.told in
-          (room_is_exact set earlier slots within sound feasible o.1 o.0.some).0 room;
-      refused = λ row slots within evidence earlier follows.
-          let o = offered-from_legal set cycle h earlier row slots within (NoRoom evidence) legal follows in
-          let short = short-from_no_room set.sporadics cycle (scene_of set cycle earlier) slots within evidence o.0.told in
-          λ can. no_room-from_short set.sporadics cycle (scene_of set cycle earlier) slots within evidence short ((room_is_exact set earlier slots within sound feasible o.1 o.0.some).1 can);
-      in_reach = λ row slots within a earlier follows some near.
-          let o = offered-from_legal set cycle h earlier row slots within a legal follows in
-          subst
-          (λ (b : FirmAnswer). (b ≡ Accepted) ⊎ ((evidence : Evidence) × (b ≡ NoRoom evidence)))
-          o.0.told
-          (accepted_or_no_room set.sporadics cycle (scene_of set cycle earlier) slots within some near);
-    }
+offers_are_always_exact set h sound feasible legal row slots within a earlier follows =
+    let o = offered-from_legal set (cycle_of set) h earlier row slots within a legal follows in
+    OfferIsExact-from_told set earlier slots within sound feasible o.1 o.0.some a o.0.told

@@ -1,9 +1,8 @@
 -- What the entries of a legal history name lies in the set.
 use Rattle.std.proofs.Common.{◌≡◌, ℕ, ◌+◌, ◌/◌, true, [], ◌∷◌, ◌++◌, refl, sym, ap, ◌∙◌, inl, inr, lt-ltb}
-use Rattle.std.specs.Prelude.{nat_le, nat_lt, length}
+use Rattle.std.specs.Prelude.{nat_le, length}
 use Rattle.std.proofs.lemmas.Bool.{and_parts}
 use Rattle.slot_core.specs.declared.jobs.Key.{Key}
-use Rattle.slot_core.specs.declared.jobs.Key.TheVariants.{Soft as SoftKey, Firm as FirmKey, Sporadic as SporadicKey}
 use Rattle.slot_core.specs.declared.jobs.Job.{Job}
 use Rattle.slot_core.specs.declared.tasks.TaskSet.{TaskSet}
 use Rattle.slot_core.specs.declared.events.Event.TheVariants.{Soft as SoftEvent, Firm as FirmEvent, Sporadic as SporadicEvent, Done as DoneEvent, Withdraw as WithdrawEvent}
@@ -15,9 +14,7 @@ use Rattle.slot_core.specs.Arrivals.{key_in_set, key_in_range, what_in_set, even
 use Rattle.slot_core.specs.Choice.{choice, ready}
 use Rattle.slot_core.specs.Cycles.{cycle_of}
 use Rattle.slot_core.specs.Histories.{History, time_of, firm_jobs, sporadic_jobs}
-use Rattle.slot_core.specs.Keys.{row_of}
 use Rattle.slot_core.specs.OfflineJobs.{offline_jobs}
-use Rattle.slot_core.specs.Ranges.{is_sound}
 use Rattle.slot_core.specs.Scenes.{guaranteed_in, remaining, scene_of}
 use Rattle.slot_core.specs.Traces.{Occurrence, arrive, slot, told_of_slot, told_of, IsLegal}
 use Rattle.slot_facts.proofs.Choice.Earliest.{IsEarliest-from_earliest}

@@ -3,8 +3,7 @@ use Rattle.std.proofs.Common.{◌≡◌, List, [], ◌∷◌, ◌++◌, map, ap,
 use Rattle.std.specs.Prelude.{reverse}
 use Rattle.std.proofs.lemmas.List.{map-append, reverse-append}
 use Rattle.slot_core.specs.declared.events.Entry.{Entry}
-use Rattle.slot_core.specs.declared.events.What.{What}
-use Rattle.slot_core.specs.declared.events.What.TheVariants.{Start, End}
+use Rattle.slot_core.specs.declared.events.What.TheVariants.{End}
 use Rattle.slot_core.specs.Executives.{Executive, StandsFor}
 use Rattle.slot_core.specs.Histories.{History}
 use Rattle.slot_core.specs.Traces.{history_of, started}

@@ -2,10 +2,9 @@ use Rattle.std.proofs.Common.{◌≡◌, ℕ, zero, suc, ◌<◌, ◌≤◌, ◌
 use Rattle.std.proofs.lemmas.Bool.{eq-eqb, ne_eqb}
 use Rattle.std.proofs.lemmas.Option.{get_or_from_slice_get, slice_get_within}
 use Rattle.slot_core.specs.declared.jobs.Span.{Span}
-use Rattle.spare_capacity.specs.Recurrence.{FollowOn, first_start}
+use Rattle.spare_capacity.specs.Recurrence.{FollowOn}
 use Rattle.spare_capacity.proofs.Steps.{no_row}
 use Rattle.interval_row.specs.Changes.{span_ending}
-use Rattle.interval_row.specs.RowTables.{numbered}
 use Rattle.spare_capacity.specs.PlanSpans.{AreProper}
 use Rattle.interval_row.specs.Tables.{spans_of_pairs}
 use Rattle.interval_row.proofs.drawn_calls.change_work.Goals as goal
@@ -32,14 +31,14 @@ due_at start spans i s P h proper e holds =
 
 pub charge-requires : goal.charge-requires
 charge-requires g c =
-    let spans = spans_of_pairs (numbered 0 c.args.table.now.spans) in
+    let spans = spans_of_pairs (g.T.SpareTable.pairs c.args.table.now) in
     let table = c.count.ensures.table in
     let live = c.spot_near-spot.ensures in
-    due_at (first_start c.args.table.now.spans) spans live.0 c.read-row.result (λ (s : Span). s.work + c.args.amount % 8 ≤ 2 ^ 40) table.consecutive table.proper (c.read-row.ensures.span live.0 live.1) (omega arith)
+    due_at (g.T.SpareTable.time c.args.table.now) spans live.0 c.read-row.result (λ (s : Span). s.work + c.args.amount % 8 ≤ 2 ^ 40) table.consecutive table.proper (c.read-row.ensures.span live.0 live.1) (omega arith)
 
 pub give_back-requires : goal.give_back-requires
 give_back-requires g c =
-    let spans = spans_of_pairs (numbered 0 c.args.table.now.spans) in
+    let spans = spans_of_pairs (g.T.SpareTable.pairs c.args.table.now) in
     let table = c.count.ensures.table in
     let live = c.spot_near-spot.ensures in
-    due_at (first_start c.args.table.now.spans) spans live.0 c.read-row.result (λ (s : Span). c.args.amount % 8 ≤ s.work) table.consecutive table.proper (c.read-row.ensures.span live.0 live.1) (omega (arith, c.from.ensures))
+    due_at (g.T.SpareTable.time c.args.table.now) spans live.0 c.read-row.result (λ (s : Span). c.args.amount % 8 ≤ s.work) table.consecutive table.proper (c.read-row.ensures.span live.0 live.1) (omega (arith, c.from.ensures))

@@ -3,7 +3,7 @@ use Rattle.std.proofs.lemmas.Result.{err_from_is_err_and}
 use Rattle.slot_core.specs.declared.events.Arrival.{Arrival}
 use Rattle.run_outcome.specs.declared.file.File.TheVariants.{Arrivals}
 use Rattle.slot_cli.specs.Due.{bytes_of, fitting_arrivals}
-use Rattle.slot_cli.proofs.StageLemmas.{found-fitting_arrivals}
+use Rattle.slot_cli.proofs.StageLemmas.{found-fitting}
 use Rattle.slot_cli.proofs.StepLemmas.{reading-refused, reading-then}
 use Rattle.slot_cli.proofs.steps.recorded.Goals as goal
 
@@ -14,4 +14,4 @@ returns-in_err-bytes-clause-reading g c =
 
 pub returns-clause-reading : goal.returns-clause-reading
 returns-clause-reading g c =
-    reading-then _ _ _ _ _ _ _ (λ held. bytes_of held c.args.words.now Arrivals) (λ bytes. fitting_arrivals bytes c.args.slots c.args.tasks.now) _ _ c.load_arrivals.result (λ (arrivals : Vec Arrival Global). arrivals.items) c.in_ok-bytes.ensures (found-fitting_arrivals _ c.args.slots c.args.tasks.now) (rw c.as_slice.ensures.value at c.load_arrivals.ensures.due)
+    reading-then _ _ _ _ _ _ _ (λ held. bytes_of held c.args.words.now Arrivals) (λ bytes. fitting_arrivals bytes c.args.slots c.args.tasks.now) _ _ c.fitting.result (λ (arrivals : Vec Arrival Global). arrivals.items) c.in_ok-bytes.ensures (found-fitting _ c.args.slots c.args.tasks.now) (rw c.as_slice.ensures.value at c.fitting.ensures.due)

@@ -1,0 +1,3 @@
+pub mod ChartLemmas
+pub mod MarkLemmas
+pub mod RowLemmas

@@ -1,0 +1,29 @@
+use Rattle.std.proofs.Common.{◌≡◌, ◌+◌, ◌<◌, ◌-ℤ◌, ◌∙◌, pos, get_or, ap, sym, arith}
+use Rattle.std.proofs.lemmas.Int.{ints}
+use Rattle.slot_core.specs.declared.jobs.Span.{Span}
+use Rattle.spare_capacity.specs.Recurrence.{first_start}
+use Rattle.spare_capacity.proofs.Steps.{no_row}
+use Rattle.interval_row.specs.ChainTables.{spans_of}
+use Rattle.interval_row.proofs.Ids.{row_at, spans_of-set}
+use Rattle.interval_row.proofs.WalkBack.{passed-on, IsProper-first, IsWithin-spare}
+use Rattle.interval_row.proofs.nodes.pass.Goals as goal
+
+pub later_start-requires-clause-low : goal.later_start-requires-clause-low
+later_start-requires-clause-low g c =
+    let pairs = c.args.chain.now.pairs in
+    let rows = spans_of pairs in
+    let row = row_at pairs 0 c.get-row.result (c.get-row.ensures.span 0 c.first-id.ensures) in
+    let within = IsWithin-spare (first_start rows) rows 0 c.requires.rows.consecutive c.requires.rows.filled c.requires.rows.few (omega (arith, c.requires.rows.some)) in
+    omega (arith, ints, within.low, ap (λ (s : Span). s.spare) row)
+
+pub returns-else-row-clause-spans : goal.returns-else-row-clause-spans
+returns-else-row-clause-spans g c =
+    let pairs = c.args.chain.now.pairs in
+    let rows = spans_of pairs in
+    let row = row_at pairs 0 c.get-row.result (c.get-row.ensures.span 0 c.first-id.ensures) in
+    let low = IsProper-first rows c.requires.rows.proper c.requires.rows.some in
+    let more = λ (e : (get_or rows 0 no_row).start + 1 ≡ (get_or rows 0 no_row).end). c.if-row.false (ap (λ (s : Span). s.start + 1) row ∙ e ∙ sym (ap (λ (s : Span). s.end) row)) in
+    let put = c.later_start.ensures ∙ ap (λ (s : Span). record s { start = s.start + 1; spare = s.spare -ℤ pos 1 }) row in
+    ap spans_of (c.set.ensures.span 0 c.first-id.ensures)
+    ∙ spans_of-set pairs 0 (c.first-id.result, c.later_start.result)
+    ∙ passed-on rows c.later_start.result c.requires.rows.filled c.requires.rows.some low more put

@@ -1,0 +1,176 @@
+//! A table over the chain.
+
+ghost use Rattle.std.specs.Prelude.{◌≡◌, ◌*◌, ◌≤◌, ◌<◌, ◌^◌, length, IfOk};
+ghost use Rattle.spare_capacity.specs.PlanSpans.{ArePlanSpans};
+ghost use Rattle.spare_capacity.specs.Recurrence.{first_start};
+ghost use Rattle.interval_row.specs.ChainTables.{spans_of, spot_of, spotted};
+ghost use Rattle.interval_row.specs.Changes.{copies_of};
+ghost use Rattle.interval_row.specs.Tables.{spans_of_pairs, IsTable};
+
+use crate::table::{SpareTable, Spot};
+use crate::{nodes, rows, walk};
+use node_chain::{Chain, NodeId};
+use slot_core::{Memory, Span, Steps};
+use std::alloc::Global;
+use std::marker::{Brand, Model};
+use std::sync::ledger::{Blank, Ledger};
+#[cfg(test)]
+use std::test::Fail;
+
+/// A table over a chain of spans, whose steps are bounded. A spot is the number of a node.
+///
+/// It keeps the first start and the last end beside the chain. A change of work is followed back
+/// only as far as capacities change.
+#[derive(Drop)]
+pub struct ChainTable {
+    chain: Chain,
+    time: u64,
+    end: u64,
+}
+
+impl Model for ChainTable {
+    ghost use Rattle.node_chain.specs.Chains.{Chained};
+    ghost use Rattle.interval_row.specs.ChainTables.{AreInChain};
+
+    ghost Value = { Chained };
+
+    ghost view = { λ t. t.chain };
+
+    ghost invariant = { λ t. AreInChain t.chain.pairs t.chain.capacity t.time t.end };
+}
+
+impl SpareTable for ChainTable {
+    ghost use Rattle.std.specs.Prelude.{true};
+    ghost use Rattle.interval_row.specs.ChainTables.{spans_of, spotted};
+    ghost use Rattle.spare_capacity.specs.Recurrence.{first_start};
+
+    ghost time = { λ t. first_start (spans_of t.pairs) };
+
+    ghost pairs = { λ t. spotted t.pairs };
+
+    ghost limit = { λ t. t.capacity };
+
+    ghost counted = { true };
+
+    fn with_room(alloc: Global, spans: &[Span], copies: u32, room: u32) -> Result<Self, Memory> {
+        filled_table::<Brand>(alloc, spans, copies, room, Blank::new(1))
+    }
+
+    fn count(&self) -> u32 {
+        self.chain.len()
+    }
+
+    fn time(&self) -> u64 {
+        self.time
+    }
+
+    fn last_end(&self) -> u64 {
+        self.end
+    }
+
+    fn first(&self) -> Spot {
+        let NodeId(place) = walk::first(&self.chain);
+        Spot(place)
+    }
+
+    fn next(&self, at: Spot) -> Option<Spot> {
+        let Spot(place) = at;
+        spot_of(self.chain.next(NodeId(place)))
+    }
+
+    fn read<L: Ledger>(&self, at: Spot, steps: &mut Steps<L>) -> Span {
+        let Spot(place) = at;
+        self.chain.get(NodeId(place), steps)
+    }
+
+    fn pass_slot<L: Ledger>(&mut self, steps: &mut Steps<L>) {
+        nodes::pass(&mut self.chain, steps);
+        self.chain.audit();
+        self.time += 1;
+    }
+
+    fn charge<L: Ledger>(&mut self, deadline: u64, slots: u32, steps: &mut Steps<L>) {
+        nodes::charge(&mut self.chain, deadline, slots, steps);
+        self.chain.audit();
+    }
+
+    fn give_back<L: Ledger>(&mut self, deadline: u64, slots: u32, steps: &mut Steps<L>) {
+        nodes::give_back(&mut self.chain, deadline, slots, steps);
+        self.chain.audit();
+    }
+
+    fn split<L: Ledger>(&mut self, at: u64, steps: &mut Steps<L>) {
+        nodes::split(&mut self.chain, at, steps);
+        self.chain.audit();
+    }
+
+    fn append_cycle<L: Ledger>(&mut self, spans: &[Span], steps: &mut Steps<L>) {
+        nodes::append(&mut self.chain, spans, self.end, steps);
+        self.chain.audit();
+        self.end += rows::last_end(spans);
+    }
+}
+
+/// The spot of a node, where there is one.
+fn spot_of(id: Option<NodeId>) -> Option<Spot>
+    ensures { result ≡ spot_of id }
+{
+    match id {
+        Some(NodeId(place)) => Some(Spot(place)),
+        None => None,
+    }
+}
+
+/// A table of so many copies of a plan's spans. It is made with steps that nobody asks for.
+fn filled_table<L: Ledger>(
+    alloc: Global,
+    spans: &[Span],
+    copies: u32,
+    room: u32,
+    blank: Blank,
+) -> Result<ChainTable, Memory>
+    requires name { blank.name ≡ L.name }
+    requires parts { blank.parts ≡ L.parts }
+    requires ledger { 0 < L.parts }
+    requires plan { ArePlanSpans spans.now }
+    requires some { 1 ≤ copies }
+    requires fits { copies * length spans.now ≤ room }
+    requires few { room ≤ 2 ^ 20 }
+    ensures table { IfOk result (λ made.
+        IsTable (first_start (spans_of made.pairs)) (spotted made.pairs) made.capacity) }
+    ensures time { IfOk result (λ made. first_start (spans_of made.pairs) ≡ 0) }
+    ensures spans { IfOk result (λ made.
+        spans_of_pairs (spotted made.pairs) ≡ copies_of spans.now copies) }
+    ensures room { IfOk result (λ made. made.capacity ≡ room) }
+{
+    let mut steps: Steps<L> = Steps::new(blank);
+    let mut chain = Chain::with_capacity(alloc, room)?;
+    let mut end = 0;
+    let cycle = rows::last_end(spans);
+    for _copy in 0..copies {
+        nodes::append(&mut chain, spans, end, &mut steps);
+        end += cycle;
+    }
+    chain.audit();
+    Ok(ChainTable {
+        chain,
+        time: 0,
+        end,
+    })
+}
+
+// Beside the chain a table keeps whole numbers alone: no second copy of the spans.
+#[test]
+fn fields_are_whole(rt: HostRuntime) -> Result<(), Fail> {
+    let plan = [Span {
+        start: 0,
+        end: 4,
+        work: 1,
+        spare: 3,
+    }];
+    let table = ChainTable::with_room(rt.alloc(), &plan, 1, 1)?;
+    let ChainTable { chain, time, end } = &table;
+    let fields: (&Chain, &u64, &u64) = (chain, time, end);
+    assert_eq!(rt; (fields.0.len(), *fields.1, *fields.2), (1, 0, 4));
+    Ok(())
+}

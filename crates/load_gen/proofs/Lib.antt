@@ -1,0 +1,6 @@
+pub mod ArrivalLemmas
+pub mod Feasible
+pub mod Instances
+pub mod Sound
+pub mod TallyLemmas
+pub mod TraceLengths

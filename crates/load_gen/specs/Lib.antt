@@ -1,0 +1,4 @@
+pub mod LoadArrivals
+pub mod Loads
+pub mod Tallies
+pub mod TallyLaws

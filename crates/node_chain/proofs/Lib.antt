@@ -1,0 +1,14 @@
+pub mod Blocks
+pub mod Counts
+pub mod Fresh
+pub mod Full
+pub mod Inserts
+pub mod Joins
+pub mod Kept
+pub mod Layouts
+pub mod Lending
+pub mod Pairs
+pub mod Parts
+pub mod Rings
+pub mod Sizes
+pub mod Writes

@@ -1,0 +1,5 @@
+pub mod Chains
+pub mod Links
+pub mod Nodes
+pub mod Ownership
+pub mod Raw

@@ -1,0 +1,204 @@
+//! The chain.
+
+ghost use Rattle.std.specs.Prelude.{◌≡◌, ℕ, ◌+◌, ◌≤◌, ◌<◌, ◌^◌, [], ◌∷◌, ◌++◌, drop, insert, length, Some, None, IfOk, slice_set};
+ghost use Rattle.node_chain.specs.Chains.{id_at, id_of, span_at, IsChain, IsListed};
+
+use crate::block::Block;
+use crate::links::{ENDS, join, part, set_next, set_span};
+use slot_core::{Memory, Span, Steps};
+use std::alloc::Global;
+use std::marker::Model;
+use std::sync::ledger::Ledger;
+
+/// The name of a span in a chain. It stays good until the span is taken out.
+#[derive(Clone, Copy, PartialEq, Eq, Debug)]
+pub struct NodeId(pub u32);
+
+/// Spans in order, each with an id of its own. Their memory is taken once, and given back when the
+/// chain is dropped.
+#[derive(Drop)]
+pub struct Chain {
+    block: Block,
+    /// The first unused place, where there is one.
+    free: u32,
+    len: u32,
+}
+
+impl Model for Chain {
+    ghost use Rattle.std.specs.Prelude.{◌-◌, length};
+    ghost use Rattle.node_chain.specs.Chains.{Chained, pairs_of};
+    ghost use Rattle.node_chain.specs.Links.{order, IsLinked};
+
+    ghost Value = { Chained };
+
+    ghost view = { λ c. record {
+      pairs = pairs_of c.block (order c.block c.len);
+      capacity = length c.block - 1;
+    } };
+
+    ghost invariant = { λ c. IsLinked c.block c.free c.len };
+}
+
+impl Chain {
+    /// An empty chain with room for `n` spans, of about 40 bytes each.
+    pub fn with_capacity(alloc: Global, n: u32) -> Result<Chain, Memory>
+        requires some { 1 ≤ n }
+        requires small { n ≤ 2 ^ 20 }
+        ensures empty { IfOk result (λ made. made.pairs ≡ []) }
+        ensures capacity { IfOk result (λ made. made.capacity ≡ n) }
+    {
+        let mut block = Block::new(alloc, n + 1)?;
+        set_next(&mut block, ENDS, ENDS);
+        Ok(Chain {
+            block,
+            free: 1,
+            len: 0,
+        })
+    }
+
+    /// Tells what every chain is.
+    pub fn audit(&self)
+        ensures { IsChain self.now.pairs self.now.capacity }
+    {
+        let _kept = &self.block;
+    }
+
+    /// How many spans there are.
+    pub fn len(&self) -> u32
+        ensures { result ≡ length self.now.pairs }
+    {
+        self.len
+    }
+
+    /// How many spans it has room for.
+    pub fn capacity(&self) -> u32
+        ensures { result ≡ self.now.capacity }
+    {
+        self.block.count() - 1
+    }
+
+    /// The id of the first span. None exactly where there is none.
+    pub fn first(&self) -> Option<NodeId>
+        ensures { result ≡ id_at self.now.pairs 0 }
+    {
+        id_of(self.block.node(ENDS).next)
+    }
+
+    /// The id of the last span. None exactly where there is none.
+    pub fn last(&self) -> Option<NodeId>
+        ensures none { self.now.pairs ≡ [] → result ≡ None }
+        ensures last { (i : ℕ) → i + 1 ≡ length self.now.pairs → result ≡ id_at self.now.pairs i }
+    {
+        id_of(self.block.node(ENDS).prev)
+    }
+
+    /// The id of the span after this one. None exactly at the last.
+    pub fn next(&self, id: NodeId) -> Option<NodeId>
+        requires { IsListed self.now.pairs id }
+        ensures { (i : ℕ) → id_at self.now.pairs i ≡ Some id
+            → result ≡ id_at self.now.pairs (i + 1) }
+    {
+        let NodeId(place) = id;
+        id_of(self.block.node(place).next)
+    }
+
+    /// The id of the span before this one. None exactly at the first.
+    pub fn prev(&self, id: NodeId) -> Option<NodeId>
+        requires { IsListed self.now.pairs id }
+        ensures none { id_at self.now.pairs 0 ≡ Some id → result ≡ None }
+        ensures before { (i : ℕ) → id_at self.now.pairs (i + 1) ≡ Some id
+            → result ≡ id_at self.now.pairs i }
+    {
+        let NodeId(place) = id;
+        id_of(self.block.node(place).prev)
+    }
+
+    /// The span of this id. One step.
+    pub fn get<L: Ledger>(&self, id: NodeId, steps: &mut Steps<L>) -> Span
+        requires { IsListed self.now.pairs id }
+        ensures span { (i : ℕ) → id_at self.now.pairs i ≡ Some id
+            → span_at self.now.pairs i ≡ Some result }
+        ensures one_step { steps.new ≡ steps.old + 1 }
+    {
+        let NodeId(place) = id;
+        steps.tick();
+        self.block.node(place).span
+    }
+
+    /// Puts another span under this id. One step.
+    pub fn set<L: Ledger>(&mut self, id: NodeId, span: Span, steps: &mut Steps<L>)
+        requires { IsListed self.old.pairs id }
+        ensures span { (i : ℕ) → id_at self.old.pairs i ≡ Some id
+            → self.new.pairs ≡ slice_set self.old.pairs i (id, span) }
+        ensures capacity { self.new.capacity ≡ self.old.capacity }
+        ensures one_step { steps.new ≡ steps.old + 1 }
+    {
+        let NodeId(place) = id;
+        steps.tick();
+        set_span(&mut self.block, place, span);
+    }
+
+    /// Inserts a span before the one of this id, and returns its id, which no span in the chain
+    /// has. Three steps.
+    pub fn insert_before<L: Ledger>(
+        &mut self,
+        id: NodeId,
+        span: Span,
+        steps: &mut Steps<L>,
+    ) -> NodeId
+        requires listed { IsListed self.old.pairs id }
+        requires room { length self.old.pairs < self.old.capacity }
+        ensures span { (i : ℕ) → id_at self.old.pairs i ≡ Some id
+            → self.new.pairs ≡ insert self.old.pairs i (result, span) }
+        ensures fresh { IsListed self.old.pairs result → ⊥ }
+        ensures capacity { self.new.capacity ≡ self.old.capacity }
+        ensures three_steps { steps.new ≡ steps.old + 3 }
+    {
+        let NodeId(after) = id;
+        steps.tick();
+        let place = self.free;
+        self.free = join(&mut self.block, place, after, span, steps);
+        self.len += 1;
+        NodeId(place)
+    }
+
+    /// Appends a span, and returns its id, which no span in the chain has. Two steps.
+    pub fn push_back<L: Ledger>(&mut self, span: Span, steps: &mut Steps<L>) -> NodeId
+        requires { length self.old.pairs < self.old.capacity }
+        ensures span { self.new.pairs ≡ self.old.pairs ++ (result, span) ∷ [] }
+        ensures fresh { IsListed self.old.pairs result → ⊥ }
+        ensures capacity { self.new.capacity ≡ self.old.capacity }
+        ensures two_steps { steps.new ≡ steps.old + 2 }
+    {
+        let place = self.free;
+        self.free = join(&mut self.block, place, ENDS, span, steps);
+        self.len += 1;
+        NodeId(place)
+    }
+
+    /// Takes the first span out. Its id is free for use again. Two steps.
+    pub fn pop_front<L: Ledger>(&mut self, steps: &mut Steps<L>) -> Span
+        requires { 0 < length self.old.pairs }
+        ensures span { span_at self.old.pairs 0 ≡ Some result }
+        ensures rest { self.new.pairs ≡ drop 1 self.old.pairs }
+        ensures capacity { self.new.capacity ≡ self.old.capacity }
+        ensures two_steps { steps.new ≡ steps.old + 2 }
+    {
+        let place = self.block.node(ENDS).next;
+        let node = part(&mut self.block, self.free, steps);
+        self.free = place;
+        self.len -= 1;
+        node.span
+    }
+}
+
+/// The id of a place, but for the ends.
+fn id_of(place: u32) -> Option<NodeId>
+    ensures { result ≡ id_of place }
+{
+    if place == ENDS {
+        None
+    } else {
+        Some(NodeId(place))
+    }
+}

@@ -1,0 +1,2 @@
+-- A sporadic arrival: what it is answered, and what it adds.
+pub mod SporadicArrivals

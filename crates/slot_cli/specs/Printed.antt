@@ -1,0 +1,40 @@
+-- What a run that is done has printed, and what holds of it.
+use Rattle.std.specs.Prelude.{◌≡◌, ℕ, true, List, Option, Some, Ok}
+use Rattle.std.specs.Io.KnownBytes.{Appends}
+use Rattle.slot_core.specs.declared.events.Arrival.{Arrival}
+use Rattle.slot_core.specs.Arrivals.{are_fitting}
+use Rattle.slot_core.specs.Futures.{OffersAreExact}
+use Rattle.slot_core.specs.Histories.{History}
+use Rattle.slot_core.specs.Plans.{PlanParts, IsPlan}
+use Rattle.slot_core.specs.Service.{IsServed, IsOrdered}
+use Rattle.slot_core.specs.Traces.{trace, history_of}
+use Rattle.slot_io.specs.Files.{Held}
+use Rattle.slot_cli.specs.declared.command.Command.{Command}
+use Rattle.slot_cli.specs.Commands.{command_of, slots_of}
+use Rattle.slot_cli.specs.Due.{arrivals_for, plan_of_run, text_from}
+
+-- the history that the trace of a command tells
+abbrev pub told_by : Command → PlanParts → List Arrival → History
+told_by command plan arrivals = history_of (trace plan.tasks arrivals (slots_of command))
+
+-- a run that is done: its command, its plan and its arrivals, the text that it has written of them,
+-- and what their trace keeps
+pub record IsPrinted (words : List (List ℕ)) (held : Held) (before after : Option (List ℕ)) : Type 0
+  where
+    pub command : Command
+    pub asked : command_of words ≡ Some command
+    -- the plan that the files or the load call for
+    pub plan : PlanParts
+    pub planned : plan_of_run held words ≡ Ok plan
+    pub is_plan : IsPlan plan
+    -- the arrivals that they call for, which fit it
+    pub arrivals : List Arrival
+    pub gathered : arrivals_for held words command plan.tasks ≡ Ok arrivals
+    pub fitting : are_fitting plan.tasks (slots_of command) arrivals ≡ true
+    -- the text that is written: what the command tells of this plan and these arrivals
+    pub written : Appends before after (text_from command plan arrivals)
+    -- in their trace every admitted job is served, after its predecessors
+    pub served : IsServed plan.tasks plan.cycle (told_by command plan arrivals)
+    pub ordered : IsOrdered plan.tasks plan.cycle (told_by command plan arrivals)
+    -- and each firm offer is answered exactly
+    pub offers : OffersAreExact plan.tasks plan.cycle (told_by command plan arrivals)

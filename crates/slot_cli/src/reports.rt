@@ -1,0 +1,127 @@
+//! What is written of a plan.
+
+ghost use Rattle.std.specs.Prelude.{◌≡◌, ◌≤◌, ◌++◌, ◌∷◌, [], true, codes, length, flat_map, All, IfOk, OnErr, OnOk};
+ghost use Rattle.std.specs.Io.KnownBytes.{Appends};
+ghost use Rattle.slot_core.specs.declared.jobs.Job.{Job};
+ghost use Rattle.slot_core.specs.Arrivals.{key_in_set};
+ghost use Rattle.slot_core.specs.Counts.{Rose};
+ghost use Rattle.slot_core.specs.Reports.{check_line, counts_line, job_line, plan_line, show_text, span_line};
+ghost use Rattle.slot_core.specs.Texts.{worded};
+ghost use Rattle.slot_io.specs.Sinks.{AppendsPart};
+ghost use Rattle.slot_cli.specs.Steps.{IsWriting};
+
+use cycle_plan::Plan;
+use run_outcome::Refusal;
+use run_outcome::append::{push, push_worded};
+use slot_core::{Failed, Job, Memory, Span, TaskSet};
+use slot_io::Sink;
+use std::alloc::Global;
+use trace_text::{job_line, span_line};
+
+/// Writes the numbers of the plan, in one put.
+pub fn check_plan<K: Sink>(alloc: Global, plan: &Plan, out: &mut K) -> Result<(), Refusal>
+    ensures { IsWriting K.written K.faults (check_line plan.now.tasks) result out.old out.new }
+{
+    let line = check_line(alloc, plan)?;
+    out.put(line.as_slice())?;
+    Ok(())
+}
+
+/// The line of a check: the cycle in slots, and the numbers of jobs and spans of one cycle.
+fn check_line(alloc: Global, plan: &Plan) -> Result<Vec<u8>, Memory>
+    ensures { IfOk result (λ line. line.items ≡ check_line plan.now.tasks) }
+{
+    let jobs = plan.jobs().len();
+    let spans = plan.spans().len();
+    counts_line(alloc, plan.cycle(), jobs as u64, spans as u64)
+}
+
+/// The line of these numbers.
+fn counts_line(alloc: Global, cycle: u32, jobs: u64, spans: u64) -> Result<Vec<u8>, Memory>
+    ensures { IfOk result (λ line. line.items ≡ counts_line cycle jobs spans) }
+{
+    let mut line = Vec::new(alloc);
+    push_worded(&mut line, b"feasible cycle", u64::from(cycle))?;
+    push_worded(&mut line, b" jobs", jobs)?;
+    push_worded(&mut line, b" spans", spans)?;
+    push(&mut line, b"\n")?;
+    Ok(line)
+}
+
+/// Writes the plan: its numbers, its jobs in deadline order, and its spans, one put a line. It
+/// takes no memory after the first put.
+pub fn show_plan<K: Sink>(alloc: Global, plan: &Plan, out: &mut K) -> Result<(), Refusal>
+    ensures { IsWriting K.written K.faults (show_text plan.now) result out.old out.new }
+{
+    let line = plan_line(alloc, plan)?;
+    out.put(line.as_slice())?;
+    show_jobs(plan.tasks(), plan.jobs(), out)?;
+    show_spans(plan.spans(), out)?;
+    Ok(())
+}
+
+/// The line of the numbers of the plan.
+fn plan_line(alloc: Global, plan: &Plan) -> Result<Vec<u8>, Memory>
+    ensures { IfOk result (λ line. line.items ≡ plan_line plan.now) }
+{
+    let mut line = Vec::new(alloc);
+    push_worded(&mut line, b"plan cycle", u64::from(plan.cycle()))?;
+    push_set(&mut line, plan.tasks())?;
+    push_lengths(&mut line, plan)?;
+    Ok(line)
+}
+
+/// Appends the numbers of the task set.
+fn push_set(line: &mut Vec<u8>, tasks: &TaskSet) -> Result<(), Memory>
+    ensures { OnOk result (line.new.items ≡ line.old.items
+        ++ (worded (codes " soft") tasks.now.soft_limit
+        ++ worded (codes " graphs") (length tasks.now.graphs)
+        ++ worded (codes " sporadics") (length tasks.now.sporadics))) }
+{
+    push_worded(line, b" soft", u64::from(tasks.soft_limit))?;
+    push_worded(line, b" graphs", tasks.graphs.len() as u64)?;
+    push_worded(line, b" sporadics", tasks.sporadics.len() as u64)
+}
+
+/// Appends the numbers of jobs and spans of the plan, and the line feed.
+fn push_lengths(line: &mut Vec<u8>, plan: &Plan) -> Result<(), Memory>
+    ensures { OnOk result (line.new.items ≡ line.old.items
+        ++ (worded (codes " jobs") (length plan.now.jobs)
+        ++ worded (codes " spans") (length plan.now.spans)
+        ++ 10 ∷ [])) }
+{
+    push_worded(line, b" jobs", plan.jobs().len() as u64)?;
+    push_worded(line, b" spans", plan.spans().len() as u64)?;
+    push(line, b"\n")
+}
+
+/// Writes the jobs, one put a line.
+fn show_jobs<K: Sink>(tasks: &TaskSet, jobs: &[Job], out: &mut K) -> Result<(), Failed>
+    requires { All (λ (j : Job). key_in_set tasks.now j.key ≡ true) jobs.now }
+    ensures text { OnOk result (Appends (K.written out.old) (K.written out.new)
+        (flat_map (job_line tasks.now) jobs.now)) }
+    ensures part { OnErr result (AppendsPart (K.written out.old) (K.written out.new)
+        (flat_map (job_line tasks.now) jobs.now)) }
+    ensures counted { K.faults out.old ≤ K.faults out.new }
+    ensures failed { OnErr result (Rose (K.faults out.old) (K.faults out.new)) }
+{
+    for job in jobs {
+        out.put(job_line(job, tasks).bytes())?;
+    }
+    Ok(())
+}
+
+/// Writes the spans, one put a line.
+fn show_spans<K: Sink>(spans: &[Span], out: &mut K) -> Result<(), Failed>
+    ensures text { OnOk result (Appends (K.written out.old) (K.written out.new)
+        (flat_map span_line spans.now)) }
+    ensures part { OnErr result (AppendsPart (K.written out.old) (K.written out.new)
+        (flat_map span_line spans.now)) }
+    ensures counted { K.faults out.old ≤ K.faults out.new }
+    ensures failed { OnErr result (Rose (K.faults out.old) (K.faults out.new)) }
+{
+    for span in spans {
+        out.put(span_line(span).bytes())?;
+    }
+    Ok(())
+}

@@ -1,0 +1,9 @@
+pub mod EachSteps
+pub mod FieldLaws
+pub mod PlanSizes
+pub mod Planned
+pub mod SameSteps
+pub mod SetLaws
+pub mod SourceFaults
+pub mod StoredLaws
+pub mod TableLaws

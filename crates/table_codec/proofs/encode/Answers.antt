@@ -1,0 +1,24 @@
+-- The numbers of a plan have room in their fields.
+use Rattle.std.proofs.Common.{◌<◌, ◌^◌, length, sym, subst, arith}
+use Rattle.std.specs.Prelude.{All}
+use Rattle.table_codec.specs.Sizes.{IsSmallJob, IsSmallSpan}
+use Rattle.table_codec.proofs.PlanSizes.{few_jobs, all_small_jobs, few_spans, all_small_spans}
+use Rattle.table_codec.proofs.encode.Goals as goal
+
+pub put_jobs-requires-clause-few : goal.put_jobs-requires-clause-few
+put_jobs-requires-clause-few c =
+    let few = few_jobs c.args.plan.now c.jobs.ensures.plan in
+    subst (λ jobs. length jobs < 2 ^ 32) (sym c.jobs.ensures.jobs) (omega (arith, few))
+
+pub put_jobs-requires-clause-small : goal.put_jobs-requires-clause-small
+put_jobs-requires-clause-small c =
+    subst (All IsSmallJob) (sym c.jobs.ensures.jobs) (all_small_jobs c.args.plan.now c.jobs.ensures.plan)
+
+pub put_spans-requires-clause-few : goal.put_spans-requires-clause-few
+put_spans-requires-clause-few c =
+    let few = few_spans c.args.plan.now c.spans.ensures.plan in
+    subst (λ spans. length spans < 2 ^ 32) (sym c.spans.ensures.spans) (omega (arith, few))
+
+pub put_spans-requires-clause-small : goal.put_spans-requires-clause-small
+put_spans-requires-clause-small c =
+    subst (All IsSmallSpan) (sym c.spans.ensures.spans) (all_small_spans c.args.plan.now c.spans.ensures.plan)

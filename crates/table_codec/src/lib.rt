@@ -1,0 +1,72 @@
+//! The binary table of a plan.
+#![tactic(auto)]
+
+ghost use Rattle.std.specs.Prelude.{◌≡◌, ◌≢◌, ◌++◌, ℕ, List, [], Ok, Err, IfOk, MatchResult};
+ghost use Rattle.slot_core.specs.declared.faults.TaskFault.{TaskFault};
+ghost use Rattle.slot_core.specs.Plans.{IsPlan, PlanParts};
+ghost use Rattle.slot_core.specs.Spelling.{spelling};
+ghost use Rattle.table_codec.specs.Faults.{IsOfSet};
+ghost use Rattle.table_codec.specs.Reading.{AnswersAs, reading_of_table};
+
+pub mod faults;
+mod reader;
+mod source;
+mod stored;
+mod table;
+#[cfg(test)]
+mod tests;
+mod writer;
+
+use cycle_plan::Plan;
+pub use faults::TableFault;
+use reader::Input;
+use slot_core::Memory;
+use std::alloc::Global;
+use table::read_table;
+use writer::{put_jobs, put_set, put_spans};
+
+/// The bytes of the plan: its one spelling.
+pub fn encode(alloc: Global, plan: &Plan) -> Result<Vec<u8>, Memory>
+    ensures { IfOk result (λ bytes. bytes.items ≡ spelling plan.now) }
+{
+    let mut out = Vec::new(alloc);
+    put_set(&mut out, plan.tasks())?;
+    put_jobs(&mut out, plan.jobs())?;
+    put_spans(&mut out, plan.spans())?;
+    Ok(out)
+}
+
+/// The plan whose spelling the bytes are. Any fault but want of memory is the first one: the fields
+/// are read from left to right, and each number and name of the task set is checked as it is read;
+/// then the set is checked, its plan is made, and the stored jobs and spans are compared with those
+/// of the plan one by one. No count makes room for what it counts.
+pub fn decode(alloc: Global, bytes: &[u8]) -> Result<Plan, TableFault>
+    ensures reading { AnswersAs result (reading_of_table bytes.now) }
+
+    // What is read was spelled so, and what is spelled so is read.
+    ensures plan { IfOk result IsPlan }
+    ensures spelled { IfOk result (λ plan. spelling plan ≡ bytes.now) }
+    ensures every { (plan : PlanParts) → IsPlan plan → bytes.now ≡ spelling plan
+        → MatchResult result (λ p. p ≡ plan) (λ fault. fault ≡ TableFault.Memory) }
+
+    // A fault of the task set is none that only a text has.
+    ensures source { (fault : TaskFault) → result ≡ Err (TableFault.BadSource fault)
+        → IsOfSet fault }
+{
+    read(alloc, bytes)
+}
+
+/// The plan that the bytes write.
+fn read(alloc: Global, bytes: &[u8]) -> Result<Plan, TableFault>
+    ensures reading { AnswersAs result (reading_of_table bytes.now) }
+    ensures plan { IfOk result IsPlan }
+{
+    let mut input = Input::of(bytes);
+    read_table(alloc, &mut input)
+}
+
+/// No spelling of a plan begins another.
+pub fn spellings_end_themselves()
+    ensures { (a b : PlanParts) (more : List ℕ) → IsPlan a → IsPlan b
+        → spelling b ≡ spelling a ++ more → more ≡ [] }
+{}
