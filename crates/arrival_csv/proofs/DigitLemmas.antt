@@ -17,7 +17,7 @@ use Rattle.slot_facts.proofs.Sets.Ranges.{bounds}
 use Rattle.arrival_csv.specs.Numbers.{is_number, within, number_between, number_of}
 
 -- digits are read as `digits_value` reads them
-digits : IsNumeralModel (λ ds. list_all is_ascii_digit ds ≡ true) (digits_value 10)
+pub digits : IsNumeralModel (λ ds. list_all is_ascii_digit ds ≡ true) (digits_value 10)
 digits = numerals_by_value _ (search rules)
 
 -- the parts of what makes a text a number

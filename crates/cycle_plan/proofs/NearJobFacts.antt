@@ -3,25 +3,19 @@ use Rattle.std.proofs.Common.{◌≡◌, ℕ, ◌+◌, ◌*◌, ◌/◌, ◌<◌
 use Rattle.std.specs.Prelude.{All, Contains}
 use Rattle.std.proofs.Math.Nat.{mul-le-mul_left}
 use Rattle.std.proofs.lemmas.List.Elements.{All-from_recursion}
-use Rattle.std.proofs.lemmas.List.Sorted.{IsPermutation-sym, Contains-permutation}
 use Rattle.slot_core.specs.declared.jobs.Job.{Job}
 use Rattle.slot_core.specs.declared.tasks.TaskSet.{TaskSet}
 use Rattle.slot_core.specs.Cycles.{cycle_of}
 use Rattle.slot_core.specs.Ranges.{is_sound}
 use Rattle.slot_core.specs.OfflineJobs.{cycle_jobs}
-use Rattle.slot_facts.proofs.Lists.Members.{Has, Contains-from_Has, AllByRecursion-from_Has}
+use Rattle.slot_facts.proofs.Lists.Members.{Has, AllByRecursion-from_Has}
+use Rattle.slot_facts.proofs.Lists.Permuted.{Contains-from_permuted}
 use Rattle.slot_facts.proofs.Sets.Ranges.{GraphFits}
 use Rattle.slot_facts.proofs.Offline.LaterCycles.{GraphFits-from_sound}
 use Rattle.slot_facts.proofs.Offline.Jobs.{offline_from_cycle, cycle-multiple, cycle-at_most}
 use Rattle.interval_build.specs.FirstJobs.{AreFirstJobs}
 use Rattle.interval_build.proofs.PlanSpans.{in_cycle-from_first}
 use Rattle.cycle_plan.specs.NearJobs.{instance_of, IsNear}
-
--- a job of the list is one of the first cycle
-first_contains : (set : TaskSet) (jobs : List Job) (job : Job) → AreFirstJobs set jobs → Has jobs job → Contains (cycle_jobs set (cycle_of set) 0) job
-first_contains set jobs job these listed =
-    let first = cycle_jobs set (cycle_of set) 0 in
-    Contains-permutation jobs first job (IsPermutation-sym first jobs these.listed) (Contains-from_Has jobs job listed)
 
 -- an instance of the first cycle has a number below the cycle
 instance-lt : (q period cycle k : ℕ) → q * period ≡ cycle → 1 ≤ period → k < (0 + 1) * q → k < cycle
@@ -39,7 +33,7 @@ pub IsNear-from_first : (set : TaskSet) (jobs : List Job) (job : Job) → AreFir
 IsNear-from_first set jobs job these listed =
     let within = in_cycle-from_first set jobs these job listed in
     let most = cycle-at_most set these.sound in
-    let instance = instance_in_cycle set job these.sound (first_contains set jobs job these listed) in
+    let instance = instance_in_cycle set job these.sound (Contains-from_permuted (cycle_jobs set (cycle_of set) 0) jobs job these.listed listed) in
     (omega (arith, within), omega (arith, within), omega arith)
 
 pub all_near : (set : TaskSet) (jobs : List Job) → AreFirstJobs set jobs → All IsNear jobs

@@ -28,27 +28,20 @@ length-after_run_at i [] = refl
 length-after_run_at zero (j ∷ jobs) = refl
 length-after_run_at (suc i) (j ∷ jobs) = ap (λ n. suc n) (length-after_run_at i jobs)
 
--- it leaves their keys
-pub key-after_run_at : (i : ℕ) (jobs : List Job) (k : ℕ) (d : Job) → (get_or (after_run_at i jobs) k d).key ≡ (get_or jobs k d).key
-key-after_run_at i [] k d = refl
-key-after_run_at zero (j ∷ jobs) zero d = refl
-key-after_run_at zero (j ∷ jobs) (suc k) d = refl
-key-after_run_at (suc i) (j ∷ jobs) zero d = refl
-key-after_run_at (suc i) (j ∷ jobs) (suc k) d = key-after_run_at i jobs k d
-
--- it leaves their starts
-start-after_run_at : (i : ℕ) (jobs : List Job) (k : ℕ) (d : Job) → (get_or (after_run_at i jobs) k d).est ≡ (get_or jobs k d).est
-start-after_run_at i [] k d = refl
-start-after_run_at zero (j ∷ jobs) zero d = refl
-start-after_run_at zero (j ∷ jobs) (suc k) d = refl
-start-after_run_at (suc i) (j ∷ jobs) zero d = refl
-start-after_run_at (suc i) (j ∷ jobs) (suc k) d = start-after_run_at i jobs k d
+-- it leaves what does not depend on the slots left
+pub kept-after_run_at : {X : Type 0} (f : Job → X) → ((job : Job) → f (record job { left = job.left - 1 }) ≡ f job) → (i : ℕ) (jobs : List Job) (k : ℕ) (d : Job) → f (get_or (after_run_at i jobs) k d) ≡ f (get_or jobs k d)
+kept-after_run_at f kept i [] k d = refl
+kept-after_run_at f kept zero (j ∷ jobs) zero d = kept j
+kept-after_run_at f kept zero (j ∷ jobs) (suc k) d = refl
+kept-after_run_at f kept (suc i) (j ∷ jobs) zero d = refl
+kept-after_run_at f kept (suc i) (j ∷ jobs) (suc k) d = kept-after_run_at f kept i jobs k d
 
 -- so it leaves their order of start
 pub IsNonDecreasingBy-after_run_at : (i : ℕ) (jobs : List Job) → IsNonDecreasingBy (λ (j : Job). j.est) jobs → IsNonDecreasingBy (λ (j : Job). j.est) (after_run_at i jobs)
 IsNonDecreasingBy-after_run_at i jobs ordered j k d le below =
-    let first = start-after_run_at i jobs j d in
-    let second = start-after_run_at i jobs k d in
+    let start = kept-after_run_at (λ (job : Job). job.est) (λ job. refl) i jobs in
+    let first = start j d in
+    let second = start k d in
     let low = ordered j k d le (omega (arith, length-after_run_at i jobs)) in
     omega arith
 

@@ -16,7 +16,7 @@ use Rattle.slot_core.specs.Matches.{HaveSameItems}
 use Rattle.slot_facts.proofs.Choice.Earliest.{same_from_key}
 use Rattle.slot_facts.proofs.Lists.SameItems.{jobs-same_items}
 use Rattle.job_queue.specs.Queues.{QueueParts, IsQueue, KeepsQueue, after_run_at}
-use Rattle.job_queue.proofs.Edits.{IsNonDecreasingBy-remove, IsNonDecreasingBy-after_run_at, length-after_run_at, key-after_run_at, after_run_at-append_left, after_run_at-append_right}
+use Rattle.job_queue.proofs.Edits.{IsNonDecreasingBy-remove, IsNonDecreasingBy-after_run_at, length-after_run_at, kept-after_run_at, after_run_at-append_left, after_run_at-append_right}
 
 -- these jobs in a queue of so many places
 abbrev pub queue_of : List Job → ℕ → QueueParts
@@ -157,7 +157,7 @@ IsQueue-after_run_at n jobs i inside more queue =
       apart = λ key.
           omega (arith, sum_by-after_run_at (λ k. cond (same_key k key) 1 0) i jobs, queue.apart key);
       guaranteed = λ k d below.
-          ap is_soft (key-after_run_at i jobs k d) ∙ queue.guaranteed k d (omega (arith, length-after_run_at i jobs));
+          kept-after_run_at (λ (j : Job). is_soft j.key) (λ j. refl) i jobs k d ∙ queue.guaranteed k d (omega (arith, length-after_run_at i jobs));
       left = All-from_recursion some (after_run_at i jobs) (left-after_run_at i jobs inside more (recursion_from_All some jobs queue.left));
       few = omega (arith, length-after_run_at i jobs, queue.few);
     }

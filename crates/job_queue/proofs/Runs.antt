@@ -4,16 +4,17 @@ use Rattle.std.specs.Prelude.{count_by, filter, find, is_some, nat_lt, position}
 use Rattle.std.specs.List.{remove, AllByRecursion}
 use Rattle.std.proofs.lemmas.Bool.{cond-true, cond-false, false_from_ne_true, false≢true}
 use Rattle.std.proofs.lemmas.List.{get_or_read}
-use Rattle.std.proofs.lemmas.List.Elements.{recursion_from_All}
+use Rattle.std.proofs.lemmas.List.Elements.{Contains-get_or, recursion_from_All}
 use Rattle.std.proofs.lemmas.List.Quantifiers.{position-Some}
 use Rattle.slot_core.specs.declared.jobs.Key.{Key}
 use Rattle.slot_core.specs.declared.jobs.Job.{Job}
+use Rattle.slot_core.specs.Choice.{ready}
 use Rattle.slot_core.specs.Safety.{after_run}
 use Rattle.slot_facts.proofs.Choice.Earliest.{same_from_key}
 use Rattle.slot_facts.proofs.Choice.Runs.{run_of_first, run_of_another, run_of_later}
 use Rattle.slot_facts.proofs.Lists.Apart.{count-none}
 use Rattle.slot_facts.proofs.Lists.ApartKeys.{IsApart-from_count}
-use Rattle.slot_facts.proofs.Lists.Members.{Has}
+use Rattle.slot_facts.proofs.Lists.Members.{Has, Has-from_Contains}
 use Rattle.slot_facts.proofs.Lists.SameItems.{counted}
 use Rattle.slot_facts.proofs.Lists.Tests.{find-Some}
 use Rattle.slot_facts.proofs.Offline.DistinctKeys.{IsApart}
@@ -131,6 +132,31 @@ filter-at key (j ∷ jobs) (suc i) at remaining =
 pub filter-position : (queue : QueueParts) (key : Key) (i : ℕ) → IsQueue queue → position (has_key key) queue.jobs ≡ Some i → filter (λ j. not (has_key key j)) queue.jobs ≡ remove queue.jobs i
 filter-position queue key i is_queue e =
     filter-at key queue.jobs i (IsPlaceOf-position key queue.jobs i e) (AreRemaining-queue queue is_queue)
+
+-- where no two jobs have one key, none before the job of a key has it
+HasNone-apart : (key : Key) (jobs : List Job) (i : ℕ) → i < length jobs → ((d : Job) → has_key key (get_or jobs i d) ≡ true) → IsApart (λ (j : Job). j.key) jobs → HasNone key jobs i
+HasNone-apart key [] i inside here apart k d low = absurd (omega arith)
+HasNone-apart key (j ∷ jobs) zero inside here apart k d low = absurd (omega arith)
+HasNone-apart key (j ∷ jobs) (suc i) inside here apart zero d low =
+    let own = same_from_key (get_or jobs i d).key key (here d) in
+    let at = Has-from_Contains jobs (get_or jobs i d) (Contains-get_or jobs i d (omega arith)) in
+    false_from_ne_true (has_key key j) (λ same. apart.0 (get_or jobs i d) at (same_from_key j.key key same ∙ sym own))
+HasNone-apart key (j ∷ jobs) (suc i) inside here apart (suc k) d low =
+    HasNone-apart key jobs i (omega arith) here apart.1 k d (omega arith)
+
+-- in a queue, at the place of the job that is found among the ready ones
+pub filter-ready : (queue : QueueParts) (now : ℕ) (key : Key) (i : ℕ) → IsQueue queue → i < length queue.jobs → ((d : Job) → find (has_key key) (ready now queue.jobs) ≡ Some (get_or queue.jobs i d)) → filter (λ j. not (has_key key j)) queue.jobs ≡ remove queue.jobs i
+filter-ready queue now key i is_queue inside found =
+    let remaining = AreRemaining-queue queue is_queue in
+    let here : (d : Job) → has_key key (get_or queue.jobs i d) ≡ true =
+    λ d. (find-Some (has_key key) (ready now queue.jobs) (get_or queue.jobs i d) (found d)).1 in
+    let at : IsPlaceOf key queue.jobs i =
+    record {
+      inside = inside;
+      here = here;
+      before = HasNone-apart key queue.jobs i inside here remaining.apart;
+    } in
+    filter-at key queue.jobs i at remaining
 
 -- where it finds none
 pub filter-no_position : (key : Key) (jobs : List Job) → position (has_key key) jobs ≡ None → filter (λ j. not (has_key key j)) jobs ≡ jobs

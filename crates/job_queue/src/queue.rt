@@ -1,7 +1,8 @@
 //! A queue of jobs in two parts.
 
-ghost use Rattle.std.specs.Prelude.{◌≡◌, ◌+◌, ◌<◌, ◌≤◌, ◌^◌, [], ◌∷◌, ◌++◌, false, not, filter, find, length, count_by, position, remove, slice_index_or, None, Some, IfOk, IsTrue};
+ghost use Rattle.std.specs.Prelude.{◌≡◌, ℕ, ◌+◌, ◌<◌, ◌≤◌, ◌^◌, [], ◌∷◌, ◌++◌, false, not, filter, find, length, count_by, position, remove, slice_index_or, None, Some, IfOk, IsTrue};
 ghost use Rattle.std.specs.List.Sorted.{IsNonDecreasingBy};
+ghost use Rattle.std.specs.Option.{option_map};
 ghost use Rattle.slot_core.specs.declared.jobs.Job.{Job};
 ghost use Rattle.slot_core.specs.Keys.{is_soft, same_key};
 ghost use Rattle.slot_core.specs.Choice.{earliest, ready};
@@ -130,18 +131,8 @@ impl JobQueue {
         ensures steps { steps.old + search_steps key (ready now self.now.jobs) ≤ steps.new }
         ensures few_steps { steps.new ≤ steps.old + length self.now.jobs }
     {
-        for place in 0..self.len() as usize {
-            let job = self.job(place);
-            steps.tick();
-            if job.est <= now {
-                if is_same_key(job.key, key) {
-                    return Some(job);
-                }
-            } else if self.beside.len() <= place {
-                break;
-            }
-        }
-        None
+        let place = self.place_ready(now, key, steps)?;
+        Some(self.job(place))
     }
 
     /// One slot has run of the job of this key. It goes where that was its last one. One step a job
@@ -175,6 +166,46 @@ impl JobQueue {
     {
         let place = self.place_of(key, steps)?;
         self.remove(place)
+    }
+
+    /// Removes the job of this key, where it may start by `now`, and returns it. None exactly where
+    /// no such job has it. One step a job looked at: those beside, and the listed ones up to the
+    /// first that starts later.
+    pub fn take_ready<L: Ledger>(&mut self, now: u64, key: Key, steps: &mut Steps<L>) -> Option<Job>
+        ensures job { result ≡ find (λ j. same_key j.key key) (ready now self.old.jobs) }
+        ensures jobs { (job : Job) → result ≡ Some job → HaveSameItems self.new.jobs
+            (filter (λ j. not (same_key j.key key)) self.old.jobs) }
+        ensures none { result ≡ None → self.new ≡ self.old }
+        ensures capacity { self.new.capacity ≡ self.old.capacity }
+        ensures steps { steps.old ≤ steps.new }
+        ensures few_steps { steps.new ≤ steps.old + length self.old.jobs }
+    {
+        let found = self.place_ready(now, key, steps)?;
+        self.remove(found)
+    }
+
+    /// The place of the job of this key, where it may start by `now`. This call also tells what
+    /// every queue is.
+    fn place_ready<L: Ledger>(&self, now: u64, key: Key, steps: &mut Steps<L>) -> Option<usize>
+        ensures job { (d : Job) → find (λ j. same_key j.key key) (ready now self.now.jobs)
+            ≡ option_map (λ place. slice_index_or self.now.jobs place d) result }
+        ensures within { (place : ℕ) → result ≡ Some place → place < length self.now.jobs }
+        ensures queue { IsQueue self.now }
+        ensures steps { steps.old + search_steps key (ready now self.now.jobs) ≤ steps.new }
+        ensures few_steps { steps.new ≤ steps.old + length self.now.jobs }
+    {
+        for place in 0..self.len() as usize {
+            let job = self.job(place);
+            steps.tick();
+            if job.est <= now {
+                if is_same_key(job.key, key) {
+                    return Some(place);
+                }
+            } else if self.beside.len() <= place {
+                break;
+            }
+        }
+        None
     }
 
     /// The place of the job of this key. This call also tells what every queue is.

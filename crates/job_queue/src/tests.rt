@@ -23,6 +23,7 @@ enum Call {
     FindReady(u64, Key),
     Ran(Key),
     Take(Key),
+    TakeReady(u64, Key),
 }
 
 // Two tasks of a graph of period 8, the second after the first, in their first instances, and an
@@ -52,7 +53,9 @@ fn answers_calls_in_a_row(rt: HostRuntime) -> Result<(), Fail> {
         (Call::Find(first(1)), some(first(1), 8, 15, 2), 4),
         (Call::Take(second(0)), some(second(0), 2, 8, 1), 3),
         (Call::Take(second(0)), None, 3),
-        (Call::Take(OFFER), some(OFFER, 0, 7, 3), 2),
+        (Call::TakeReady(4, first(1)), None, 3),
+        (Call::TakeReady(4, OFFER), some(OFFER, 0, 7, 3), 2),
+        (Call::TakeReady(4, OFFER), None, 2),
         (Call::Earliest(7), None, 2),
         // the ring of listed jobs begins anew
         (insert(first(2), 16, 23, 2), None, 3),
@@ -61,7 +64,7 @@ fn answers_calls_in_a_row(rt: HostRuntime) -> Result<(), Fail> {
         (Call::Earliest(8), some(first(1), 8, 15, 2), 5),
         (Call::Find(first(3)), some(first(3), 24, 31, 2), 5),
         (Call::Ran(second(1)), None, 4),
-        (Call::Take(first(1)), some(first(1), 8, 15, 2), 3),
+        (Call::TakeReady(8, first(1)), some(first(1), 8, 15, 2), 3),
         (Call::Earliest(17), some(first(2), 16, 23, 2), 3),
         (Call::Earliest(30), some(first(2), 16, 23, 2), 3),
     ];
@@ -105,6 +108,7 @@ fn answer_of<L: Ledger>(queue: &mut JobQueue, call: Call, steps: &mut Steps<L>) 
             None
         }
         Call::Take(key) => queue.take(key, steps),
+        Call::TakeReady(now, key) => queue.take_ready(now, key, steps),
     }
 }
 

@@ -3,4 +3,3 @@ pub mod Feasible
 pub mod Instances
 pub mod Sound
 pub mod TallyLemmas
-pub mod TraceLengths

@@ -33,13 +33,12 @@ pub mod Safety
 pub mod Kept
 pub mod Plans
 pub mod Executives
--- Texts and bytes
+-- Texts
 pub mod Texts
 pub mod FaultTexts
 pub mod FaultNumbers
 pub mod Reports
 pub mod Charts
-pub mod Spelling
 -- Calls
 pub mod Counts
 pub mod Results

@@ -1,5 +1,5 @@
 -- The plan of a feasible set.
-use Rattle.std.specs.Prelude.{◌≡◌, ℕ, true, List, [], ◌∷◌, filter, nat_le, IsPermutation, ⊤}
+use Rattle.std.specs.Prelude.{◌≡◌, ℕ, true, List, [], ◌∷◌, filter, nat_le, if◌then◌else◌, IsPermutation, ⊤}
 use Rattle.std.specs.List.{AllByRecursion}
 use Rattle.slot_core.specs.declared.jobs.Job.{Job}
 use Rattle.slot_core.specs.declared.jobs.Span.{Span}
@@ -29,6 +29,26 @@ pub record PlanParts : Type 0 where
 abbrev pub plan_spans : TaskSet → ℕ → List Span
 plan_spans set cycle =
     filter (λ (s : Span). nat_le s.end cycle) (spans_of cycle (scene_of set cycle []))
+
+-- the job at its place among jobs in deadline order
+abbrev pub with_job : Job → List Job → List Job
+with_job job [] = job ∷ []
+with_job job (other ∷ jobs) =
+    if is_earlier other job then other ∷ with_job job jobs else job ∷ other ∷ jobs
+
+-- the jobs in deadline order
+abbrev pub in_deadline_order : List Job → List Job
+in_deadline_order [] = []
+in_deadline_order (job ∷ jobs) = with_job job (in_deadline_order jobs)
+
+-- the plan of a feasible set
+abbrev pub planned : TaskSet → PlanParts
+planned set = record {
+  tasks = set;
+  cycle = cycle_of set;
+  jobs = in_deadline_order (cycle_jobs set (cycle_of set) 0);
+  spans = plan_spans set (cycle_of set);
+}
 
 -- a plan is a sound and feasible set with its cycle, the offline jobs of the first cycle in
 -- deadline order, and the spans of the first cycle

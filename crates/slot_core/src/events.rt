@@ -43,7 +43,8 @@ pub enum Firm {
     Late,
     /// Its deadline is more than one cycle ahead.
     Far,
-    /// No schedule serves it beside the remaining jobs.
+    /// For some sporadic arrivals that may still come, no schedule serves it beside them and the
+    /// remaining jobs; the evidence is the first time by which more is needed than there are slots.
     NoRoom(Evidence),
 }
 

@@ -6,6 +6,7 @@ pub mod Maps
 pub mod Matched
 pub mod MemberSums
 pub mod Members
+pub mod Permuted
 pub mod RangeFilters
 pub mod RangeSearch
 pub mod SameItems

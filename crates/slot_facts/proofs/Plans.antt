@@ -3,8 +3,10 @@ pub mod CyclePoints
 pub mod DeadlineOrder
 pub mod FirstSpans
 pub mod Horizons
+pub mod InOrder
 pub mod Items
 pub mod LaterPoints
+pub mod Planned
 pub mod Points
 pub mod PointsInAnyOrder
 pub mod SetPoints

@@ -1,5 +1,6 @@
 -- The replay of arrivals: what is left of it after a history.
 pub mod Entries
 pub mod Following
+pub mod Lengths
 pub mod Named
 pub mod Told

@@ -37,7 +37,10 @@ impl Reserve {
         requires few { length rows.now ≤ RESERVE_LIMIT }
         requires in_range { list_all sporadic_in_range rows.now ≡ true }
         ensures { result
-            ≡ record { sporadics = map without_name rows.now; nexts = map (λ (s : Sporadic). 0) rows.now } }
+            ≡ record {
+              sporadics = map without_name rows.now;
+              nexts = map (λ (s : Sporadic). 0) rows.now;
+            } }
     {
         let mut kept = ArrayVec::new();
         for task in rows {
@@ -64,7 +67,8 @@ impl Reserve {
         ensures due { IfOk result (λ due.
             IfSome (slice_get self.old.sporadics index) (λ s. due ≡ t + s.deadline)) }
         ensures next { OnOk result (IfSome (slice_get self.old.sporadics index) (λ s.
-            self.new ≡ record self.old { nexts = slice_set self.old.nexts index (t + s.separation) })) }
+            self.new
+            ≡ record self.old { nexts = slice_set self.old.nexts index (t + s.separation) })) }
         ensures soon { IfErr result (λ next.
             (next ≡ slice_index self.old.nexts index) × (t < next)) }
         ensures stays { OnErr result (self.new ≡ self.old) }

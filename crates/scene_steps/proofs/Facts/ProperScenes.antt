@@ -1,8 +1,8 @@
 -- The scene of a legal history is proper, and so is that of each executive that stands for one.
 use Rattle.std.proofs.Common.{◌≡◌, ℕ, ◌+◌, ◌-◌, ◌*◌, ◌/◌, ◌≤◌, true, List, length, sym, ap, ◌∙◌, subst, arith}
 use Rattle.std.specs.Prelude.{All, Contains}
-use Rattle.std.proofs.lemmas.List.Elements.{All-contains, All-from_recursion}
-use Rattle.std.proofs.lemmas.List.Sorted.{Contains-permutation}
+use Rattle.std.proofs.lemmas.List.Elements.{All-from_recursion}
+use Rattle.std.proofs.lemmas.List.Sorted.{All-permutation, IsPermutation-sym}
 use Rattle.slot_core.specs.declared.jobs.Job.{Job}
 use Rattle.slot_core.specs.declared.tasks.TaskSet.{TaskSet}
 use Rattle.slot_core.specs.Cycles.{cycle_of}
@@ -55,8 +55,7 @@ proper_scene-legal set h sound feasible legal =
 -- what holds of each job of a list holds of those of a list with the same items
 all-same_items : (P : Job → Type 0) (xs ys : List Job) → HaveSameItems xs ys → All P ys → All P xs
 all-same_items P xs ys same all =
-    All-from_recursion P xs (AllByRecursion-from_Has P xs (λ job at.
-    All-contains P ys job all (Contains-permutation xs ys job ((jobs-same_items xs ys).0 same) (Contains-from_Has xs job at))))
+    All-permutation P ys xs (IsPermutation-sym xs ys ((jobs-same_items xs ys).0 same)) all
 
 -- lists with the same items are of one length
 pub length-same_items : (xs ys : List Job) → HaveSameItems xs ys → length xs ≡ length ys

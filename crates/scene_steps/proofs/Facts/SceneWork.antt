@@ -6,8 +6,6 @@ use Rattle.std.specs.List.{AllByRecursion}
 use Rattle.std.proofs.lemmas.Bool.{cases_Bool}
 use Rattle.std.proofs.lemmas.List.Elements.{All-from_recursion}
 use Rattle.std.proofs.lemmas.List.Sums.{sum_by-cons}
-use Rattle.slot_core.specs.declared.jobs.Key.{Key}
-use Rattle.slot_core.specs.declared.jobs.Key.TheVariants.{Offline, Sporadic, Firm, Soft}
 use Rattle.slot_core.specs.declared.jobs.Job.{Job}
 use Rattle.slot_core.specs.declared.tasks.TaskSet.{TaskSet}
 use Rattle.slot_core.specs.Keys.{is_offline, is_soft}
@@ -16,7 +14,9 @@ use Rattle.slot_core.specs.Ranges.{is_sound}
 use Rattle.slot_core.specs.Demand.{work_by}
 use Rattle.slot_core.specs.Scenes.{Scene}
 use Rattle.slot_core.specs.Kept.{KeepsBounds}
-use Rattle.slot_facts.proofs.Lists.Members.{Has, Contains-from_Has, AllByRecursion-from_Has}
+use Rattle.slot_facts.proofs.Legal.Jobs.{not_soft-from_offline}
+use Rattle.slot_facts.proofs.Lists.Members.{Contains-from_Has, AllByRecursion-from_Has}
+use Rattle.slot_facts.proofs.Lists.MemberSums.{length-at_most_sum}
 use Rattle.slot_facts.proofs.Offline.Windows.{IsOfCycle-from_offline}
 
 -- where all jobs are due by x, all that is left is work due by x
@@ -25,19 +25,6 @@ work_by-all [] x all = refl
 work_by-all (j ∷ jobs) x all =
     let here : cond (nat_le j.dl x) j.left 0 ≡ j.left = rw (le-leb j.dl x all.0) refl in
     omega (arith, sum_by-cons (λ (o : Job). o.left) j jobs, sum_by-cons (λ (o : Job). cond (nat_le o.dl x) o.left 0) j jobs, work_by-all jobs x all.1, here)
-
--- where each item counts for one or more, there are no more items than their sum
-pub length-at_most_sum : {X : Type 0} (f : X → ℕ) (xs : List X) → ((x : X) → Has xs x → 1 ≤ f x) → length xs ≤ sum_by f xs
-length-at_most_sum f [] some = omega arith
-length-at_most_sum f (x ∷ xs) some =
-    omega (arith, some x (inl refl), sum_by-cons f x xs, length-at_most_sum f xs (λ y at. some y (inr at)))
-
--- the key of an offline job is not that of a soft one
-pub not_soft-from_offline : (key : Key) → is_offline key ≡ true → is_soft key ≡ false
-not_soft-from_offline (Offline g t k) e = refl
-not_soft-from_offline (Sporadic i r) e = refl
-not_soft-from_offline (Firm r) e = refl
-not_soft-from_offline (Soft r) e = cc
 
 -- a job of a scene that keeps its bounds is not soft
 pub jobs-not_soft : (set : TaskSet) (cycle cycles : ℕ) (scene : Scene) (job : Job) → KeepsBounds set cycle cycles scene → Contains scene.jobs job → is_soft job.key ≡ false

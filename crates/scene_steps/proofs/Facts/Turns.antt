@@ -27,9 +27,10 @@ use Rattle.slot_facts.proofs.Offline.Jobs.{cycle-positive}
 use Rattle.slot_facts.proofs.Offline.LaterJobs.{cycle_jobs-are_later}
 use Rattle.slot_facts.proofs.Plans.Horizons.{NextSlot, turn, inside, next_slot}
 use Rattle.slot_facts.proofs.Legal.Executives.{every_executive_is_kept}
-use Rattle.slot_facts.proofs.Legal.Jobs.{offline-key}
+use Rattle.slot_facts.proofs.Legal.Jobs.{offline-key, not_soft-from_offline}
 use Rattle.scene_steps.proofs.Facts.AfterChoice.{later_with, choice-keeps}
-use Rattle.scene_steps.proofs.Facts.SceneWork.{length-at_most_sum, not_soft-from_offline, jobs-fit}
+use Rattle.slot_facts.proofs.Lists.MemberSums.{length-at_most_sum}
+use Rattle.scene_steps.proofs.Facts.SceneWork.{jobs-fit}
 
 -- where two lists in a row are apart, the second one is, and no two members across them have one value
 IsApart-parts : {X Y : Type 0} (f : X → Y) (xs ys : List X) → IsApart f (xs ++ ys) → IsApart f ys × ((x y : X) → Has xs x → Has ys y → f x ≡ f y → ⊥)

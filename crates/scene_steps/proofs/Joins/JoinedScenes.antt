@@ -14,7 +14,7 @@ use Rattle.slot_facts.proofs.Lists.Members.{Contains-from_Has, Has-append_right}
 use Rattle.slot_facts.proofs.Plans.Items.{plan_cycle-bounds}
 use Rattle.scene_steps.specs.Joins.{HavePlace, MayJoin}
 use Rattle.scene_steps.proofs.Facts.ProperScenes.{proper_scene}
-use Rattle.scene_steps.proofs.Facts.SceneWork.{length-at_most_sum}
+use Rattle.slot_facts.proofs.Lists.MemberSums.{length-at_most_sum}
 use Rattle.scene_steps.proofs.Joins.JoinedSpans.{charge-cut, left-with_job}
 use Rattle.scene_steps.proofs.Spans.Executives.{last_end-spans, split-free}
 use Rattle.scene_steps.proofs.Spans.Proper.{horizon-at_least, horizon-at_most}

@@ -12,6 +12,7 @@ use Rattle.slot_facts.proofs.Lists.Tests.{equal-from_Has, Has-from_equal}
 use Rattle.slot_facts.proofs.Plans.Horizons.{past_now, further_now}
 use Rattle.slot_facts.proofs.Plans.SetPoints.{points_from}
 use Rattle.scene_steps.specs.Steps.{with_point}
+use Rattle.scene_steps.proofs.Spans.Points.{with_point-before}
 
 -- tests that agree on the members of a list keep the same ones
 pub filter-same : {X : Type 0} (p q : X → Bool) (xs : List X) → ((x : X) → Has xs x → p x ≡ q x) → filter p xs ≡ filter q xs
@@ -41,9 +42,7 @@ points-above p a n = by_test (p a)
 -- a point below all others comes first
 with_point-first : (x : ℕ) (points : List ℕ) → ((y : ℕ) → Has points y → x < y) → with_point x points ≡ x ∷ points
 with_point-first x [] below = refl
-with_point-first x (y ∷ points) below =
-    let lt = below y (inl refl) in
-    rw (ne_eqb x y (λ e. absurd (omega arith)), lt-ltb x y lt) refl
+with_point-first x (y ∷ points) below = with_point-before x y points (below y (inl refl))
 
 -- the points of a range by a test that one number more passes are those before with it
 pub with_point-more : (p q : ℕ → Bool) (x a n : ℕ) → a ≤ x → x < a + n → q x ≡ true → ((y : ℕ) → (x ≡ y → ⊥) → q y ≡ p y) → with_point x (filter p (range_with_len a n)) ≡ filter q (range_with_len a n)

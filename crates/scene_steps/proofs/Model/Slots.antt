@@ -28,6 +28,7 @@ use Rattle.slot_facts.proofs.Offline.Cycles.{IsOfCycle-from_cycle}
 use Rattle.slot_facts.proofs.Offline.Jobs.{cycle-positive}
 use Rattle.slot_facts.proofs.Plans.Horizons.{turn, inside, NextSlot, next_slot, past_now}
 use Rattle.slot_facts.proofs.Plans.SetPoints.{planned}
+use Rattle.slot_facts.proofs.Replays.Entries.{time_of-ran}
 use Rattle.scene_steps.specs.Steps.{one_slot_later, with_cycle, with_next_cycle, after_ran}
 use Rattle.scene_steps.proofs.Model.Points.{points_to_horizon, points_to_horizon-inside, points_to_horizon-turn}
 use Rattle.scene_steps.proofs.Model.SoftJobs.{waiting-slot}
@@ -145,11 +146,6 @@ later-slot : (set : TaskSet) (ran : Ran) (h : History) → later set ran h ≡ s
 later-slot set RanIdle h = refl
 later-slot set (RanKey key) h = refl
 
--- whose time is one later
-time_of-slot : (ran : Ran) (h : History) → time_of (told_of_slot ran ∷ h) ≡ suc (time_of h)
-time_of-slot RanIdle h = refl
-time_of-slot (RanKey key) h = refl
-
 -- the third cycle from a time on comes in where the time is the start of a cycle
 with_next_cycle-turn : (set : TaskSet) (cycle n : ℕ) (scene : Scene) → scene.time % cycle ≡ 0 → scene.time / cycle + 2 ≡ n → with_next_cycle set cycle scene ≡ with_cycle set cycle n scene
 with_next_cycle-turn set cycle n scene even is =
@@ -179,7 +175,7 @@ slot-follows set ran h sound feasible legal =
         let cycle = cycle_of set in
         let t = time_of h in
         let n = t / cycle + 3 in
-        let time = time_of-slot ran h in
+        let time = time_of-ran ran h in
         let number : (t + 1) / cycle + 2 ≡ n = ap (λ u. u / cycle + 2) (add-one t) ∙ omega arith in
         let comes = with_next_cycle-turn set cycle n next (ap (λ u. u % cycle) (add-one t) ∙ even) number in
         let reaches : time_of (told_of_slot ran ∷ h) / cycle + 3 ≤ suc n = rw time (omega arith) in

@@ -1,5 +1,5 @@
 -- The spans with a point more.
-use Rattle.std.proofs.Common.{◌≡◌, ℕ, ◌<◌, ◌≤◌, ◌⊎◌, cond, ltb, ◌&&◌, List, [], ◌∷◌, refl, sym, ap, ◌∙◌, inl, inr, ⊎_elim, arith, eq-eqb, ne_eqb, lt-ltb, le-ltb}
+use Rattle.std.proofs.Common.{◌≡◌, ℕ, ◌<◌, ◌≤◌, ◌⊎◌, cond, ltb, ◌&&◌, List, [], ◌∷◌, refl, sym, ap, ◌∙◌, inl, inr, ⊎_elim, arith, lt-ltb, le-ltb}
 use Rattle.std.proofs.lemmas.Bool.{cond_both, cases_lt, cases_order, and_left, and_right}
 use Rattle.slot_core.specs.declared.jobs.Job.{Job}
 use Rattle.slot_core.specs.declared.jobs.Span.{Span}
@@ -14,6 +14,7 @@ use Rattle.scene_steps.specs.Rows.{spans, AreDueAmong}
 use Rattle.scene_steps.specs.Steps.{with_point}
 use Rattle.scene_steps.proofs.Rows.Bare.{bare, cleared, bare-spans_between, filled-spans, same_row}
 use Rattle.scene_steps.proofs.Rows.Due.{Has-due, AreDueAmong-from_Has, work_between-from_later}
+use Rattle.scene_steps.proofs.Spans.Points.{with_point-same, with_point-before, with_point-after, AreRising-with_point, Has-with_point_other}
 
 -- a cut is the same before and after the capacities are cleared
 pub bare-cut : (at : ℕ) (rows : List Span) → bare (cut at rows) ≡ cut at (bare rows)
@@ -49,20 +50,6 @@ due_later : (jobs : List Job) (s e : ℕ) (points : List ℕ) → s < e → AreD
 due_later jobs s e points low due j at later =
     ⊎_elim (λ same. absurd (omega arith)) (λ among. among) (due j at (omega arith))
 
--- a point more, where it is the first one
-with_point-first : (at e : ℕ) (points : List ℕ) → at ≡ e → with_point at (e ∷ points) ≡ e ∷ points
-with_point-first at e points same = rw (eq-eqb at e same) refl
-
--- where it goes before the first
-with_point-before : (at e : ℕ) (points : List ℕ) → at < e → with_point at (e ∷ points) ≡ at ∷ e ∷ points
-with_point-before at e points before =
-    rw (ne_eqb at e (λ same. absurd (omega arith)), lt-ltb at e before) refl
-
--- where it goes after the first
-with_point-after : (at e : ℕ) (points : List ℕ) → e < at → with_point at (e ∷ points) ≡ e ∷ with_point at points
-with_point-after at e points after =
-    rw (ne_eqb at e (λ same. absurd (omega arith)), le-ltb at e (omega arith)) refl
-
 -- the rows with one cut are the rows with the point more
 cut-rows_between : (at : ℕ) (jobs : List Job) (s : ℕ) (points : List ℕ) → AreRising s points → AreDueLater s points jobs → s < at → at ≤ last_point s points → cut at (rows_between jobs s points) ≡ rows_between jobs s (with_point at points)
 cut-rows_between at jobs s [] rising due low high = absurd (omega arith)
@@ -70,7 +57,7 @@ cut-rows_between at jobs s (e ∷ points) rising due low high =
     elim (cases_order at e) [
       | inl same ↦
           let rest = cut-rows_after at jobs e points (omega arith) rising.1 in
-          rw (with_point-first at e points same, and_right (ltb s at) (ltb at e) (le-ltb at e (omega arith))) (same_row s e _ _ _ _ refl rest)
+          rw (with_point-same at e points same, and_right (ltb s at) (ltb at e) (le-ltb at e (omega arith))) (same_row s e _ _ _ _ refl rest)
       | inr (inl before) ↦
           let none = none_before jobs s e points rising.1 due in
           let beyond = AllByRecursion-weaker _ (λ (j : Job). (j.dl ≤ s) ⊎ (at < j.dl)) jobs (λ j h. ⊎_elim inl (λ far. inr (omega arith)) h) none in
@@ -79,28 +66,6 @@ cut-rows_between at jobs s (e ∷ points) rising due low high =
       | inr (inr after) ↦
           let rest = cut-rows_between at jobs e points rising.1 (due_later jobs s e points rising.0 due) after high in
           rw (with_point-after at e points after, and_right (ltb s at) (ltb at e) (le-ltb at e (omega arith))) (same_row s e _ _ _ _ refl rest)
-    ]
-
--- points with one more rise
-AreRising-with_point : (p start : ℕ) (points : List ℕ) → start < p → AreRising start points → AreRising start (with_point p points)
-AreRising-with_point p start [] low rising = (low, tt)
-AreRising-with_point p start (e ∷ points) low rising =
-    elim (cases_order p e) [
-      | inl same ↦ rw (with_point-first p e points same) rising
-      | inr (inl before) ↦ rw (with_point-before p e points before) (low, (before, rising.1))
-      | inr (inr after) ↦
-          rw (with_point-after p e points after) (rising.0, AreRising-with_point p e points after rising.1)
-    ]
-
--- and each point is one of them
-Has-with_point_other : (p : ℕ) (points : List ℕ) (x : ℕ) → Has points x → Has (with_point p points) x
-Has-with_point_other p [] x among = absurd among
-Has-with_point_other p (e ∷ points) x among =
-    elim (cases_order p e) [
-      | inl same ↦ rw (with_point-first p e points same) among
-      | inr (inl before) ↦ rw (with_point-before p e points before) (inr among)
-      | inr (inr after) ↦
-          rw (with_point-after p e points after) (⊎_elim inl (λ h. inr (Has-with_point_other p points x h)) among)
     ]
 
 -- the spans with one cut are the spans with the point more

@@ -1,7 +1,7 @@
 -- The spans of the next cycle are a plan's spans, appended.
 use Rattle.std.proofs.Common.{◌≡◌, ℕ, suc, ◌+◌, ◌*◌, ◌<◌, ◌≤◌, List, [], ◌∷◌, ◌++◌, map, sym, ap, ap₂, ◌∙◌, subst, inl, inr, ⊎_elim, arith}
 use Rattle.std.specs.List.{range_with_len}
-use Rattle.std.proofs.lemmas.List.Sorted.{IsPermutation-refl, IsPermutation-sym, Contains-permutation}
+use Rattle.std.proofs.lemmas.List.Sorted.{IsPermutation-refl, IsPermutation-sym}
 use Rattle.std.proofs.lemmas.List.Elements.{filter_agree}
 use Rattle.slot_core.specs.declared.jobs.Job.{Job}
 use Rattle.slot_core.specs.declared.tasks.TaskSet.{TaskSet}
@@ -10,7 +10,8 @@ use Rattle.slot_core.specs.OfflineJobs.{cycle_jobs, later_job}
 use Rattle.slot_core.specs.Plans.{PlanParts, plan_spans, IsPlan}
 use Rattle.slot_core.specs.Rising.{AreRising, last_point}
 use Rattle.slot_core.specs.Spans.{spans_between}
-use Rattle.slot_facts.proofs.Lists.Members.{Has, Has-from_Contains, Contains-from_Has, Has-append_cases, Has-append_left, Has-append_right, Has-filter, Has-range_with_len, AllByRecursion-at_Has, AllByRecursion-from_Has}
+use Rattle.slot_facts.proofs.Lists.Members.{Has, Has-append_cases, Has-append_left, Has-append_right, Has-filter, Has-range_with_len, AllByRecursion-at_Has, AllByRecursion-from_Has}
+use Rattle.slot_facts.proofs.Lists.Permuted.{Has-permuted}
 use Rattle.slot_facts.proofs.Offline.LaterJobs.{cycle_jobs-are_later, all_fit, later-due_after, later-due_by}
 use Rattle.slot_facts.proofs.Plans.LaterPoints.{points_of_cycle}
 use Rattle.slot_facts.proofs.Plans.PointsInAnyOrder.{is_point-among}
@@ -62,8 +63,8 @@ module _ (set : TaskSet) (first : List Job) (these : AreFirstJobs set first) whe
       let jobs = cycle_jobs set (cycle_of set) 0 in
       filter_agree (is_cycle_point (cycle_of set) jobs) (is_cycle_point (cycle_of set) first)
       (is_point-among (cycle_of set) jobs first
-      (λ j h. Has-from_Contains first j (Contains-permutation jobs first j these.listed (Contains-from_Has jobs j h)))
-      (λ j h. Has-from_Contains jobs j (Contains-permutation first jobs j (IsPermutation-sym jobs first these.listed) (Contains-from_Has first j h))))
+      (λ j h. Has-permuted jobs first j these.listed h)
+      (λ j h. Has-permuted first jobs j (IsPermutation-sym jobs first these.listed) h))
       (range_with_len 1 (cycle_of set))
 
   -- a plan's spans are the rows of the first cycle, but for their capacities

@@ -9,7 +9,6 @@ use Rattle.slot_core.specs.declared.tasks.TaskSet.{TaskSet}
 use Rattle.slot_core.specs.Demand.{work_between}
 use Rattle.slot_core.specs.OfflineJobs.{later_job}
 use Rattle.slot_core.specs.Rising.{AreRising, last_point}
-use Rattle.slot_core.specs.Spans.{spans_between}
 use Rattle.slot_facts.proofs.Lists.Maps.{map-map}
 use Rattle.slot_facts.proofs.Lists.Members.{AllByRecursion-weaker}
 use Rattle.spare_capacity.specs.Recurrence.{last_end}
@@ -21,6 +20,7 @@ use Rattle.scene_steps.specs.Rows.{spans}
 use Rattle.scene_steps.proofs.Rows.Bare.{bare, cleared, same_row}
 use Rattle.scene_steps.proofs.Rows.JobWorks.{work_between-append}
 use Rattle.scene_steps.proofs.Rows.Works.{rows_between-same}
+use Rattle.scene_steps.proofs.Spans.Between.{last_end-between}
 
 -- points and others that rise from the last of them rise
 pub AreRising-append : (s : ℕ) (points later : List ℕ) → AreRising s points → AreRising (last_point s points) later → AreRising s (points ++ later)
@@ -37,12 +37,7 @@ pub last_point-plus : (by s at : ℕ) (points : List ℕ) → at ≡ s + by → 
 last_point-plus by s at [] same = same
 last_point-plus by s at (e ∷ points) same = last_point-plus by e (e + by) points refl
 
--- the last end of spans between points is the last point
-last_end-between : (jobs : List Job) (end start : ℕ) (points : List ℕ) → last_end start (spans_between jobs end start points) ≡ last_point start points
-last_end-between jobs end start [] = refl
-last_end-between jobs end start (e ∷ points) = last_end-between jobs end e points
-
--- also from any other start, where there is a point
+-- the last end of spans between points is the last point from any start, where there is a point
 pub last_end-from_any : (jobs : List Job) (low s : ℕ) (points : List ℕ) → s < last_point s points → last_end low (spans jobs s points) ≡ last_point s points
 last_end-from_any jobs low s [] some = absurd (omega arith)
 last_end-from_any jobs low s (e ∷ points) some = last_end-between jobs (last_point e points) e points

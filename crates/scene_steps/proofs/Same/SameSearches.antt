@@ -2,14 +2,14 @@
 use Rattle.std.proofs.Common.{◌≡◌, Bool, true, false, cond, List, [], ◌∷◌, map, Option, Some, None, refl, sym, ap, ◌∙◌}
 use Rattle.std.specs.Prelude.{find, option_map}
 use Rattle.std.proofs.lemmas.Bool.{both_ways}
-use Rattle.std.proofs.lemmas.List.Sorted.{Contains-permutation}
 use Rattle.slot_core.specs.declared.jobs.Key.{Key}
 use Rattle.slot_core.specs.declared.jobs.Job.{Job}
 use Rattle.slot_core.specs.Keys.{same_key}
 use Rattle.slot_core.specs.Matches.{HaveSameItems}
 use Rattle.slot_facts.proofs.Choice.Earliest.{same_from_key}
 use Rattle.slot_facts.proofs.Lists.ApartKeys.{same_member-from_apart}
-use Rattle.slot_facts.proofs.Lists.Members.{Has, Contains-from_Has, Has-from_Contains}
+use Rattle.slot_facts.proofs.Lists.Members.{Has}
+use Rattle.slot_facts.proofs.Lists.Permuted.{Has-permuted}
 use Rattle.slot_facts.proofs.Lists.SameItems.{same-sym, jobs-same_items}
 use Rattle.slot_facts.proofs.Lists.Tests.{find-Some}
 use Rattle.slot_facts.proofs.Offline.DistinctKeys.{IsApart}
@@ -17,8 +17,7 @@ use Rattle.slot_facts.proofs.Sets.Faults.{find-None}
 
 -- a job of one list is one of each list with the same jobs
 pub Has-same : (xs ys : List Job) (job : Job) → HaveSameItems xs ys → Has xs job → Has ys job
-Has-same xs ys job same at =
-    Has-from_Contains ys job (Contains-permutation xs ys job ((jobs-same_items xs ys).0 same) (Contains-from_Has xs job at))
+Has-same xs ys job same at = Has-permuted xs ys job ((jobs-same_items xs ys).0 same) at
 
 -- a search in two lists of the same members finds the same, where at most one passes
 pub find-members : {X : Type 0} (p : X → Bool) (xs ys : List X) → ((x : X) → Has xs x → Has ys x) → ((x : X) → Has ys x → Has xs x) → ((x y : X) → Has xs x → Has xs y → p x ≡ true → p y ≡ true → x ≡ y) → find p xs ≡ find p ys

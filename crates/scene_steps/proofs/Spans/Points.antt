@@ -38,16 +38,16 @@ last_point-later b start (e ∷ points) rising from far =
     ]
 
 -- a point that is the first is there already
-with_point-same : (p q : ℕ) (points : List ℕ) → p ≡ q → with_point p (q ∷ points) ≡ q ∷ points
+pub with_point-same : (p q : ℕ) (points : List ℕ) → p ≡ q → with_point p (q ∷ points) ≡ q ∷ points
 with_point-same p q points same = rw (eq-eqb p q same) refl
 
 -- one before the first stands before it
-with_point-first : (p q : ℕ) (points : List ℕ) → p < q → with_point p (q ∷ points) ≡ p ∷ q ∷ points
-with_point-first p q points before =
+pub with_point-before : (p q : ℕ) (points : List ℕ) → p < q → with_point p (q ∷ points) ≡ p ∷ q ∷ points
+with_point-before p q points before =
     rw (ne_eqb p q (λ e. absurd (omega arith)), lt-ltb p q before) refl
 
 -- one after the first stands among the others
-with_point-after : (p q : ℕ) (points : List ℕ) → q < p → with_point p (q ∷ points) ≡ q ∷ with_point p points
+pub with_point-after : (p q : ℕ) (points : List ℕ) → q < p → with_point p (q ∷ points) ≡ q ∷ with_point p points
 with_point-after p q points after =
     rw (ne_eqb p q (λ e. absurd (omega arith)), le-ltb p q (omega arith)) refl
 
@@ -59,7 +59,7 @@ Has-with_point p (q ∷ points) =
     elim (cases_order p q) [
       | inl same ↦ rw (with_point-same p q points same) (inl (sym same))
       | inr other ↦ elim other [
-        | inl before ↦ rw (with_point-first p q points before) (inl refl)
+        | inl before ↦ rw (with_point-before p q points before) (inl refl)
         | inr after ↦ rw (with_point-after p q points after) (inr rest)
       ]
     ]
@@ -72,7 +72,7 @@ Has-with_point_other p (q ∷ points) x at =
     elim (cases_order p q) [
       | inl same ↦ rw (with_point-same p q points same) at
       | inr other ↦ elim other [
-        | inl before ↦ rw (with_point-first p q points before) (inr at)
+        | inl before ↦ rw (with_point-before p q points before) (inr at)
         | inr after ↦ rw (with_point-after p q points after) (elim at [ inl e ↦ inl e | inr later ↦ inr (rest later) ])
       ]
     ]
@@ -84,7 +84,7 @@ AreRising-with_point p start (q ∷ points) above rising =
     elim (cases_order p q) [
       | inl same ↦ rw (with_point-same p q points same) rising
       | inr other ↦ elim other [
-        | inl before ↦ rw (with_point-first p q points before) (above, (before, rising.1))
+        | inl before ↦ rw (with_point-before p q points before) (above, (before, rising.1))
         | inr after ↦ rw (with_point-after p q points after) (rising.0, AreRising-with_point p q points after rising.1)
       ]
     ]
@@ -96,7 +96,7 @@ last_point-with_point p start (q ∷ points) above within =
     elim (cases_order p q) [
       | inl same ↦ rw (with_point-same p q points same) refl
       | inr other ↦ elim other [
-        | inl before ↦ rw (with_point-first p q points before) refl
+        | inl before ↦ rw (with_point-before p q points before) refl
         | inr after ↦ rw (with_point-after p q points after) (last_point-with_point p q points after within)
       ]
     ]

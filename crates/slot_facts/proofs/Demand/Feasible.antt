@@ -112,6 +112,16 @@ pub counterexample-fails : (jobs : List Job) (sporadics : List Sporadic) (cycle 
 counterexample-fails jobs sporadics cycle w positive h =
     counterexample_cases jobs sporadics cycle w (failing_window jobs sporadics cycle 0 cycle) refl h positive
 
+-- a feasible set has none
+pub none-from_feasible : (set : TaskSet) (cycle : ℕ) → 0 < cycle → IsFeasible set cycle → counterexample set cycle ≡ None
+none-from_feasible set cycle positive feasible = by_found (counterexample set cycle) refl
+  where
+    by_found : (o : Option Window) → counterexample set cycle ≡ o → o ≡ None
+    by_found None is = refl
+    by_found (Some w) is =
+        let fails = counterexample-fails (cycle_jobs set cycle 0) set.sporadics cycle w positive is in
+        absurd (omega (arith, fails, feasible w.from w.until fails.0 fails.1 fails.2))
+
 -- the order of the jobs does not matter
 declared_within-permutation : (jobs others : List Job) (shift a b : ℕ) → IsPermutation jobs others → declared_within jobs shift a b ≡ declared_within others shift a b
 declared_within-permutation jobs others shift a b h =

@@ -94,11 +94,12 @@ pub record IsGuaranteed (job : Job) : Type 0 where
   pub whole : job.left ≡ job.declared
   pub not_soft : is_soft job.key ≡ false
 
-not_soft-offline : (key : Key) → is_offline key ≡ true → is_soft key ≡ false
-not_soft-offline (Offline g t k) e = refl
-not_soft-offline (SporadicKey i r) e = refl
-not_soft-offline (FirmKey r) e = refl
-not_soft-offline (SoftKey r) e = cc
+-- the key of an offline job is not that of a soft one
+pub not_soft-from_offline : (key : Key) → is_offline key ≡ true → is_soft key ≡ false
+not_soft-from_offline (Offline g t k) e = refl
+not_soft-from_offline (SporadicKey i r) e = refl
+not_soft-from_offline (FirmKey r) e = refl
+not_soft-from_offline (SoftKey r) e = cc
 
 pub IsGuaranteed-from_listed : (set : TaskSet) (cycles : ℕ) (h : History) (job : Job) → is_sound set ≡ true → LegalEntries set (cycle_of set) h → Has (guaranteed_in set (cycle_of set) cycles h) job → IsGuaranteed job
 IsGuaranteed-from_listed set cycles h job sound l at =
@@ -106,7 +107,7 @@ IsGuaranteed-from_listed set cycles h job sound l at =
       | inl a ↦
           let planned = offline_jobs set (cycle_of set) cycles in
           let of_cycle = IsOfCycle-from_offline set cycles job sound (Contains-from_Has planned job a) in
-          record { some = of_cycle.2.some; whole = of_cycle.2.whole; not_soft = not_soft-offline job.key (offline-key set (cycle_of set) cycles job a) }
+          record { some = of_cycle.2.some; whole = of_cycle.2.whole; not_soft = not_soft-from_offline job.key (offline-key set (cycle_of set) cycles job a) }
       | inr come ↦ record { some = come.some; whole = come.whole; not_soft = come.not_soft }
     ]
 

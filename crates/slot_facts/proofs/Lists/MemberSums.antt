@@ -1,5 +1,5 @@
 -- Sums over a list against the terms of its members, and members of parts.
-use Rattle.std.proofs.Common.{◌≡◌, ℕ, zero, suc, ◌+◌, ◌≤◌, List, [], ◌∷◌, Some, refl, ap, inl, inr, arith}
+use Rattle.std.proofs.Common.{◌≡◌, ℕ, zero, suc, ◌+◌, ◌≤◌, List, [], ◌∷◌, length, Some, refl, ap, inl, inr, arith}
 use Rattle.std.specs.Prelude.{sum_by, slice_get, flat_map}
 use Rattle.std.specs.List.{range_with_len}
 use Rattle.std.proofs.lemmas.List.Sums.{sum_by-cons, sum_by-append}
@@ -10,6 +10,12 @@ pub term-le_sum_by : {X : Type 0} (f : X → ℕ) (xs : List X) (x : X) → Has 
 term-le_sum_by f [] x at = absurd at
 term-le_sum_by f (y ∷ ys) x (inl e) = omega (arith, sum_by-cons f y ys, ap f e)
 term-le_sum_by f (y ∷ ys) x (inr at) = omega (arith, sum_by-cons f y ys, term-le_sum_by f ys x at)
+
+-- where each item counts for one or more, there are no more items than their sum
+pub length-at_most_sum : {X : Type 0} (f : X → ℕ) (xs : List X) → ((x : X) → Has xs x → 1 ≤ f x) → length xs ≤ sum_by f xs
+length-at_most_sum f [] some = omega arith
+length-at_most_sum f (x ∷ xs) some =
+    omega (arith, some x (inl refl), sum_by-cons f x xs, length-at_most_sum f xs (λ y at. some y (inr at)))
 
 -- a member stands at some place
 pub place_of_member : {X : Type 0} (xs : List X) (x : X) → Has xs x → (k : ℕ) × (slice_get xs k ≡ Some x)

@@ -4,7 +4,7 @@ use Rattle.std.specs.Prelude.{slice_get, Contains}
 use Rattle.std.specs.Option.{option_map_or}
 use Rattle.std.specs.List.{range_with_len, enumerate_from, AllByRecursion}
 use Rattle.std.specs.List.Sorted.{IsPermutation}
-use Rattle.std.proofs.lemmas.List.Sorted.{IsPermutation-sym, IsPermutation-map, Contains-permutation}
+use Rattle.std.proofs.lemmas.List.Sorted.{IsPermutation-map}
 use Rattle.slot_core.specs.declared.jobs.Key.TheVariants.{Offline}
 use Rattle.slot_core.specs.declared.jobs.RawJob.{RawJob}
 use Rattle.slot_core.specs.declared.jobs.Job.{Job}
@@ -15,7 +15,8 @@ use Rattle.slot_core.specs.Cycles.{cycle_of}
 use Rattle.slot_core.specs.Ranges.{is_sound}
 use Rattle.slot_core.specs.OfflineJobs.{instance_jobs, graph_jobs, raw_jobs, derived_job, cycle_jobs, later_job}
 use Rattle.slot_core.specs.Feasible.{IsFeasible}
-use Rattle.slot_facts.proofs.Lists.Members.{Contains-from_Has, AllByRecursion-from_Has}
+use Rattle.slot_facts.proofs.Lists.Members.{AllByRecursion-from_Has}
+use Rattle.slot_facts.proofs.Lists.Permuted.{Contains-from_permuted}
 use Rattle.slot_facts.proofs.Offline.Jobs.{offline_from_cycle}
 use Rattle.slot_facts.proofs.Offline.LaterCycles.{IsLaterJob-from_instance, job_of}
 use Rattle.slot_facts.proofs.Lists.Maps.{map-flat_map, map-map, map-places, flat_map-places, flat_map-ranges}
@@ -69,11 +70,10 @@ FitsInCycle-from_first set job sound feasible at =
 pub all_fit : (set : TaskSet) (jobs : List Job) → is_sound set ≡ true → IsFeasible set (cycle_of set) → IsPermutation (cycle_jobs set (cycle_of set) 0) jobs → AllByRecursion (FitsInCycle (cycle_of set)) jobs
 all_fit set jobs sound feasible h =
     let first = cycle_jobs set (cycle_of set) 0 in
-    let back = IsPermutation-sym first jobs h in
     AllByRecursion-from_Has
     (FitsInCycle (cycle_of set))
     jobs
-    (λ job at. FitsInCycle-from_first set job sound feasible (Contains-permutation jobs first job back (Contains-from_Has jobs job at)))
+    (λ job at. FitsInCycle-from_first set job sound feasible (Contains-from_permuted first jobs job h at))
 
 -- a permutation of the first cycle is, with later windows, one of the other cycle
 pub later-permutation : (set : TaskSet) (jobs : List Job) (n : ℕ) → is_sound set ≡ true → IsFeasible set (cycle_of set) → IsPermutation (cycle_jobs set (cycle_of set) 0) jobs → IsPermutation (cycle_jobs set (cycle_of set) n) (map (later_job set (cycle_of set) n) jobs)

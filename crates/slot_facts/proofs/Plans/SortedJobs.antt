@@ -22,11 +22,11 @@ use Rattle.slot_facts.proofs.Offline.DistinctKeys.{IsApart}
 use Rattle.slot_facts.proofs.Lists.Members.{AllByRecursion-from_Has}
 
 -- the two jobs stand level
-abbrev same_job : Job → Job → Bool
+abbrev pub same_job : Job → Job → Bool
 same_job a b = is_eq (job_cmp a b)
 
 -- jobs of the same deadline and key have the same key
-key-from_same : (a b : Job) → same_job a b ≡ true → a.key ≡ b.key
+pub key-from_same : (a b : Job) → same_job a b ≡ true → a.key ≡ b.key
 key-from_same a b same =
     let lists = exact_bytes (deadline_order a) (deadline_order b) ((Equal-is (job_cmp a b)).0 same) in
     let keys : key_order a.key ≡ key_order b.key = ap (drop 1) lists in
@@ -47,8 +47,8 @@ less_from_neither Equal there e up apart = absurd (false≢true (sym apart ∙ a
 less_from_neither Greater there e up apart = ap is_lt e
 
 -- of two jobs that are not the same, the one that is not the later is the earlier
-earlier : (a b : Job) → is_lt (job_cmp b a) ≡ false → same_job a b ≡ false → is_earlier a b ≡ true
-earlier a b up apart =
+pub is_earlier-from_neither : (a b : Job) → is_lt (job_cmp b a) ≡ false → same_job a b ≡ false → is_earlier a b ≡ true
+is_earlier-from_neither a b up apart =
     let back : job_cmp a b ≡ ordering_reverse (job_cmp b a) = job_cmp_total.antisymm a b in
     less_from_neither (job_cmp b a) (job_cmp a b) back up apart
 
@@ -58,7 +58,7 @@ AreInDeadlineOrder-from_distinct (job ∷ jobs) up distinct =
     let order = ranks_by nat_list_cmp_total deadline_order in
     let apart = All-from_recursion (λ other. same_job job other ≡ false) jobs (IsDistinct-head same_job job jobs distinct) in
     let first = recursion_from_All (λ other. is_earlier job other ≡ true) jobs λ k d within.
-    earlier job (get_or jobs k d) (sorted_far (λ a b. is_lt (job_cmp a b)) order (job ∷ jobs) up 0 (suc k) d (omega arith) (omega arith)) (apart k d within) in
+    is_earlier-from_neither job (get_or jobs k d) (sorted_far (λ a b. is_lt (job_cmp a b)) order (job ∷ jobs) up 0 (suc k) d (omega arith) (omega arith)) (apart k d within) in
     let later : IsSortedBy (λ a b. is_lt (job_cmp a b)) jobs = λ k d low within.
     let next : suc k + 1 ≡ suc (k + 1) = omega arith in
     subst (λ n. is_lt (job_cmp (get_or (job ∷ jobs) n d) (get_or jobs k d)) ≡ false) next (up (suc k) d (omega arith) (omega arith)) in

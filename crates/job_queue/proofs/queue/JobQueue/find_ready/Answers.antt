@@ -1,46 +1,17 @@
-use Rattle.std.proofs.Common.{◌<◌, length, sym, ap, ◌∙◌, arith}
-use Rattle.std.specs.Prelude.{find}
-use Rattle.job_queue.specs.Queues.{QueueParts}
-use Rattle.job_queue.proofs.Searches.{has_key}
-use Rattle.job_queue.proofs.ReadyJobs.{IsFound-from_place, find-take_now, ready-take_later, ready-rest, ready-le-length, ready-le-place}
+use Rattle.std.proofs.Common.{ℕ, Some, get_or, sym, ap, ◌∙◌}
+use Rattle.std.specs.Option.{option_map}
+use Rattle.slot_core.specs.declared.jobs.Job.{Job}
+use Rattle.job_queue.proofs.Searches.{nobody}
 use Rattle.job_queue.proofs.queue.JobQueue.find_ready.Goals as goal
-use Rattle.job_queue.proofs.queue.JobQueue.find_ready.Goals.{then-job-now+else-is_same_key, else-job-now+else-len-place}
 
-pub loop-place-preserved : goal.loop-place-preserved
-loop-place-preserved g c =
+pub returns-in_err-place-clause-job : goal.returns-in_err-place-clause-job
+returns-in_err-place-clause-job g c =
     let jobs = c.args.self.now.jobs in
-    let inside : c.loop-place.place < length jobs = omega arith in
-    elim c.if-job-now.branch [
-      | then-job-now+else-is_same_key w ↦ record {
-        passed = find-take_now c.args.now c.args.key jobs c.loop-place.place c.job-job.result inside c.job-job.ensures w.if-job-now.true (sym w.if-is_same_key.ensures) c.loop-place.invariant.passed;
-        counted = omega arith;
-      }
-      | else-job-now+else-len-place w ↦ record {
-        passed = ap (find (has_key c.args.key)) (ready-take_later c.args.now jobs c.loop-place.place c.job-job.result inside c.job-job.ensures w.if-job-now.false) ∙ c.loop-place.invariant.passed;
-        counted = omega arith;
-      }
-    ]
+    let none = c.place_ready.ensures.job nobody ∙ ap (option_map (λ (i : ℕ). get_or jobs i nobody)) c.in_err-place.was in
+    c.from_residual.ensures ∙ sym none
 
-pub returns-then-is_same_key : goal.returns-then-is_same_key
-returns-then-is_same_key g c =
-    let found = IsFound-from_place c.args.now c.args.key c.args.self.now.jobs c.loop-place.place c.job-job.result (omega arith) c.job-job.ensures c.if-job-now.true (sym c.if-is_same_key.ensures) c.loop-place.invariant.passed in
-    record {
-      job = sym found.is;
-      steps = omega (arith, found.few);
-      few_steps = omega arith;
-    }
-
-pub returns-then-len-place : goal.returns-then-len-place
-returns-then-len-place g c =
+pub returns-clause-job : goal.returns-clause-job
+returns-clause-job g c =
     let jobs = c.args.self.now.jobs in
-    let parts = ap (λ (q : QueueParts). q.jobs) c.self.view_is in
-    let rest = ready-rest c.args.now c.self.inside.beside.items c.self.inside.listed.items jobs c.len.result c.loop-place.place c.job-job.result parts c.self.invariant.ordered (omega arith) c.if-len-place.true (omega arith) c.job-job.ensures c.if-job-now.false in
-    record {
-      job = sym (ap (find (has_key c.args.key)) rest ∙ c.loop-place.invariant.passed);
-      steps = omega (arith, ap length rest, ready-le-place c.args.now jobs c.loop-place.place);
-      few_steps = omega arith;
-    }
-
-pub returns-after-loop-place-clause-steps : goal.returns-after-loop-place-clause-steps
-returns-after-loop-place-clause-steps g c =
-    omega (arith, ready-le-length c.args.now c.args.self.now.jobs)
+    let some = c.place_ready.ensures.job c.job.result ∙ ap (option_map (λ (i : ℕ). get_or jobs i c.job.result)) c.in_ok-place.was in
+    ap (λ (j : Job). Some j) c.job.ensures ∙ sym some

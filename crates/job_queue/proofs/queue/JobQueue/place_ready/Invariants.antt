@@ -3,7 +3,7 @@ use Rattle.std.specs.Prelude.{find}
 use Rattle.slot_core.specs.declared.jobs.Job.{Job}
 use Rattle.slot_core.specs.Keys.{same_key}
 use Rattle.slot_core.specs.Choice.{ready}
-use Rattle.job_queue.proofs.queue.JobQueue.find_ready.Given as goal
+use Rattle.job_queue.proofs.queue.JobQueue.place_ready.Given as goal
 
 abbrev pub invariant-loop-place : goal.invariant-loop-place
 invariant-loop-place g l = record {
