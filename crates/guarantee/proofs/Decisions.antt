@@ -1,8 +1,9 @@
 -- What capacities decide where no sporadic task may come.
 use Rattle.std.proofs.Common.{◌≡◌, ℕ, ◌+◌, ◌-◌, ◌<◌, ◌≤◌, ℤ, pos, ◌+ℤ◌, ◌≤ℤ◌, Bool, true, false, List, [], ◌∷◌, length, Option, Some, None, refl, sym, ap, ◌∙◌, subst, inl, inr, arith}
-use Rattle.std.specs.Prelude.{find, not}
+use Rattle.std.specs.Prelude.{find, not, Err, Ok, OnOk, Result}
+use Rattle.std.specs.Result.{result_err}
 use Rattle.std.specs.Int.{int_min}
-use Rattle.std.specs.Option.{is_none, is_some, option_map, option_map_or}
+use Rattle.std.specs.Option.{is_none, option_map}
 use Rattle.std.specs.List.{list_all, range_with_len}
 use Rattle.std.proofs.lemmas.Bool.{cases_Bool, cases_lt, le-ltb, ltb-false}
 use Rattle.std.proofs.lemmas.Int.{ints, clamps}
@@ -11,15 +12,14 @@ use Rattle.slot_core.specs.declared.jobs.Span.{Span}
 use Rattle.slot_core.specs.Sporadics.{sporadic_demand}
 use Rattle.slot_facts.proofs.Sets.Faults.{None-from_is_none}
 use Rattle.spare_capacity.specs.Recurrence.{filled, first_spare, last_end, FollowOn}
-use Rattle.spare_capacity.specs.Available.{available}
 use Rattle.spare_capacity.proofs.Free.{free, free-ended, free-holds, rest-filled}
 use Rattle.spare_capacity.proofs.Slack.{slack, free-least, free-start, IsLeastFrom}
+use Rattle.spare_capacity.specs.Laws.{work_until}
 use Rattle.spare_capacity.specs.PlanSpans.{AreProper}
 use Rattle.sporadic_reserve.specs.Reserves.{Reserved}
-use Rattle.guarantee.specs.declared.Answer.TheVariants.{Accept, Refuse}
-use Rattle.guarantee.specs.Offers.{answer_to, evidence_at, first_short, is_short, need_until, soft_fits}
-use Rattle.guarantee.proofs.Capacities.{available-is}
-use Rattle.guarantee.proofs.Searches.{fails-from_none, find-none}
+use Rattle.guarantee.specs.Offers.{evidence_at, first_short, is_short, need_until, soft_fits}
+use Rattle.guarantee.specs.declared.SoftRoom.TheVariants.{Short}
+use Rattle.guarantee.proofs.Searches.{fails-from_none, find-none, find-passes}
 
 -- without sporadic tasks a time is short exactly where the slack is below the slots
 fits-slack : (spans : List Span) (reserve : Reserved) (t r slots x : ℕ) → reserve.sporadics ≡ [] → pos slots ≤ℤ slack t spans x → is_short spans reserve t r slots x ≡ false
@@ -47,32 +47,6 @@ least_fits spans reserve t r slots from least none slackest found =
     let fails = fails-from_none (is_short spans reserve t r slots) from (last_end t spans + 1 - from) found x low (omega arith) in
     let enough = short-slack spans reserve t r slots x none fails in
     omega (arith, ints)
-
--- the least slack from a deadline is what is free, where the first capacity is not below 0
-least-free : (spans : List Span) (t dl : ℕ) → FollowOn t spans → spans ≡ filled spans → pos 0 ≤ℤ first_spare spans → t < dl → dl ≤ last_end t spans → IsLeastFrom t spans dl (free dl spans)
-least-free spans t dl follow full first after within =
-    let all : int_min (pos 0) (first_spare spans) +ℤ free dl spans ≡ free dl spans = omega (arith, ints, clamps) in
-    subst (IsLeastFrom t spans dl) all (free-least t spans dl follow full (omega arith) within)
-
--- an offer within what is free is accepted
-pub accepted-free : (spans : List Span) (reserve : Reserved) (t dl slots free_slots : ℕ) → FollowOn t spans → spans ≡ filled spans → 1 ≤ length spans → pos 0 ≤ℤ first_spare spans → t < dl → dl ≤ last_end t spans → reserve.sporadics ≡ [] → pos free_slots ≡ available spans dl → slots ≤ free_slots → Accept ≡ answer_to spans reserve t slots dl
-accepted-free spans reserve t dl slots free_slots follow full some first after within none is fits =
-    let all = available-is spans t dl follow some first after in
-    let least = least-free spans t dl follow full first after within in
-    let found = none_short spans reserve t t slots dl (free dl spans) none least (omega (arith, ints)) in
-    rw found refl
-
--- and one that is accepted is within it
-pub free-accepted : (spans : List Span) (reserve : Reserved) (t dl slots free_slots : ℕ) → FollowOn t spans → spans ≡ filled spans → 1 ≤ length spans → pos 0 ≤ℤ first_spare spans → t < dl → dl ≤ last_end t spans → reserve.sporadics ≡ [] → pos free_slots ≡ available spans dl → answer_to spans reserve t slots dl ≡ Accept → slots ≤ free_slots
-free-accepted spans reserve t dl slots free_slots follow full some first after within none is accepted =
-    let all = available-is spans t dl follow some first after in
-    let least = least-free spans t dl follow full first after within in
-    let fits = least_fits spans reserve t t slots dl (free dl spans) none least (found (first_short spans reserve t t slots dl) accepted) in
-    omega (arith, ints)
-  where
-    found : (o : Option ℕ) → option_map_or (λ x. Refuse (evidence_at spans reserve t t slots x)) o Accept ≡ Accept → o ≡ None
-    found None is = refl
-    found (Some x) is = absurd (cc is)
 
 -- soft work fits exactly where no time is short with one slot more
 not-found : (p : ℕ → Bool) (xs : List ℕ) → list_all (λ x. not (p x)) xs ≡ is_none (find p xs)
@@ -118,21 +92,52 @@ fits-spare t spans reserve follow proper full some after none fits =
     let found = None-from_is_none (first_short spans reserve t (t + 1) 1 (t + 1)) (sym (soft_fits-none spans reserve t) ∙ fits) in
     (slack-next t spans follow proper full some).1 (least_fits spans reserve t (t + 1) 1 (t + 1) _ none least found)
 
--- and so does the search tell it
+-- the room tells it, and is told by the search
 is_none-map : {X Y : Type 0} (f : X → Y) (o : Option X) → is_none (option_map f o) ≡ is_none o
 is_none-map f None = refl
 is_none-map f (Some x) = refl
 
-is_none-flipped : {X : Type 0} (o : Option X) (b : Bool) → is_some o ≡ not b → b ≡ is_none o
-is_none-flipped None true is = refl
-is_none-flipped None false is = cc is
-is_none-flipped (Some x) true is = cc is
-is_none-flipped (Some x) false is = refl
-
-pub searched-fits : (spans : List Span) (reserve : Reserved) (t now : ℕ) (found : Option Evidence) (none : Bool) → now ≡ t → found ≡ option_map (evidence_at spans reserve t (now + 1) 1) (first_short spans reserve t (now + 1) 1 (now + 1)) → is_some found ≡ not none → none ≡ soft_fits spans reserve t
-searched-fits spans reserve t now found none is searched told =
-    let here = rw is at searched in
-    is_none-flipped found none told
-    ∙ ap is_none here
+pub told-fits : (spans : List Span) (reserve : Reserved) (t now : ℕ) (found : Option Evidence) → now ≡ t → found ≡ option_map (evidence_at spans reserve t (now + 1) 1) (first_short spans reserve t (now + 1) 1 (now + 1)) → is_none found ≡ soft_fits spans reserve t
+told-fits spans reserve t now found is searched =
+    ap is_none (rw is at searched)
     ∙ is_none-map (evidence_at spans reserve t (t + 1) 1) (first_short spans reserve t (t + 1) 1 (t + 1))
     ∙ sym (soft_fits-none spans reserve t)
+
+-- the evidence of a time that was found
+pub record IsTold (spans : List Span) (reserve : Reserved) (t : ℕ) (e : Evidence) : Type 0 where
+  pub after : t < e.until
+  pub within : e.until ≤ last_end t spans
+  pub short : is_short spans reserve t (t + 1) 1 e.until ≡ true
+  pub need : e.need ≡ 1 + (work_until spans e.until + sporadic_demand reserve.sporadics reserve.nexts (t + 1) e.until)
+
+IsTold-found : (spans : List Span) (reserve : Reserved) (t : ℕ) (e : Evidence) (o : Option ℕ) → o ≡ first_short spans reserve t (t + 1) 1 (t + 1) → Some e ≡ option_map (evidence_at spans reserve t (t + 1) 1) o → t < last_end t spans → IsTold spans reserve t e
+IsTold-found spans reserve t e None is found some = cc found
+IsTold-found spans reserve t e (Some x) is found some =
+    let same : e ≡ evidence_at spans reserve t (t + 1) 1 x = cc found in
+    let passes = find-passes (is_short spans reserve t (t + 1) 1) (t + 1) (last_end t spans + 1 - (t + 1)) x (sym is) in
+    rw same (record {
+      after = omega (arith, passes.0);
+      within = omega (arith, passes.1);
+      short = passes.2;
+      need = refl;
+    })
+
+pub IsTold-search : (spans : List Span) (reserve : Reserved) (t now : ℕ) (e : Evidence) → now ≡ t → Some e ≡ option_map (evidence_at spans reserve t (now + 1) 1) (first_short spans reserve t (now + 1) 1 (now + 1)) → t < last_end t spans → IsTold spans reserve t e
+IsTold-search spans reserve t now e is found some =
+    IsTold-found spans reserve t e (first_short spans reserve t (t + 1) 1 (t + 1)) refl (rw is at found) some
+
+-- what the room for soft work tells of it
+pub IsTold-short : (spans : List Span) (reserve : Reserved) (t spo until due : ℕ) (e : Evidence) → IsTold spans reserve t e → spo ≡ sporadic_demand reserve.sporadics reserve.nexts (t + 1) e.until → Short e.until (e.need - 1 - spo) ≡ Short until due → (t < until) × (until ≤ last_end t spans) × (due ≡ work_until spans until) × (is_short spans reserve t (t + 1) 1 until ≡ true)
+IsTold-short spans reserve t spo until due e told is same =
+    let here : e.until ≡ until = cc same in
+    let work : e.need - 1 - spo ≡ due = cc same in
+    subst (λ u. (t < u) × (u ≤ last_end t spans) × (due ≡ work_until spans u) × (is_short spans reserve t (t + 1) 1 u ≡ true)) here (told.after, told.within, omega (arith, told.need), told.short)
+
+-- what holds where there is an answer
+pub OnOk-map : {X E : Type 0} (r : Result X E) (P Q : Type 0) → OnOk r P → (P → Q) → OnOk r Q
+OnOk-map (Ok x) P Q holds then = then holds
+OnOk-map (Err e) P Q holds then = tt
+
+pub OnOk-none : {X E : Type 0} (r : Result X E) (P : Type 0) → (result_err r ≡ None → ⊥) → OnOk r P
+OnOk-none (Ok x) P never = absurd (never refl)
+OnOk-none (Err e) P never = tt

@@ -1,17 +1,17 @@
 -- Spans by their places: where each starts, and the works before it.
-use Rattle.std.proofs.Common.{◌≡◌, ℕ, zero, suc, ◌+◌, ◌-◌, ◌*◌, ◌^◌, ◌<◌, ◌≤◌, pos, ◌+ℤ◌, ◌-ℤ◌, ◌≤ℤ◌, List, [], ◌∷◌, take, Some, refl, sym, ap, ◌∙◌, arith}
-use Rattle.std.specs.Prelude.{slice_get, sum_by}
+use Rattle.std.proofs.Common.{◌≡◌, ℕ, zero, suc, ◌+◌, ◌-◌, ◌*◌, ◌^◌, ◌<◌, ◌≤◌, pos, ◌+ℤ◌, ◌-ℤ◌, ◌≤ℤ◌, cond, List, [], ◌∷◌, take, Some, refl, sym, ap, ◌∙◌, subst, arith}
+use Rattle.std.specs.Prelude.{nat_lt, slice_get}
+use Rattle.std.specs.Int.{int_min}
+use Rattle.std.proofs.lemmas.Bool.{le-ltb, lt-ltb}
 use Rattle.std.proofs.lemmas.Int.{ints, clamps}
 use Rattle.std.proofs.lemmas.List.Sums.{sum_by-cons}
 use Rattle.slot_core.specs.declared.jobs.Span.{Span}
 use Rattle.spare_capacity.specs.Recurrence.{filled, last_end, FollowOn}
 use Rattle.spare_capacity.specs.Laws.{work_until}
-use Rattle.spare_capacity.proofs.Free.{free-ended, rest-filled, spare-filled}
-use Rattle.spare_capacity.proofs.Slack.{free-least, free-start, last_end-above, slack, slack-ended, work_until-ended, work_until-running, work_until-before}
-
--- the works of spans
-abbrev pub works : List Span → ℕ
-works spans = sum_by (λ (s : Span). s.work) spans
+use Rattle.spare_capacity.proofs.Free.{free, free-ended, rest-filled, spare-filled}
+use Rattle.spare_capacity.proofs.Slack.{free-least, free-start, last_end-above, slack-ended, work_until-ended, work_until-running, work_until-before, IsLeastFrom}
+use Rattle.interval_row.specs.Changes.{ends_before}
+use Rattle.guarantee.specs.Places.{works}
 
 -- a span starts where the one before it ends
 pub start-at : (t i : ℕ) (spans : List Span) (s : Span) → FollowOn t spans → slice_get spans i ≡ Some s → s.start ≡ last_end t (take i spans)
@@ -106,25 +106,58 @@ works-small t (suc i) [] follow = omega arith
 works-small t (suc i) (s ∷ ss) follow =
     omega (arith, follow.3, works-small s.end i ss follow.4, sum_by-cons (λ (q : Span). q.work) s (take i ss))
 
--- from a span's end on the slack is no less than its capacity and the slack before it
-pub slack-at : (t i : ℕ) (spans : List Span) (s : Span) (x : ℕ) → FollowOn t spans → spans ≡ filled spans → slice_get spans i ≡ Some s → s.end ≤ x → x ≤ last_end t spans → ((pos (s.start - t) -ℤ pos (works (take i spans))) +ℤ s.spare) ≤ℤ slack t spans x
-slack-at t i [] s x follow full at low high = absurd (cc at)
-slack-at t zero (r ∷ spans) s x follow full at low high =
+-- a span's capacity and the slack before it are the least slack from its end on
+pub least-at : (t i : ℕ) (spans : List Span) (s : Span) → FollowOn t spans → spans ≡ filled spans → slice_get spans i ≡ Some s → IsLeastFrom t spans s.end ((pos (s.start - t) -ℤ pos (works (take i spans))) +ℤ s.spare)
+least-at t i [] s follow full at = absurd (cc at)
+least-at t zero (r ∷ spans) s follow full at =
     let same : r ≡ s = cc at in
-    let start : r.start ≡ s.start = ap (λ (q : Span). q.start) same in
-    let end : r.end ≡ s.end = ap (λ (q : Span). q.end) same in
-    let spare : r.spare ≡ s.spare = ap (λ (q : Span). q.spare) same in
     let least = free-least t (r ∷ spans) r.end follow full (omega (arith, follow.0, follow.1)) (last_end-above r.end spans follow.4) in
     let ended = free-ended r.end r spans (omega arith) in
     let none = free-start r.end spans follow.4 (rest-filled r spans full) in
-    let bound = least.bound x (omega arith) high in
-    omega (arith, ints, clamps, follow.0)
-slack-at t (suc i) (r ∷ spans) s x follow full at low high =
+    let is : int_min (pos 0) r.spare +ℤ free r.end (r ∷ spans) ≡ (pos (r.start - t) -ℤ pos 0) +ℤ r.spare = omega (arith, ints, clamps, follow.0) in
+    subst (λ (q : Span). IsLeastFrom t (r ∷ spans) q.end ((pos (q.start - t) -ℤ pos 0) +ℤ q.spare)) same (subst (IsLeastFrom t (r ∷ spans) r.end) is least)
+least-at t (suc i) (r ∷ spans) s follow full at =
     let stands = Stands-at r.end i spans s follow.4 at in
-    let rest = slack-at r.end i spans s x follow.4 (rest-filled r spans full) at low high in
-    let ended = slack-ended t r spans x (omega (arith, stands.after, stands.rising)) follow in
+    let rest = least-at r.end i spans s follow.4 (rest-filled r spans full) at in
     let more : works (take (suc i) (r ∷ spans)) ≡ r.work + works (take i spans) = sum_by-cons (λ (q : Span). q.work) r (take i spans) in
-    omega (arith, ints, stands.after, follow.0, follow.1)
+    let late : r.end ≤ s.end = omega (arith, stands.after, stands.rising) in
+    record {
+      bound = λ x low high.
+          let ended = slack-ended t r spans x (omega arith) follow in
+          let is = rest.bound x low high in
+          omega (arith, ints, stands.after, follow.0, follow.1);
+      reached =
+          let x = rest.reached.0 in
+          let low = rest.reached.1 in
+          let ended = slack-ended t r spans x (omega arith) follow in
+          let is = rest.reached.3 in
+          (x, low, rest.reached.2, omega (arith, ints, stands.after, follow.0, follow.1));
+    }
+
+-- none ends before a time before them
+ends_before-none : (t x : ℕ) (spans : List Span) → x ≤ t → FollowOn t spans → ends_before x spans ≡ 0
+ends_before-none t x [] early follow = refl
+ends_before-none t x (s ∷ ss) early follow =
+    let late : x ≤ s.end = omega (arith, follow.0, follow.1) in
+    sum_by-cons (λ (q : Span). cond (nat_lt q.end x) 1 0) s ss
+    ∙ ap (λ b. cond b 1 0 + ends_before x ss) (le-ltb s.end x late)
+    ∙ omega (arith, ends_before-none s.end x ss late follow.4)
+
+-- before the span in which x is, or which ends there, as many spans end before x
+pub ends_before-at : (t i x : ℕ) (spans : List Span) (s : Span) → FollowOn t spans → slice_get spans i ≡ Some s → s.start < x → x ≤ s.end → ends_before x spans ≡ i
+ends_before-at t i x [] s follow at low high = absurd (cc at)
+ends_before-at t zero x (r ∷ spans) s follow at low high =
+    let same : r ≡ s = cc at in
+    let end : r.end ≡ s.end = ap (λ (q : Span). q.end) same in
+    sum_by-cons (λ (q : Span). cond (nat_lt q.end x) 1 0) r spans
+    ∙ ap (λ b. cond b 1 0 + ends_before x spans) (le-ltb r.end x (omega arith))
+    ∙ omega (arith, ends_before-none r.end x spans (omega arith) follow.4)
+ends_before-at t (suc i) x (r ∷ spans) s follow at low high =
+    let stands = Stands-at r.end i spans s follow.4 at in
+    let early : r.end < x = omega (arith, stands.after) in
+    sum_by-cons (λ (q : Span). cond (nat_lt q.end x) 1 0) r spans
+    ∙ ap (λ b. cond b 1 0 + ends_before x spans) (lt-ltb r.end x early)
+    ∙ omega (arith, ends_before-at r.end i x spans s follow.4 at low high)
 
 -- a capacity is at most the length
 pub spare-small : (t i : ℕ) (spans : List Span) (s : Span) → FollowOn t spans → spans ≡ filled spans → slice_get spans i ≡ Some s → s.spare ≤ℤ pos (2 ^ 40)

@@ -1,11 +1,10 @@
 -- The search in a stretch in which the same work is due.
-use Rattle.std.proofs.Common.{◌≡◌, ℕ, ◌+◌, ◌-◌, ◌^◌, ◌<◌, ◌≤◌, pos, ◌+ℤ◌, ◌≤ℤ◌, max, true, false, List, [], length, take, Option, Some, None, refl, sym, ap, ◌∙◌, inl, inr, arith}
-use Rattle.std.specs.Prelude.{find, nat_lt, slice_get, MatchOption}
+use Rattle.std.proofs.Common.{◌≡◌, ℕ, ◌+◌, ◌-◌, ◌^◌, ◌<◌, ◌≤◌, pos, ◌+ℤ◌, ◌<ℤ◌, max, true, false, List, [], take, Option, Some, None, refl, sym, ap, ◌∙◌, inl, inr, arith}
+use Rattle.std.specs.Prelude.{find, nat_lt, slice_get, Err, IfOk, MatchOption, Ok, Result}
 use Rattle.std.specs.Option.{option_map, option_or}
 use Rattle.std.specs.List.{range_with_len}
-use Rattle.std.proofs.lemmas.Bool.{cases_lt, lt-ltb, le-ltb}
+use Rattle.std.proofs.lemmas.Bool.{cases_lt, lt-ltb, le-ltb, ltb-false}
 use Rattle.std.proofs.lemmas.Int.{ints}
-use Rattle.std.proofs.lemmas.List.{take_all}
 use Rattle.slot_core.specs.declared.jobs.Evidence.{Evidence}
 use Rattle.slot_core.specs.declared.jobs.Span.{Span}
 use Rattle.slot_core.specs.Sporadics.{sporadic_demand}
@@ -15,8 +14,10 @@ use Rattle.spare_capacity.specs.Laws.{work_until}
 use Rattle.sporadic_reserve.specs.Reserves.{Reserved, IsNextRise}
 use Rattle.guarantee.specs.Offers.{evidence_at, first_short, is_short, need_until}
 use Rattle.guarantee.specs.declared.search.Level.{Level}
-use Rattle.guarantee.specs.Stretches.{exceeds, evidence_of, IsLevelFrom}
-use Rattle.guarantee.proofs.Places.{works, end-after, start-at, Stands-at, work_until-all, slack-at, work_until-inside, works-more, works-small}
+use Rattle.guarantee.specs.declared.search.Ask.{Ask}
+use Rattle.guarantee.specs.Stretches.{exceeds, evidence_of, IsLevelFrom, Leaves, LeavesBetween}
+use Rattle.guarantee.specs.Places.{works}
+use Rattle.guarantee.proofs.Places.{least-at, Stands-at, work_until-all, work_until-inside}
 use Rattle.guarantee.proofs.Searches.{fails-from_none, find-here, find-none, find-skip, search-parts, search-same}
 
 -- the sporadic demand
@@ -56,6 +57,40 @@ found-level reserve t r needed at until level after holds is fits =
     let here : demand reserve r at ≡ level.demand = is.flat at (omega arith) (omega arith) in
     fails-at reserve t r needed at x after low (omega (arith, here)) (is.flat x low (omega arith) ∙ sym here))
 
+-- a time that is short at the level that holds there is found
+pub found-told : (reserve : Reserved) (t r needed at until : ℕ) (level : Level) (e : Evidence) → at < until → at < level.until → IsLevelFrom reserve r at level → (at - t < needed + level.demand) × (e ≡ record { until = at; need = needed + level.demand; room = at - t }) → Some e ≡ option_map (evidence_of reserve t r needed) (found_from reserve t r needed at until)
+found-told reserve t r needed at until level e within more is told =
+    let here : demand reserve r at ≡ level.demand = is.flat at (omega arith) more in
+    ap Some told.1
+    ∙ sym (found-here reserve t r needed at until (needed + level.demand) (at - t) within (omega arith) refl told.0)
+
+-- where a level holds to the end, the test at its start is the answer
+pub found-tried : (reserve : Reserved) (t r needed at until : ℕ) (level : Level) (result : Option Evidence) → t ≤ at → at < until → until ≤ level.until → IsLevelFrom reserve r at level → MatchOption result (needed + level.demand ≤ at - t) (λ e. (at - t < needed + level.demand) × (e ≡ record { until = at; need = needed + level.demand; room = at - t })) → result ≡ option_map (evidence_of reserve t r needed) (found_from reserve t r needed at until)
+found-tried reserve t r needed at until level None after within holds is fits =
+    sym (ap (option_map (evidence_of reserve t r needed)) (found-level reserve t r needed at until level after holds is fits))
+found-tried reserve t r needed at until level (Some e) after within holds is told =
+    found-told reserve t r needed at until level e within (omega arith) is told
+
+-- what is left in part of the times, and in less
+pub Leaves-part : (need : ℕ → ℕ) (t slots left less a b c d : ℕ) → less ≤ left → a ≤ c → d ≤ b → Leaves need t slots left a b → Leaves need t slots less c d
+Leaves-part need t slots left less a b c d fewer low high leaves =
+    record { at = λ x from to some. let most = leaves.at x (omega arith) (omega arith) some in omega arith }
+
+-- and in two parts
+pub Leaves-join : (need : ℕ → ℕ) (t slots left a b c : ℕ) → Leaves need t slots left a b → Leaves need t slots left b c → Leaves need t slots left a c
+Leaves-join need t slots left a b c first later =
+    record { at = λ x from to some. elim (cases_lt x b) [ inl low ↦ first.at x from low some | inr high ↦ later.at x high to some ] }
+
+-- while a level holds, as much is left as at its start
+pub Leaves-level : (reserve : Reserved) (ask : Ask) (due left at until : ℕ) (level : Level) → ask.now ≤ at → until ≤ level.until → IsLevelFrom reserve ask.arrivals at level → (1 ≤ due + level.demand → left + (ask.slots + due + level.demand) ≤ at - ask.now) → LeavesBetween reserve ask due left at until
+Leaves-level reserve ask due left at until level after holds is leaves =
+    record {
+      at = λ x low high some.
+          let here : demand reserve ask.arrivals x ≡ level.demand = is.flat x low (omega arith) in
+          let most = leaves (omega arith) in
+          omega arith;
+    }
+
 -- a level stays one from a later time on
 pub IsLevelFrom-later : (reserve : Reserved) (r from later : ℕ) (level : Level) → from ≤ later → IsLevelFrom reserve r from level → IsLevelFrom reserve r later level
 IsLevelFrom-later reserve r from later level le is =
@@ -82,119 +117,117 @@ pub after-rise : (reserve : Reserved) (r at until : ℕ) (rise : Option ℕ) →
 after-rise reserve r at until None near none ends = omega (arith, ends)
 after-rise reserve r at until (Some y) near rise ends = omega (arith, ends, rise.after)
 
--- with more slots, of which some are due, the two tests and their evidence are one
-short-exceeds : (spans : List Span) (reserve : Reserved) (t r slots due x : ℕ) → work_until spans x ≡ due → is_short spans reserve t r slots x ≡ exceeds reserve t r (slots + due) x
-short-exceeds spans reserve t r slots due x is =
-    let same : slots + need_until spans reserve r x ≡ slots + due + demand reserve r x = omega arith in
+-- where this much is needed, the two tests and their evidence are one
+short-exceeds : (spans : List Span) (reserve : Reserved) (t r slots needed x : ℕ) → needed ≡ slots + work_until spans x → is_short spans reserve t r slots x ≡ exceeds reserve t r needed x
+short-exceeds spans reserve t r slots needed x is =
+    let same : slots + need_until spans reserve r x ≡ needed + demand reserve r x = omega arith in
     ap (nat_lt (x - t)) same
 
-evidence-same : (spans : List Span) (reserve : Reserved) (t r slots due x : ℕ) → work_until spans x ≡ due → evidence_at spans reserve t r slots x ≡ evidence_of reserve t r (slots + due) x
-evidence-same spans reserve t r slots due x is =
-    let same : slots + need_until spans reserve r x ≡ slots + due + demand reserve r x = omega arith in
+evidence-same : (spans : List Span) (reserve : Reserved) (t r slots needed x : ℕ) → needed ≡ slots + work_until spans x → evidence_at spans reserve t r slots x ≡ evidence_of reserve t r needed x
+evidence-same spans reserve t r slots needed x is =
+    let same : slots + need_until spans reserve r x ≡ needed + demand reserve r x = omega arith in
     ap (λ n. record { until = x; need = n; room = x - t }) same
 
--- within the span at a place the works before it are due
-short-inside : (spans : List Span) (reserve : Reserved) (t r slots from i : ℕ) (s : Span) → FollowOn t spans → slice_get spans i ≡ Some s → (x : ℕ) → max from (last_end t (take i spans)) ≤ x → x < s.end → work_until spans x ≡ works (take i spans)
-short-inside spans reserve t r slots from i s follow at x low high =
-    work_until-inside t i spans s x follow at (omega (arith, start-at t i spans s follow at)) high
+-- the search looks at the times from `first` to before `until`, in which this much is needed
+pub record Looks (spans : List Span) (t slots now needed first until : ℕ) : Type 0 where
+  pub time : now ≡ t
+  pub within : until ≤ last_end t spans + 1
+  pub due : (x : ℕ) → first ≤ x → x < until → needed ≡ slots + work_until spans x
 
--- a time found in the span is the first of all
-pub first_short-found : (spans : List Span) (reserve : Reserved) (t r slots from i : ℕ) (s : Span) (evidence : Evidence) → FollowOn t spans → slice_get spans i ≡ Some s → Some evidence ≡ option_map (evidence_of reserve t r (slots + works (take i spans))) (found_from reserve t r (slots + works (take i spans)) (max from (last_end t (take i spans))) s.end) → option_map (evidence_at spans reserve t r slots) (first_short spans reserve t r slots (max from (last_end t (take i spans)))) ≡ Some evidence
-first_short-found spans reserve t r slots from i s evidence follow at found =
-    let due = works (take i spans) in
-    let a = max from (last_end t (take i spans)) in
+-- a time that it finds is the first of all
+pub Looks-found : (spans : List Span) (reserve : Reserved) (t r slots now needed first until : ℕ) (evidence : Evidence) → Looks spans t slots now needed first until → Some evidence ≡ option_map (evidence_of reserve now r needed) (found_from reserve now r needed first until) → Some evidence ≡ option_map (evidence_at spans reserve t r slots) (first_short spans reserve t r slots first)
+Looks-found spans reserve t r slots now needed first until evidence looks told =
+    let found = rw looks.time at told in
     let p = is_short spans reserve t r slots in
-    let q = exceeds reserve t r (slots + due) in
-    let stands = Stands-at t i spans s follow at in
-    elim (cases_lt a s.end) [
+    let q = exceeds reserve t r needed in
+    elim (cases_lt first until) [
       | inl some ↦
-          let inside = short-inside spans reserve t r slots from i s follow at in
-          let same = search-same p q (evidence_at spans reserve t r slots) (evidence_of reserve t r (slots + due)) a (s.end - a) (λ x low high. short-exceeds spans reserve t r slots due x (inside x low (omega arith))) (λ x low high. evidence-same spans reserve t r slots due x (inside x low (omega arith))) in
-          let parts = search-parts p a s.end (last_end t spans + 1) (omega arith) (omega (arith, stands.within)) in
-          ap (option_map (evidence_at spans reserve t r slots)) parts
-          ∙ option_map-or (evidence_at spans reserve t r slots) (find p (range_with_len a (s.end - a))) _ evidence (same ∙ sym found)
+          let same = search-same p q (evidence_at spans reserve t r slots) (evidence_of reserve t r needed) first (until - first) (λ x low high. short-exceeds spans reserve t r slots needed x (looks.due x low (omega arith))) (λ x low high. evidence-same spans reserve t r slots needed x (looks.due x low (omega arith))) in
+          let parts = search-parts p first until (last_end t spans + 1) (omega arith) looks.within in
+          sym (ap (option_map (evidence_at spans reserve t r slots)) parts
+          ∙ option_map-or (evidence_at spans reserve t r slots) (find p (range_with_len first (until - first))) _ evidence (same ∙ sym found))
       | inr none ↦
-          let empty : s.end - a ≡ 0 = omega arith in
-          absurd (cc (found ∙ ap (λ n. option_map (evidence_of reserve t r (slots + due)) (find q (range_with_len a n))) empty))
+          let empty : until - first ≡ 0 = omega arith in
+          absurd (cc (found ∙ ap (λ n. option_map (evidence_of reserve t r needed) (find q (range_with_len first n))) empty))
     ]
 
--- where none is found in the span, the search goes on at its end
-pub first_short-later : (spans : List Span) (reserve : Reserved) (t r slots from i : ℕ) (s : Span) → FollowOn t spans → slice_get spans i ≡ Some s → None ≡ option_map (evidence_of reserve t r (slots + works (take i spans))) (found_from reserve t r (slots + works (take i spans)) (max from (last_end t (take i spans))) s.end) → first_short spans reserve t r slots (max from (last_end t (take i spans))) ≡ first_short spans reserve t r slots (max from s.end)
-first_short-later spans reserve t r slots from i s follow at none =
-    let due = works (take i spans) in
-    let a = max from (last_end t (take i spans)) in
-    let q = exceeds reserve t r (slots + due) in
-    let stands = Stands-at t i spans s follow at in
-    let start = start-at t i spans s follow at in
-    let fails = fails-from_none q a (s.end - a) (option_map-None (evidence_of reserve t r (slots + due)) (find q (range_with_len a (s.end - a))) (sym none)) in
-    find-skip (is_short spans reserve t r slots) a (max from s.end) (last_end t spans + 1) (omega (arith, stands.rising)) (λ x low high. short-exceeds spans reserve t r slots due x (short-inside spans reserve t r slots from i s follow at x low (omega arith)) ∙ fails x low (omega arith))
+-- where it finds none, the search goes on from a later time
+pub Looks-later : (spans : List Span) (reserve : Reserved) (t r slots now needed first until later : ℕ) → Looks spans t slots now needed first until → later ≡ max first until → None ≡ option_map (evidence_of reserve now r needed) (found_from reserve now r needed first until) → first_short spans reserve t r slots first ≡ first_short spans reserve t r slots later
+Looks-later spans reserve t r slots now needed first until later looks is told =
+    let none = rw looks.time at told in
+    let q = exceeds reserve t r needed in
+    let fails = fails-from_none q first (until - first) (option_map-None (evidence_of reserve t r needed) (find q (range_with_len first (until - first))) (sym none)) in
+    find-skip (is_short spans reserve t r slots) first later (last_end t spans + 1) (omega arith) (λ x low high. short-exceeds spans reserve t r slots needed x (looks.due x low (omega arith)) ∙ fails x low (omega arith))
 
--- after the last span the last end is left
-pub first_short-last : (spans : List Span) (reserve : Reserved) (t r slots from i : ℕ) → FollowOn t spans → length spans ≤ i → option_map (evidence_of reserve t r (slots + works (take i spans))) (found_from reserve t r (slots + works (take i spans)) (max from (last_end t (take i spans))) (last_end t (take i spans) + 1)) ≡ option_map (evidence_at spans reserve t r slots) (first_short spans reserve t r slots (max from (last_end t (take i spans))))
-first_short-last spans reserve t r slots from i follow all = rw (take_all i spans all) last
-  where
-    last : option_map (evidence_of reserve t r (slots + works spans)) (found_from reserve t r (slots + works spans) (max from (last_end t spans)) (last_end t spans + 1)) ≡ option_map (evidence_at spans reserve t r slots) (first_short spans reserve t r slots (max from (last_end t spans)))
-    last =
-        let a = max from (last_end t spans) in
-        sym (search-same (is_short spans reserve t r slots) (exceeds reserve t r (slots + works spans)) (evidence_at spans reserve t r slots) (evidence_of reserve t r (slots + works spans)) a (last_end t spans + 1 - a) (λ x low high. short-exceeds spans reserve t r slots (works spans) x (work_until-all t spans x follow (omega arith))) (λ x low high. evidence-same spans reserve t r slots (works spans) x (work_until-all t spans x follow (omega arith))))
+-- where it looks up to the last end, what it finds is the answer
+pub Looks-last : (spans : List Span) (reserve : Reserved) (t r slots now needed first until : ℕ) → Looks spans t slots now needed first until → until ≡ last_end t spans + 1 → option_map (evidence_of reserve now r needed) (found_from reserve now r needed first until) ≡ option_map (evidence_at spans reserve t r slots) (first_short spans reserve t r slots first)
+Looks-last spans reserve t r slots now needed first until looks all =
+    rw (looks.time, all) (
+    sym (search-same (is_short spans reserve t r slots) (exceeds reserve t r needed) (evidence_at spans reserve t r slots) (evidence_of reserve t r needed) first (last_end t spans + 1 - first) (λ x low high. short-exceeds spans reserve t r slots needed x (looks.due x low (omega arith))) (λ x low high. evidence-same spans reserve t r slots needed x (looks.due x low (omega arith)))))
 
--- where the search stands: at a place, with what is due there, and the same left to find
-pub record SearchStands (spans : List Span) (reserve : Reserved) (t r slots from i now needed start : ℕ) : Type 0 where
-  pub time : now ≡ t
-  pub due : needed ≡ slots + works (take i spans)
-  pub place : start ≡ last_end t (take i spans)
-  pub same : first_short spans reserve t r slots from ≡ first_short spans reserve t r slots (max from start)
-
--- at the front it stands at the time, and nothing is due
-pub SearchStands-front : (spans : List Span) (reserve : Reserved) (t r slots from now needed : ℕ) → now ≡ t → needed ≡ slots → t ≤ from → SearchStands spans reserve t r slots from 0 now needed now
-SearchStands-front spans reserve t r slots from now needed is none low =
-    let all : from ≡ max from now = omega arith in
+-- what is left where it looks is left of the spans
+pub Looks-leaves : (spans : List Span) (reserve : Reserved) (ask : Ask) (t due left first until : ℕ) → Looks spans t ask.slots ask.now (ask.slots + due) first until → LeavesBetween reserve ask due left first until → Leaves (need_until spans reserve ask.arrivals) t ask.slots left first until
+Looks-leaves spans reserve ask t due left first until looks leaves =
     record {
-      time = is;
-      due = omega arith;
-      place = is;
-      same = ap (first_short spans reserve t r slots) all;
+      at = λ x low high some.
+          let is = looks.due x low high in
+          let most = leaves.at x low high (omega arith) in
+          omega (arith, looks.time);
     }
 
--- what it found in a span is the answer
-pub SearchStands-found : (spans : List Span) (reserve : Reserved) (t r slots from i now needed start first : ℕ) (s : Span) (evidence : Evidence) → SearchStands spans reserve t r slots from i now needed start → first ≡ max from start → FollowOn t spans → slice_get spans i ≡ Some s → Some evidence ≡ option_map (evidence_of reserve now r needed) (found_from reserve now r needed first s.end) → Some evidence ≡ option_map (evidence_at spans reserve t r slots) (first_short spans reserve t r slots from)
-SearchStands-found spans reserve t r slots from i now needed start first s evidence stands is follow at found =
-    let there = rw (is, stands.place, stands.due, stands.time) at found in
-    sym (ap (option_map (evidence_at spans reserve t r slots)) (stands.same ∙ ap (λ n. first_short spans reserve t r slots (max from n)) stands.place) ∙ first_short-found spans reserve t r slots from i s evidence follow at there)
+-- and where it looks up to the last end, it is all
+pub leaves-end : (spans : List Span) (reserve : Reserved) (ask : Ask) (t due least from first until : ℕ) (result : Result ℕ Evidence) → Looks spans t ask.slots ask.now (ask.slots + due) first until → until ≡ last_end t spans + 1 → Leaves (need_until spans reserve ask.arrivals) t ask.slots least from first → IfOk result (λ left. LeavesBetween reserve ask due left first until) → IfOk result (λ left. left ≤ least) → IfOk result (λ left. Leaves (need_until spans reserve ask.arrivals) t ask.slots left from (last_end t spans + 1))
+leaves-end spans reserve ask t due least from first until (Err e) looks all before leaves fewer = tt
+leaves-end spans reserve ask t due least from first until (Ok left) looks all before leaves fewer =
+    let need : ℕ → ℕ = need_until spans reserve ask.arrivals in
+    let rest = Looks-leaves spans reserve ask t due left first until looks leaves in
+    Leaves-join need t ask.slots left from first (last_end t spans + 1)
+    (Leaves-part need t ask.slots least left from first from first fewer (omega arith) (omega arith) before)
+    (Leaves-part need t ask.slots left left first until first (last_end t spans + 1) (omega arith) (omega arith) (omega arith) rest)
 
--- where it found none it stands at the next span
-pub SearchStands-later : (spans : List Span) (reserve : Reserved) (t r slots from i now needed start first : ℕ) (s : Span) → SearchStands spans reserve t r slots from i now needed start → first ≡ max from start → FollowOn t spans → slice_get spans i ≡ Some s → None ≡ option_map (evidence_of reserve now r needed) (found_from reserve now r needed first s.end) → SearchStands spans reserve t r slots from (i + 1) now (needed + s.work) s.end
-SearchStands-later spans reserve t r slots from i now needed start first s stands is follow at none =
-    let there = rw (is, stands.place, stands.due, stands.time) at none in
+-- it looks at the times of a span
+pub Looks-inside : (spans : List Span) (t slots now needed first i : ℕ) (s : Span) → FollowOn t spans → slice_get spans i ≡ Some s → now ≡ t → needed ≡ slots + works (take i spans) → s.start ≤ first → Looks spans t slots now needed first s.end
+Looks-inside spans t slots now needed first i s follow at time due low =
     record {
-      time = stands.time;
-      due = omega (arith, stands.due, works-more i spans s at);
-      place = sym (end-after t i spans s at);
-      same = stands.same ∙ ap (λ n. first_short spans reserve t r slots (max from n)) stands.place ∙ first_short-later spans reserve t r slots from i s follow at there;
+      time = time;
+      within = omega (arith, (Stands-at t i spans s follow at).within);
+      due = λ x from to. omega (arith, work_until-inside t i spans s x follow at (omega arith) to);
     }
 
--- and a level that holds after the span holds there
-pub SearchStands-level : (spans : List Span) (reserve : Reserved) (t r slots from i now needed start first : ℕ) (s : Span) (level : Level) → SearchStands spans reserve t r slots from i now needed start → first ≡ max from start → FollowOn t spans → slice_get spans i ≡ Some s → IsLevelFrom reserve r (max first s.end) level → IsLevelFrom reserve r (max from s.end) level
-SearchStands-level spans reserve t r slots from i now needed start first s level stands is follow at holds =
-    let rising = (Stands-at t i spans s follow at).rising in
-    let place = start-at t i spans s follow at in
-    IsLevelFrom-later reserve r (max first s.end) (max from s.end) level (omega (arith, is, stands.place, place, rising)) holds
+-- and at the last end
+pub Looks-end : (spans : List Span) (t slots now needed first until : ℕ) → FollowOn t spans → now ≡ t → needed ≡ slots + works spans → last_end t spans ≤ first → until ≡ last_end t spans + 1 → Looks spans t slots now needed first until
+Looks-end spans t slots now needed first until follow time due low all =
+    record {
+      time = time;
+      within = omega arith;
+      due = λ x from to. omega (arith, work_until-all t spans x follow (omega arith));
+    }
 
--- after the last span its last look is the answer
-pub SearchStands-last : (spans : List Span) (reserve : Reserved) (t r slots from i now needed start first : ℕ) → SearchStands spans reserve t r slots from i now needed start → first ≡ max from start → FollowOn t spans → length spans ≤ i → option_map (evidence_of reserve now r needed) (found_from reserve now r needed first (start + 1)) ≡ option_map (evidence_at spans reserve t r slots) (first_short spans reserve t r slots from)
-SearchStands-last spans reserve t r slots from i now needed start first stands is follow all =
-    rw (stands.same, is, stands.place, stands.due, stands.time) (first_short-last spans reserve t r slots from i follow all)
+-- where a span covers what is needed and may come, no time from its end on is short
+pub covered : (spans : List Span) (reserve : Reserved) (t r slots now needed later most left i : ℕ) (s : Span) → FollowOn t spans → spans ≡ filled spans → slice_get spans i ≡ Some s → now ≡ t → needed ≡ slots + works (take i spans) → s.end ≤ later → ((z : ℕ) → z ≤ last_end t spans → demand reserve r z ≤ most) → pos (needed + most + left) ≡ pos (s.start - now) +ℤ s.spare → first_short spans reserve t r slots later ≡ None
+covered spans reserve t r slots now needed later most left i s follow full at time due low may_come covers =
+    let least = least-at t i spans s follow full at in
+    find-none (is_short spans reserve t r slots) later (last_end t spans + 1) (λ x from to.
+    let room = least.bound x (omega arith) (omega arith) in
+    le-ltb (x - t) (slots + need_until spans reserve r x) (omega (arith, ints, may_come x (omega arith))))
 
--- what is due stays small
-pub SearchStands-small : (spans : List Span) (reserve : Reserved) (t r slots from i now needed start : ℕ) → SearchStands spans reserve t r slots from i now needed start → FollowOn t spans → i ≤ 2 ^ 20 → slots ≤ 2 ^ 16 → needed ≤ 2 ^ 60 + 2 ^ 16
-SearchStands-small spans reserve t r slots from i now needed start stands follow few offer =
-    omega (arith, stands.due, works-small t i spans follow)
+-- and as much is left there
+pub covered-leaves : (spans : List Span) (reserve : Reserved) (t r slots now needed most left i : ℕ) (s : Span) → FollowOn t spans → spans ≡ filled spans → slice_get spans i ≡ Some s → now ≡ t → needed ≡ slots + works (take i spans) → ((z : ℕ) → z ≤ last_end t spans → demand reserve r z ≤ most) → pos (needed + most + left) ≡ pos (s.start - now) +ℤ s.spare → Leaves (need_until spans reserve r) t slots left s.end (last_end t spans + 1)
+covered-leaves spans reserve t r slots now needed most left i s follow full at time due may_come covers =
+    let least = least-at t i spans s follow full at in
+    record {
+      at = λ x from to some.
+          let room = least.bound x from (omega arith) in
+          omega (arith, ints, may_come x (omega arith));
+    }
 
--- where a span covers what is needed and may come, no later time is short
-pub SearchStands-covered : (spans : List Span) (reserve : Reserved) (t r slots from i now needed start first most : ℕ) (s : Span) → SearchStands spans reserve t r slots from i now needed start → first ≡ max from start → FollowOn t spans → spans ≡ filled spans → slice_get spans i ≡ Some s → None ≡ option_map (evidence_of reserve now r needed) (found_from reserve now r needed first s.end) → ((z : ℕ) → z ≤ last_end t spans → demand reserve r z ≤ most) → pos (needed + most) ≤ℤ (pos (s.start - now) +ℤ s.spare) → first_short spans reserve t r slots from ≡ None
-SearchStands-covered spans reserve t r slots from i now needed start first most s stands is follow full at none may_come covers =
-    let later = SearchStands-later spans reserve t r slots from i now needed start first s stands is follow at none in
-    let fits : (x : ℕ) → max from s.end ≤ x → x < last_end t spans + 1 → is_short spans reserve t r slots x ≡ false = λ x low high.
-    let room = slack-at t i spans s x follow full at (omega arith) (omega arith) in
-    le-ltb (x - t) (slots + need_until spans reserve r x) (omega (arith, ints, may_come x (omega arith), stands.time, stands.due)) in
-    later.same ∙ find-none (is_short spans reserve t r slots) (max from s.end) (last_end t spans + 1) fits
+-- and where it does not, and no sporadic task may come, some time is
+pub not_covered : (spans : List Span) (reserve : Reserved) (t r slots now needed from i : ℕ) (s : Span) → FollowOn t spans → spans ≡ filled spans → slice_get spans i ≡ Some s → now ≡ t → needed ≡ slots + works (take i spans) → from ≤ s.end → (pos (s.start - now) +ℤ s.spare) <ℤ pos needed → first_short spans reserve t r slots from ≡ None → ⊥
+not_covered spans reserve t r slots now needed from i s follow full at time due low covers none =
+    let least = least-at t i spans s follow full at in
+    let x = least.reached.0 in
+    let high = least.reached.2 in
+    let is = least.reached.3 in
+    let fails = fails-from_none (is_short spans reserve t r slots) from (last_end t spans + 1 - from) none x (omega (arith, least.reached.1)) (omega (arith, high, least.reached.1)) in
+    let room : slots + need_until spans reserve r x ≤ x - t = ltb-false (x - t) (slots + need_until spans reserve r x) fails in
+    omega (arith, ints)

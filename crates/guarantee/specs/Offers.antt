@@ -1,5 +1,5 @@
 -- What spans and a reserve leave for an offer.
-use Rattle.std.specs.Prelude.{ℕ, ◌+◌, ◌-◌, Bool, not, List, find, Option, nat_lt}
+use Rattle.std.specs.Prelude.{ℕ, ◌+◌, ◌-◌, ◌≤◌, ◌<◌, Bool, true, false, not, List, find, Option, nat_lt}
 use Rattle.std.specs.Option.{option_map_or}
 use Rattle.std.specs.List.{list_all, range_with_len}
 use Rattle.slot_core.specs.declared.jobs.Evidence.{Evidence}
@@ -10,6 +10,8 @@ use Rattle.spare_capacity.specs.Laws.{work_until}
 use Rattle.sporadic_reserve.specs.Reserves.{Reserved}
 use Rattle.guarantee.specs.declared.Answer.{Answer}
 use Rattle.guarantee.specs.declared.Answer.TheVariants.{Accept, Refuse}
+use Rattle.guarantee.specs.declared.SoftRoom.{SoftRoom}
+use Rattle.guarantee.specs.declared.SoftRoom.TheVariants.{Free, Short}
 
 -- what is needed by x: the works of the spans that end by then, and the densest arrivals from r on
 abbrev pub need_until : List Span → Reserved → ℕ → ℕ → ℕ
@@ -49,3 +51,14 @@ soft_fits spans reserve t =
     list_all
     (λ x. not (is_short spans reserve t (t + 1) 1 x))
     (range_with_len (t + 1) (last_end t spans - t))
+
+-- the room lets soft work run
+abbrev pub lets_run : SoftRoom → Bool
+lets_run (Free free) = true
+lets_run (Short until due) = false
+
+-- so many slots from t on are free up to each later time by which something is needed
+abbrev pub LeavesFree : List Span → Reserved → ℕ → ℕ → Type 0
+LeavesFree spans reserve t free =
+    (x : ℕ) → t < x → x ≤ last_end t spans → 1 ≤ need_until spans reserve (t + 1) x
+    → free + need_until spans reserve (t + 1) x ≤ x - t

@@ -5,19 +5,19 @@
 //! sporadic tasks. They are handed no job. All times are in slots.
 #![tactic(auto)]
 
-ghost use Rattle.std.specs.Prelude.{◌≡◌, ◌+◌, ◌≤◌, ◌<◌, ◌^◌, ◌↔◌, [], length, pos, ◌≤ℤ◌, IsTrue};
+ghost use Rattle.std.specs.Prelude.{◌≡◌, ℕ, true, ◌+◌, ◌≤◌, ◌<◌, ◌^◌, ◌↔◌, [], length, pos, ◌≤ℤ◌, IsTrue};
 ghost use Rattle.slot_core.specs.declared.TheConstants.{OFFER_LIMIT};
+ghost use Rattle.spare_capacity.specs.Laws.{work_until};
 ghost use Rattle.spare_capacity.specs.Recurrence.{first_spare, last_end};
 ghost use Rattle.interval_row.specs.Changes.{ends_before};
 ghost use Rattle.interval_row.specs.Tables.{spans_of_pairs, IsTable};
-ghost use Rattle.guarantee.specs.Offers.{answer_to, soft_fits};
+ghost use Rattle.guarantee.specs.Offers.{answer_to, is_short, lets_run, soft_fits, LeavesFree};
 
-mod free;
 mod search;
 #[cfg(test)]
 mod tests;
+mod walk;
 
-use free::free_slots;
 use interval_row::SpareTable;
 use search::first_short;
 use slot_core::{Evidence, Steps};
@@ -33,12 +33,28 @@ pub enum Answer {
     Refuse(Evidence),
 }
 
+/// What is known of the room for soft work in a slot.
+#[derive(Clone, Copy, PartialEq, Eq, Debug)]
+pub enum SoftRoom {
+    /// Soft work may take the slot. Up to each later time by which something is needed, so many
+    /// slots are free, this one among them.
+    Free(u64),
+    /// It may not: with one slot more too much is needed up to a time.
+    Short {
+        /// The first such time.
+        until: u64,
+        /// The works of the spans that end by then, in slots.
+        due: u64,
+    },
+}
+
 /// Whether `c` slots more may be due by `dl`: whether at no time from `dl` to the last end more is
 /// needed than there are slots, with the densest arrivals of sporadic tasks from now on. A refusal
 /// tells the first time that is too short.
 ///
-/// Without sporadic tasks the capacities up to the deadline decide, and only where they do not
-/// suffice are all spans read.
+/// Each span is read once at most: those that end before the deadline for their works, and then on
+/// to the first time that is too short, or to a span whose capacity covers all that may come.
+/// Without sporadic tasks an offer is accepted at the span that the deadline is in.
 pub fn test<T: SpareTable, L: Ledger>(
     table: &T,
     reserve: &Reserve,
@@ -63,62 +79,9 @@ pub fn test<T: SpareTable, L: Ledger>(
     ensures reads_once { 1 ≤ length reserve.now.sporadics
         → steps.new ≤ steps.old + length (T.pairs table.now) }
 {
-    if reserve.is_empty() {
-        answer_by_capacities(table, reserve, dl, c, steps)
-    } else {
-        answer_by_search(table, reserve, dl, c, steps)
-    }
-}
-
-/// The answer where no sporadic task may come.
-fn answer_by_capacities<T: SpareTable, L: Ledger>(
-    table: &T,
-    reserve: &Reserve,
-    dl: u64,
-    c: u32,
-    steps: &mut Steps<L>,
-) -> Answer
-    requires none { reserve.now.sporadics ≡ [] }
-    requires first { pos 0 ≤ℤ first_spare (spans_of_pairs (T.pairs table.now)) }
-    requires after { T.time table.now < dl }
-    requires within { dl ≤ last_end (T.time table.now) (spans_of_pairs (T.pairs table.now)) }
-    requires near { last_end (T.time table.now) (spans_of_pairs (T.pairs table.now)) < 2 ^ 41 }
-    requires few { c ≤ OFFER_LIMIT }
-    ensures answer { result
-        ≡ answer_to (spans_of_pairs (T.pairs table.now)) reserve.now (T.time table.now) c dl }
-    ensures steps { steps.old ≤ steps.new }
-    ensures accepts_soon { result ≡ Answer.Accept
-        → steps.new ≤ steps.old + ends_before dl (spans_of_pairs (T.pairs table.now)) + 1 }
-    ensures refuses_soon { steps.new
-        ≤ steps.old + ends_before dl (spans_of_pairs (T.pairs table.now)) + 1
-        + length (T.pairs table.now) }
-{
-    if u64::from(c) <= free_slots(table, dl, steps) {
-        return Answer::Accept;
-    }
-    answer_by_search(table, reserve, dl, c, steps)
-}
-
-/// The answer by the first time that is too short.
-fn answer_by_search<T: SpareTable, L: Ledger>(
-    table: &T,
-    reserve: &Reserve,
-    dl: u64,
-    c: u32,
-    steps: &mut Steps<L>,
-) -> Answer
-    requires after { T.time table.now < dl }
-    requires within { dl ≤ last_end (T.time table.now) (spans_of_pairs (T.pairs table.now)) }
-    requires near { last_end (T.time table.now) (spans_of_pairs (T.pairs table.now)) < 2 ^ 41 }
-    requires few { c ≤ OFFER_LIMIT }
-    ensures answer { result
-        ≡ answer_to (spans_of_pairs (T.pairs table.now)) reserve.now (T.time table.now) c dl }
-    ensures steps { steps.old ≤ steps.new }
-    ensures reads_once { steps.new ≤ steps.old + length (T.pairs table.now) }
-{
     match first_short(table, reserve, table.time(), c, dl, steps) {
-        None => Answer::Accept,
-        Some(evidence) => Answer::Refuse(evidence),
+        Ok(_left) => Answer::Accept,
+        Err(evidence) => Answer::Refuse(evidence),
     }
 }
 
@@ -143,8 +106,49 @@ pub fn may_run_soft<T: SpareTable, L: Ledger>(
     if reserve.is_empty() {
         return has_spare(table, steps);
     }
+    lets_run(soft_room(table, reserve, steps))
+}
+
+/// Whether the room lets soft work run.
+fn lets_run(room: SoftRoom) -> bool
+    ensures { result ≡ lets_run room }
+{
+    matches!(room, SoftRoom::Free(_))
+}
+
+/// What is known of the room for soft work in this slot, with the densest arrivals of sporadic
+/// tasks after it.
+pub fn soft_room<T: SpareTable, L: Ledger>(
+    table: &T,
+    reserve: &Reserve,
+    steps: &mut Steps<L>,
+) -> SoftRoom
+    requires after { T.time table.now
+        < last_end (T.time table.now) (spans_of_pairs (T.pairs table.now)) }
+    requires near { last_end (T.time table.now) (spans_of_pairs (T.pairs table.now)) < 2 ^ 41 }
+    ensures answer { lets_run result
+        ≡ soft_fits (spans_of_pairs (T.pairs table.now)) reserve.now (T.time table.now) }
+    ensures free { (free : ℕ) → result ≡ SoftRoom.Free free
+        → LeavesFree (spans_of_pairs (T.pairs table.now)) reserve.now (T.time table.now) free }
+    ensures short { let spans = spans_of_pairs (T.pairs table.now) in
+        let t = T.time table.now in
+        (until due : ℕ) → result ≡ SoftRoom.Short until due
+        → (t < until) × (until ≤ last_end t spans) × (due ≡ work_until spans until)
+        × (is_short spans reserve.now t (t + 1) 1 until ≡ true) }
+    ensures steps { steps.old ≤ steps.new }
+    ensures reads_once { steps.new ≤ steps.old + length (T.pairs table.now) }
+{
     let next = table.time() + 1;
-    first_short(table, reserve, next, 1, next, steps).is_none()
+    match first_short(table, reserve, next, 1, next, steps) {
+        Ok(left) => SoftRoom::Free(left + 1),
+        Err(evidence) => {
+            let demand = reserve.demand(next, evidence.until);
+            SoftRoom::Short {
+                until: evidence.until,
+                due: evidence.need - 1 - demand,
+            }
+        }
+    }
 }
 
 /// Whether the first span has a slot to spare.

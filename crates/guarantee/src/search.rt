@@ -1,20 +1,32 @@
 //! The search for the first time that is too short.
 
-ghost use Rattle.std.specs.Prelude.{◌≡◌, ◌↔◌, ℕ, ◌+◌, ◌-◌, ◌≤◌, ◌<◌, ◌^◌, pos, ◌+ℤ◌, ◌≤ℤ◌, IsTrue, MatchOption, find, length, max, nat_lt};
+ghost use Rattle.std.specs.Prelude.{◌≡◌, [], None, Some, ◌+◌, ◌-◌, ◌≤◌, ◌<◌, ◌^◌, pos, ◌+ℤ◌, ◌≤ℤ◌, ◌<ℤ◌, IfOk, MatchOption, OnOk, find, length, max};
 ghost use Rattle.std.specs.List.{range_with_len};
 ghost use Rattle.std.specs.Option.{option_map};
+ghost use Rattle.std.specs.Result.{result_err};
 ghost use Rattle.slot_core.specs.declared.TheConstants.{OFFER_LIMIT};
-ghost use Rattle.slot_core.specs.declared.jobs.Evidence.{Evidence};
-ghost use Rattle.slot_core.specs.Sporadics.{sporadic_demand};
 ghost use Rattle.spare_capacity.specs.Recurrence.{last_end};
-ghost use Rattle.interval_row.specs.Tables.{spans_of_pairs};
+ghost use Rattle.interval_row.specs.Changes.{ends_before};
+ghost use Rattle.interval_row.specs.Tables.{spans_of_pairs, IsTable};
+ghost use Rattle.sporadic_reserve.specs.Reserves.{Reserved};
 ghost use Rattle.guarantee.specs.Offers.{evidence_at, first_short};
-ghost use Rattle.guarantee.specs.Stretches.{exceeds, evidence_of, IsLevelFrom};
+ghost use Rattle.guarantee.specs.Places.{IsPlace};
+ghost use Rattle.guarantee.specs.Stretches.{exceeds, evidence_of, IsLevelFrom, LeavesBetween, LeavesFrom, NeedsNone};
 
+use crate::walk::{Place, after, place_of};
 use interval_row::SpareTable;
 use slot_core::{Evidence, Span, Steps};
 use sporadic_reserve::Reserve;
 use std::sync::ledger::Ledger;
+
+/// What a search asks: whether there is room for `slots` slots more, counted from `now` on, where
+/// sporadic tasks arrive from `arrivals` on.
+#[derive(Clone, Copy, PartialEq, Eq, Debug)]
+struct Ask {
+    now: u64,
+    arrivals: u64,
+    slots: u64,
+}
 
 /// The sporadic demand from a time up to the next time at which it may be more.
 #[derive(Clone, Copy, PartialEq, Eq, Debug)]
@@ -23,12 +35,20 @@ struct Level {
     until: u64,
 }
 
+/// What a search keeps from one time to the next: the level, and the least that is left beside the
+/// slots asked for at the times so far by which something is needed.
+#[derive(Clone, Copy, PartialEq, Eq, Debug)]
+struct Tried {
+    level: Level,
+    left: u64,
+}
+
 /// The first time from `from` to the last end that is too short for `slots` slots more, with
 /// arrivals of sporadic tasks from `arrivals` on. Each span is read once at most.
 ///
-/// Between two ends and without a rise of the sporadic demand nothing more is due, so only such
-/// times are tried. The search ends at a span whose capacity, with the slack before it, covers what
-/// may come up to the last end.
+/// Where no time is too short, Ok tells how many slots are left beside those at each such time by
+/// which something is needed.
+#[inline(always)]
 pub fn first_short<T: SpareTable, L: Ledger>(
     table: &T,
     reserve: &Reserve,
@@ -36,133 +56,304 @@ pub fn first_short<T: SpareTable, L: Ledger>(
     slots: u32,
     from: u64,
     steps: &mut Steps<L>,
-) -> Option<Evidence>
-    requires from { T.time table.now ≤ from }
+) -> Result<u64, Evidence>
+    requires after { T.time table.now < from }
+    requires within { from ≤ last_end (T.time table.now) (spans_of_pairs (T.pairs table.now)) }
     requires arrivals { arrivals < 2 ^ 41 }
     requires near { last_end (T.time table.now) (spans_of_pairs (T.pairs table.now)) < 2 ^ 41 }
     requires few { slots ≤ OFFER_LIMIT }
     ensures first { let spans = spans_of_pairs (T.pairs table.now) in
         let t = T.time table.now in
-        result ≡ option_map (evidence_at spans reserve.now t arrivals slots)
+        result_err result ≡ option_map (evidence_at spans reserve.now t arrivals slots)
         (first_short spans reserve.now t arrivals slots from) }
+    ensures left { IfOk result (λ left. LeavesFrom (spans_of_pairs (T.pairs table.now))
+        reserve.now (T.time table.now) arrivals slots left from) }
+    ensures small { IfOk result (λ left. left < 2 ^ 41) }
     ensures steps { steps.old ≤ steps.new }
     ensures reads_once { steps.new ≤ steps.old + length (T.pairs table.now) }
+    ensures none_soon { reserve.now.sporadics ≡ [] → OnOk result (steps.new
+        ≤ steps.old + ends_before from (spans_of_pairs (T.pairs table.now)) + 1) }
 {
-    let now = table.time();
-    let most = reserve.demand(arrivals, table.last_end());
-    let mut level = Level {
-        demand: 0,
-        until: 0,
-    };
-    let mut needed = u64::from(slots);
-    let mut start = now;
-    let mut at = table.first();
-    for _ in 0..table.count() {
-        let span = table.read(at, steps);
-        let first = from.max(start);
-        if let Some(evidence) = short_between(
-            reserve, now, arrivals, needed, first, span.end, &mut level,
-        ) {
-            return Some(evidence);
-        }
-        if covers(span, now, needed + most) {
-            return None;
-        }
-        needed += span.work;
-        start = span.end;
-        if let Some(later) = table.next(at) {
-            at = later;
-        }
-    }
-    short_between(
-        reserve,
-        now,
+    let ask = Ask {
+        now: table.time(),
         arrivals,
-        needed,
-        from.max(start),
-        start + 1,
-        &mut level,
-    )
+        slots: u64::from(slots),
+    };
+    let place = place_of(table, from, steps);
+    first_short_on(table, reserve, ask, from, place, steps)
 }
 
-/// Whether the slots before a span and its capacity cover so many slots. Then each time from its
-/// end on has room for them.
-fn covers(span: Span, now: u64, slots: u64) -> bool
+/// The same, from the place of the first span that ends at `from` or later.
+///
+/// Between two ends and without a rise of the sporadic demand nothing more is due, so only such
+/// times are tried. The search ends at a span whose capacity, with the slack before it, covers what
+/// may come up to the last end. Without sporadic tasks a span that does not cover what is due tells
+/// that some later time is short.
+#[inline(always)]
+fn first_short_on<T: SpareTable, L: Ledger>(
+    table: &T,
+    reserve: &Reserve,
+    ask: Ask,
+    from: u64,
+    place: Place,
+    steps: &mut Steps<L>,
+) -> Result<u64, Evidence>
+    requires table { IsTable (T.time table.now) (T.pairs table.now) (T.limit table.now) }
+    requires place { IsPlace (T.pairs table.now) place }
+    requires early { place.span.start < from }
+    requires reached { from ≤ place.span.end }
+    requires now { ask.now ≡ T.time table.now }
+    requires arrivals { ask.arrivals < 2 ^ 41 }
+    requires near { last_end (T.time table.now) (spans_of_pairs (T.pairs table.now)) < 2 ^ 41 }
+    requires few { ask.slots ≤ OFFER_LIMIT }
+    ensures first { let spans = spans_of_pairs (T.pairs table.now) in
+        let t = T.time table.now in
+        result_err result ≡ option_map (evidence_at spans reserve.now t ask.arrivals ask.slots)
+        (first_short spans reserve.now t ask.arrivals ask.slots from) }
+    ensures left { IfOk result (λ left. LeavesFrom (spans_of_pairs (T.pairs table.now))
+        reserve.now (T.time table.now) ask.arrivals ask.slots left from) }
+    ensures small { IfOk result (λ left. left < 2 ^ 41) }
+    ensures steps { steps.old ≤ steps.new }
+    ensures reads_once { steps.new + place.index + 1 ≤ steps.old + length (T.pairs table.now) }
+    ensures none_soon { reserve.now.sporadics ≡ [] → OnOk result (steps.new ≡ steps.old) }
+{
+    let last = table.last_end();
+    let most = reserve.demand(ask.arrivals, last);
+    let mut tried = untried(ask, last);
+    let mut place = place;
+    loop {
+        let first = from.max(place.span.start);
+        if let Some(evidence) = short_between(
+            reserve,
+            ask,
+            place.due,
+            first,
+            place.span.end,
+            &mut tried,
+        ) {
+            return Err(evidence);
+        }
+        if let Some(left) = left_after(place.span, ask.now, ask.slots + place.due + most) {
+            return Ok(tried.left.min(left));
+        }
+        if most == 0 {
+            return Err(first_short_start(table, ask, place, steps));
+        }
+        let Some(later) = after(table, place, steps) else {
+            let all = place.due + place.span.work;
+            return left_between(reserve, ask, all, from.max(last), last + 1, tried);
+        };
+        place = later;
+    }
+}
+
+/// The first time from the end of a span on that is too short, where no sporadic task may need
+/// anything up to the last end. The span does not cover what is due, so such a time exists.
+///
+/// Inside a span nothing more is due, so only starts, and the last end, are tried.
+#[inline(always)]
+fn first_short_start<T: SpareTable, L: Ledger>(
+    table: &T,
+    ask: Ask,
+    place: Place,
+    steps: &mut Steps<L>,
+) -> Evidence
+    requires table { IsTable (T.time table.now) (T.pairs table.now) (T.limit table.now) }
+    requires place { IsPlace (T.pairs table.now) place }
+    requires now { ask.now ≡ T.time table.now }
+    requires few { ask.slots ≤ OFFER_LIMIT }
+    requires uncovered { (pos (place.span.start - ask.now) +ℤ place.span.spare)
+        <ℤ pos (ask.slots + place.due) }
+    ensures first { let spans = spans_of_pairs (T.pairs table.now) in
+        let t = T.time table.now in
+        (reserve : Reserved) → NeedsNone reserve ask.arrivals (last_end t spans)
+        → Some result ≡ option_map (evidence_at spans reserve t ask.arrivals ask.slots)
+        (first_short spans reserve t ask.arrivals ask.slots place.span.end) }
+    ensures steps { steps.old ≤ steps.new }
+    ensures reads_once { steps.new + place.index + 1 ≤ steps.old + length (T.pairs table.now) }
+{
+    let mut place = place;
+    loop {
+        let Some(later) = after(table, place, steps) else {
+            return Evidence {
+                until: place.span.end,
+                need: ask.slots + place.due + place.span.work,
+                room: place.span.end - ask.now,
+            };
+        };
+        let need = ask.slots + later.due;
+        let room = later.span.start - ask.now;
+        if room < need {
+            return Evidence {
+                until: later.span.start,
+                need,
+                room,
+            };
+        }
+        place = later;
+    }
+}
+
+/// Nothing tried so far: no level, and all slots up to the last end are left.
+#[inline(always)]
+fn untried(ask: Ask, last: u64) -> Tried
+    requires after { ask.now ≤ last }
+    ensures level { result.level.until ≡ 0 }
+    ensures none { result.level.demand ≡ 0 }
+    ensures left { result.left ≤ last }
+{
+    Tried {
+        level: Level {
+            demand: 0,
+            until: 0,
+        },
+        left: (last - ask.now).saturating_sub(ask.slots),
+    }
+}
+
+/// How much the slots before a span and its capacity leave beside so many slots, or none where they
+/// do not cover them. At each time from its end on there is as much left.
+#[inline(always)]
+fn left_after(span: Span, now: u64, slots: u64) -> Option<u64>
     requires after { now ≤ span.start }
     requires near { span.start < 2 ^ 41 }
     requires few { slots < 2 ^ 62 }
     requires short { span.spare ≤ℤ pos (2 ^ 40) }
-    ensures { IsTrue result ↔ (pos slots ≤ℤ (pos (span.start - now) +ℤ span.spare)) }
+    ensures { MatchOption result
+        ((pos (span.start - now) +ℤ span.spare) <ℤ pos slots)
+        (λ left. pos (slots + left) ≡ pos (span.start - now) +ℤ span.spare) }
 {
-    (span.start - now) as i64 + span.spare >= slots as i64
+    let room = (span.start - now) as i64 + span.spare;
+    if room < slots as i64 {
+        return None;
+    }
+    Some((room - slots as i64) as u64)
 }
 
-/// The first time from `from` to before `until` by which more is needed than there are slots from
-/// `now` on, where `needed` slots and the sporadic demand are due. The level is kept for the search
-/// from `until` on.
+/// The first time from `from` to before `until` that is too short, or what is left at all so far.
+#[inline(always)]
+fn left_between(
+    reserve: &Reserve,
+    ask: Ask,
+    due: u64,
+    from: u64,
+    until: u64,
+    tried: Tried,
+) -> Result<u64, Evidence>
+    requires from { ask.now ≤ from }
+    requires arrivals { ask.arrivals < 2 ^ 41 }
+    requires near { until ≤ 2 ^ 41 }
+    requires few { ask.slots + due < 2 ^ 62 }
+    requires level { IsLevelFrom reserve.now ask.arrivals from tried.level }
+    ensures short { result_err result
+        ≡ option_map (evidence_of reserve.now ask.now ask.arrivals (ask.slots + due))
+        (find (exceeds reserve.now ask.now ask.arrivals (ask.slots + due))
+        (range_with_len from (until - from))) }
+    ensures left { IfOk result (λ left. LeavesBetween reserve.now ask due left from until) }
+    ensures least { IfOk result (λ left. left ≤ tried.left) }
+{
+    let mut tried = tried;
+    match short_between(reserve, ask, due, from, until, &mut tried) {
+        Some(evidence) => Err(evidence),
+        None => Ok(tried.left),
+    }
+}
+
+/// The first time from `from` to before `until` by which more is needed than there are slots, where
+/// `due` slots are due beside the ones asked for and the sporadic demand. The level is kept for the
+/// search from `until` on, and where no time is short the least that is left.
 #[inline(always)]
 fn short_between(
     reserve: &Reserve,
-    now: u64,
-    arrivals: u64,
-    needed: u64,
+    ask: Ask,
+    due: u64,
     from: u64,
     until: u64,
-    level: &mut Level,
+    tried: &mut Tried,
 ) -> Option<Evidence>
-    requires from { now ≤ from }
-    requires arrivals { arrivals < 2 ^ 41 }
+    requires from { ask.now ≤ from }
+    requires arrivals { ask.arrivals < 2 ^ 41 }
     requires near { until ≤ 2 ^ 41 }
-    requires few { needed < 2 ^ 62 }
-    requires level { IsLevelFrom reserve.now arrivals from level.old }
+    requires few { ask.slots + due < 2 ^ 62 }
+    requires level { IsLevelFrom reserve.now ask.arrivals from tried.old.level }
     ensures short { result
-        ≡ option_map (evidence_of reserve.now now arrivals needed)
-        (find (exceeds reserve.now now arrivals needed) (range_with_len from (until - from))) }
-    ensures level { IsLevelFrom reserve.now arrivals (max from until) level.new }
+        ≡ option_map (evidence_of reserve.now ask.now ask.arrivals (ask.slots + due))
+        (find (exceeds reserve.now ask.now ask.arrivals (ask.slots + due))
+        (range_with_len from (until - from))) }
+    ensures level { IsLevelFrom reserve.now ask.arrivals (max from until) tried.new.level }
+    ensures left { result ≡ None → LeavesBetween reserve.now ask due tried.new.left from until }
+    ensures least { tried.new.left ≤ tried.old.left }
 {
     if until <= from {
         return None;
     }
-    if until <= level.until && needed + level.demand <= from - now {
-        return None;
+    if until <= tried.level.until {
+        return short_at(ask, due, from, tried);
     }
-    short_by_levels(reserve, now, arrivals, needed, from, until, level)
+    short_by_levels(reserve, ask, due, from, until, tried)
 }
 
 /// The same, tried at `from` and at each rise of the sporadic demand.
 #[inline(always)]
 fn short_by_levels(
     reserve: &Reserve,
-    now: u64,
-    arrivals: u64,
-    needed: u64,
+    ask: Ask,
+    due: u64,
     from: u64,
     until: u64,
-    level: &mut Level,
+    tried: &mut Tried,
 ) -> Option<Evidence>
-    requires from { now ≤ from }
-    requires arrivals { arrivals < 2 ^ 41 }
+    requires from { ask.now ≤ from }
+    requires arrivals { ask.arrivals < 2 ^ 41 }
     requires near { until ≤ 2 ^ 41 }
-    requires few { needed < 2 ^ 62 }
-    requires level { IsLevelFrom reserve.now arrivals from level.old }
+    requires few { ask.slots + due < 2 ^ 62 }
+    requires level { IsLevelFrom reserve.now ask.arrivals from tried.old.level }
     ensures short { result
-        ≡ option_map (evidence_of reserve.now now arrivals needed)
-        (find (exceeds reserve.now now arrivals needed) (range_with_len from (until - from))) }
-    ensures level { IsLevelFrom reserve.now arrivals (max from until) level.new }
+        ≡ option_map (evidence_of reserve.now ask.now ask.arrivals (ask.slots + due))
+        (find (exceeds reserve.now ask.now ask.arrivals (ask.slots + due))
+        (range_with_len from (until - from))) }
+    ensures level { IsLevelFrom reserve.now ask.arrivals (max from until) tried.new.level }
+    ensures left { result ≡ None → LeavesBetween reserve.now ask due tried.new.left from until }
+    ensures least { tried.new.left ≤ tried.old.left }
 {
     let mut at = from;
     while at < until {
-        *level = level_at(*level, reserve, arrivals, at);
-        let need = needed + level.demand;
-        let room = at - now;
-        if room < need {
-            return Some(Evidence {
-                until: at,
-                need,
-                room,
-            });
+        tried.level = level_at(tried.level, reserve, ask.arrivals, at);
+        if let Some(evidence) = short_at(ask, due, at, tried) {
+            return Some(evidence);
         }
-        at = level.until;
+        at = tried.level.until;
+    }
+    None
+}
+
+/// Whether a time is too short at the level that holds there. Where it is not, and something is
+/// needed by then, the least that is left is kept.
+#[inline(always)]
+fn short_at(ask: Ask, due: u64, at: u64, tried: &mut Tried) -> Option<Evidence>
+    requires from { ask.now ≤ at }
+    requires few { ask.slots + due < 2 ^ 62 }
+    requires small { tried.old.level.demand ≤ 2 ^ 56 }
+    ensures short { let need = ask.slots + due + tried.old.level.demand in
+        let room = at - ask.now in
+        MatchOption result (need ≤ room) (λ evidence. (room < need)
+        × (evidence ≡ record { until = at; need = need; room = room })) }
+    ensures level { tried.new.level ≡ tried.old.level }
+    ensures left { result ≡ None → 1 ≤ due + tried.old.level.demand
+        → tried.new.left + (ask.slots + due + tried.old.level.demand) ≤ at - ask.now }
+    ensures least { tried.new.left ≤ tried.old.left }
+{
+    let need = ask.slots + due + tried.level.demand;
+    let room = at - ask.now;
+    if room < need {
+        return Some(Evidence {
+            until: at,
+            need,
+            room,
+        });
+    }
+    if ask.slots < need {
+        tried.left = tried.left.min(room - need);
     }
     None
 }

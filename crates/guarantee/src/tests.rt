@@ -2,7 +2,7 @@
 
 ghost use Rattle.std.specs.Prelude.{◌≡◌, ◌<◌};
 
-use crate::{Answer, may_run_soft, test};
+use crate::{Answer, SoftRoom, may_run_soft, soft_room, test};
 use interval_row::{RowTable, SpareTable};
 use slot_core::{Evidence, Name, Span, Sporadic, Steps};
 use sporadic_reserve::Reserve;
@@ -61,8 +61,10 @@ fn without_arrivals<R: Abort, L: Ledger>(rt: &R, alloc: Global, blank: Blank) ->
         );
     }
     assert!(rt; may_run_soft(&table, &reserve, &mut steps));
+    assert_eq!(rt; soft_room(&table, &reserve, &mut steps), SoftRoom::Free(1));
     let full = RowTable::with_room(alloc, &[span(0, 4, 4, 0)], 1, 1)?;
     assert!(rt; !may_run_soft(&full, &reserve, &mut steps));
+    assert_eq!(rt; soft_room(&full, &reserve, &mut steps), short(4, 4));
     Ok(())
 }
 
@@ -96,6 +98,7 @@ fn with_an_alarm<R: Abort, L: Ledger>(rt: &R, alloc: Global, blank: Blank) -> Re
         );
     }
     assert!(rt; may_run_soft(&table, &reserve, &mut steps));
+    assert_eq!(rt; soft_room(&table, &reserve, &mut steps), SoftRoom::Free(2));
     Ok(())
 }
 
@@ -128,12 +131,20 @@ fn with_a_rise<R: Abort, L: Ledger>(rt: &R, alloc: Global, blank: Blank) -> Resu
         );
     }
     assert!(rt; may_run_soft(&table, &reserve, &mut steps));
+    assert_eq!(rt; soft_room(&table, &reserve, &mut steps), SoftRoom::Free(1));
+    let tight = RowTable::with_room(alloc, &[span(0, 24, 12, 12)], 1, 1)?;
+    assert_eq!(rt; soft_room(&tight, &reserve, &mut steps), short(24, 12));
     Ok(())
 }
 
 /// The answer that up to a time more is needed than there is room.
 fn refused(until: u64, need: u64, room: u64) -> Answer {
     Answer::Refuse(Evidence { until, need, room })
+}
+
+/// The room of a slot that soft work may not take.
+fn short(until: u64, due: u64) -> SoftRoom {
+    SoftRoom::Short { until, due }
 }
 
 fn span(start: u64, end: u64, work: u64, spare: i64) -> Span

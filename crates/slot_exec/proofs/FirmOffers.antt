@@ -23,17 +23,22 @@ use Rattle.spare_capacity.specs.Recurrence.{first_spare, last_end}
 use Rattle.sporadic_reserve.specs.Reserves.{Reserved}
 use Rattle.guarantee.specs.declared.Answer.TheVariants.{Accept, Refuse}
 use Rattle.guarantee.specs.Offers.{answer_to}
+use Rattle.slot_facts.proofs.Legal.Executives.{every_executive_is_kept}
 use Rattle.scene_steps.specs.Joins.{spans_with_job, HavePlace, MayJoin}
 use Rattle.scene_steps.specs.Steps.{with_job}
 use Rattle.scene_steps.proofs.Facts.ProperScenes.{proper_scene}
 use Rattle.scene_steps.proofs.Joins.JoinedScenes.{HavePlace-from_join}
 use Rattle.scene_steps.proofs.Joins.JoinedSpans.{spans-with_job}
 use Rattle.scene_steps.proofs.Joins.OfferEvents.{Does-accepted, Does-refused, MayJoin-accepted, exact-from_answer}
+use Rattle.scene_steps.proofs.Same.Events.{StandsForSome-from_does}
 use Rattle.scene_steps.proofs.Slots.NewParts.{parts-same}
 use Rattle.scene_steps.proofs.Spans.Executives.{deadline-by_last_end, first_spare-positive, last_end-early}
 use Rattle.slot_exec.specs.Offers.{answer_in_reach, offer_answer}
+use Rattle.slot_exec.specs.declared.rooms.Room.{Room}
+use Rattle.slot_exec.specs.Rooms.{due_with, free_beside}
 use Rattle.slot_exec.specs.Parts.{executive, job_room, span_room, IsExecutive}
 use Rattle.slot_exec.proofs.EventParts.{IsExecutive-after}
+use Rattle.slot_exec.proofs.ChangedRooms.{due-fits, RemembersScene-offered}
 use Rattle.slot_exec.proofs.SceneOffers.{answer_to-scene}
 
 -- what the test answers by the first time that is too short, the model answers
@@ -42,7 +47,7 @@ answer_in_reach-first evidence None = refl
 answer_in_reach-first evidence (Some x) = refl
 
 -- the answer by the spans of an executive's scene is that of the model
-offer_answer-scene : (exec : Executive) (reserve : Reserved) (rows : List Span) (limit capacity most slots within : ℕ) → IsExecutive exec rows reserve.sporadics limit capacity most → reserve.nexts ≡ exec.scene.nexts → offer_answer rows reserve exec.scene.time exec.plan.cycle slots within ≡ firm_answer exec.plan.tasks.sporadics exec.plan.cycle exec.scene slots within
+offer_answer-scene : (exec : Executive) (reserve : Reserved) (rows : List Span) (limit capacity most slots within : ℕ) {known : Room} → IsExecutive exec rows reserve.sporadics limit capacity most known → reserve.nexts ≡ exec.scene.nexts → offer_answer rows reserve exec.scene.time exec.plan.cycle slots within ≡ firm_answer exec.plan.tasks.sporadics exec.plan.cycle exec.scene slots within
 offer_answer-scene exec reserve rows limit capacity most slots within is nexts =
     let set = exec.plan.tasks in
     let scene = exec.scene in
@@ -51,7 +56,7 @@ offer_answer-scene exec reserve rows limit capacity most slots within is nexts =
     let in_reach = ap answer_in_reach by_spans ∙ answer_in_reach-first (evidence_at set.sporadics scene slots) (first_overload set.sporadics cycle scene slots (scene.time + within)) in
     ap (λ a. cond (within == 0) Late (cond (nat_lt cycle within) Far a)) in_reach
 
-module _ {plan : PlanParts} {time : ℕ} {rows : List Span} {jobs : List Job} (reserve : Reserved) {soft : List SoftJob} {row limit capacity most : ℕ} (is : IsExecutive (executive plan time rows jobs reserve.nexts soft row) rows reserve.sporadics limit capacity most) where
+module _ {plan : PlanParts} {time : ℕ} {rows : List Span} {jobs : List Job} (reserve : Reserved) {soft : List SoftJob} {row limit capacity most : ℕ} {known : Room} (is : IsExecutive (executive plan time rows jobs reserve.nexts soft row) rows reserve.sporadics limit capacity most known) where
   -- the executive of the parts
   abbrev exec : Executive
   exec = executive plan time rows jobs reserve.nexts soft row
@@ -109,9 +114,9 @@ module _ {plan : PlanParts} {time : ℕ} {rows : List Span} {jobs : List Job} (r
           subst (λ (e : Executive). Does e kept (arrive next_row (FirmEvent slots within)) (Firm next_row slots within answer)) same Does-kept
 
       -- and the parts agree
-      pub IsExecutive-refused_offer : IsExecutive kept rows reserve.sporadics limit capacity most
+      pub IsExecutive-refused_offer : IsExecutive kept rows reserve.sporadics limit capacity most known
       IsExecutive-refused_offer =
-          IsExecutive-after exec kept _ _ rows rows reserve.sporadics limit capacity most limit capacity most is Does-kept is.early is.spans refl refl refl
+          IsExecutive-after exec kept _ _ rows rows reserve.sporadics limit capacity most limit capacity most known known is Does-kept is.early is.spans refl refl refl is.remembers
 
     module _ (accepted : answer ≡ Accepted) {at : ℕ} (at_is : at ≡ time) {job : Job} (job_at : job ≡ offered_job next_row at slots within) where
       -- the job is the one that is offered now
@@ -122,6 +127,19 @@ module _ {plan : PlanParts} {time : ℕ} {rows : List Span} {jobs : List Job} (r
       MayJoin-offer : MayJoin plan.cycle exec.scene (offered_job next_row time slots within)
       MayJoin-offer =
           MayJoin-accepted exec next_row slots within is.plan is.stands last-own some few near (sym accepted ∙ answer-own)
+
+      -- it is due after now
+      pub later-offer : job.est ≤ job.dl
+      later-offer =
+          let arrives : job.est ≡ time = ap (λ (j : Job). j.est) job_is in
+          let ends : job.dl ≡ time + within = ap (λ (j : Job). j.dl) job_is in
+          omega arith
+
+      -- what is due by `tight` with it is small
+      pub due-offer : job.dl ≤ known.tight → known.due < 2 ^ 63
+      due-offer before =
+          let ends : job.dl ≡ time + within = ap (λ (j : Job). j.dl) job_is in
+          due-fits exec is.plan is.stands known is.remembers job (omega (arith, MayJoin-offer.after, ends)) before
 
       -- and finds its place
       pub HavePlace-offer : HavePlace job time rows limit jobs capacity
@@ -166,7 +184,10 @@ module _ {plan : PlanParts} {time : ℕ} {rows : List Span} {jobs : List Job} (r
             subst (λ (e : Executive). Does e joined (arrive next_row (FirmEvent slots within)) (Firm next_row slots within answer)) same Does-joined
 
         -- and the parts agree
-        pub IsExecutive-accepted_offer : IsExecutive joined new_rows reserve.sporadics places room most
+        pub IsExecutive-accepted_offer : IsExecutive joined new_rows reserve.sporadics places room most (record { free = free_beside job known.free; tight = known.tight; due = due_with job known.tight known.due })
         IsExecutive-accepted_offer =
             let early = subst (λ t. t ≤ 2 ^ 32) (sym time_is) is.early in
-            IsExecutive-after exec joined _ _ rows new_rows reserve.sporadics limit capacity most places room most is Does-joined early scene-joined.1 places_are room_is refl
+            let bounds = (every_executive_is_kept joined is.plan (StandsForSome-from_does exec joined _ _ Does-joined)).bounds in
+            let arrives : job.est ≡ time = ap (λ (j : Job). j.est) job_is in
+            let remembered = RemembersScene-offered exec is.plan is.stands known is.remembers joined.scene time_is job jobs_are refl bounds arrives in
+            IsExecutive-after exec joined _ _ rows new_rows reserve.sporadics limit capacity most places room most known _ is Does-joined early scene-joined.1 places_are room_is refl remembered

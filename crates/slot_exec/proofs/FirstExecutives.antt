@@ -11,6 +11,7 @@ use Rattle.sporadic_reserve.specs.Reserves.{without_name}
 use Rattle.interval_row.specs.Changes.{copies_of}
 use Rattle.scene_steps.proofs.Starts.FirstParts.{spans-start, IsFirst, StandsFor-start}
 use Rattle.slot_exec.specs.Changes.{jobs_in_cycle}
+use Rattle.slot_exec.proofs.SceneRooms.{nothing, Remembers-nothing}
 use Rattle.slot_exec.specs.Parts.{ends_of, executive, job_room, span_room, IsExecutive}
 
 -- three copies of the plan's spans, its jobs of three cycles, and sporadic tasks that may all come at once
@@ -26,7 +27,7 @@ IsFirst-parts plan time rows jobs nexts soft start copies same free none =
     }
 
 -- they agree, with room for three cycles
-pub IsExecutive-first : (exec : Executive) (rows : List Span) (reserved : List Sporadic) (limit capacity most : ℕ) → IsPlan exec.plan → IsFirst exec → rows ≡ copies_of exec.plan.spans 3 → reserved ≡ map without_name exec.plan.tasks.sporadics → limit ≡ span_room exec.plan.cycle → capacity ≡ job_room exec.plan.cycle → most ≡ exec.plan.tasks.soft_limit → IsExecutive exec rows reserved limit capacity most
+pub IsExecutive-first : (exec : Executive) (rows : List Span) (reserved : List Sporadic) (limit capacity most : ℕ) → IsPlan exec.plan → IsFirst exec → rows ≡ copies_of exec.plan.spans 3 → reserved ≡ map without_name exec.plan.tasks.sporadics → limit ≡ span_room exec.plan.cycle → capacity ≡ job_room exec.plan.cycle → most ≡ exec.plan.tasks.soft_limit → IsExecutive exec rows reserved limit capacity most nothing
 IsExecutive-first exec rows reserved limit capacity most plan first copies tasks spans jobs soft =
     record {
       plan = plan;
@@ -37,4 +38,5 @@ IsExecutive-first exec rows reserved limit capacity most plan first copies tasks
       places = spans;
       queue = jobs;
       ring = soft;
+      remembers = Remembers-nothing exec plan ([], (StandsFor-start exec plan first).0);
     }

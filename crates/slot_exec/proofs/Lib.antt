@@ -1,10 +1,13 @@
+pub mod ChangedRooms
 pub mod EarlyEnds
 pub mod EventParts
 pub mod FirmOffers
 pub mod FirmWithdrawals
 pub mod FirstExecutives
 pub mod OfferReasons
+pub mod Remembered
 pub mod SceneOffers
+pub mod SceneRooms
 pub mod ShownExecutives
 pub mod SlotChoice
 pub mod SlotParts

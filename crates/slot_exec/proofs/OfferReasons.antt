@@ -1,10 +1,10 @@
 -- Why an offer is refused for want of room.
-use Rattle.std.proofs.Common.{◌≡◌, ◌↔◌, ℕ, ◌≤◌, List, refl, sym, ap, ◌∙◌, subst}
+use Rattle.std.proofs.Common.{◌≡◌, ◌↔◌, ℕ, ◌≤◌, List, sym, ap, ◌∙◌}
 use Rattle.slot_core.specs.declared.events.Firm.{Firm as FirmAnswer}
 use Rattle.slot_core.specs.declared.events.Firm.TheVariants.{NoRoom}
 use Rattle.slot_core.specs.declared.jobs.Evidence.{Evidence}
 use Rattle.slot_core.specs.declared.tasks.Sporadic.{Sporadic}
-use Rattle.slot_core.specs.Answers.{firm_answer, evidence_at}
+use Rattle.slot_core.specs.Answers.{firm_answer}
 use Rattle.slot_core.specs.Demand.{HasRoom}
 use Rattle.slot_core.specs.Scenes.{Scene}
 use Rattle.slot_facts.proofs.Offers.Answers.{no_room_exactly, no_room-from_short, short-from_no_room}

@@ -1,5 +1,5 @@
 -- The parts of an executive before a slot and after it.
-use Rattle.std.proofs.Common.{◌≡◌, ℕ, ◌+◌, ◌/◌, ◌%◌, ◌^◌, ◌<◌, List, length, refl, ap, sym, ◌∙◌, subst, arith}
+use Rattle.std.proofs.Common.{◌≡◌, ℕ, ◌+◌, ◌/◌, ◌%◌, ◌^◌, ◌<◌, ◌==◌, Bool, List, length, refl, ap, sym, ◌∙◌, subst, arith}
 use Rattle.slot_core.specs.declared.jobs.Job.{Job}
 use Rattle.slot_core.specs.declared.jobs.SoftJob.{SoftJob}
 use Rattle.slot_core.specs.declared.jobs.Span.{Span}
@@ -15,6 +15,7 @@ use Rattle.slot_core.specs.Traces.{slot, told_of_slot}
 use Rattle.spare_capacity.specs.Recurrence.{last_end}
 use Rattle.sporadic_reserve.specs.Reserves.{Reserved}
 use Rattle.guarantee.specs.Offers.{soft_fits}
+use Rattle.slot_facts.proofs.Legal.Executives.{every_executive_is_kept}
 use Rattle.scene_steps.specs.Steps.{after_ran, one_slot_later}
 use Rattle.scene_steps.proofs.Same.Events.{StandsForSome-from_does}
 use Rattle.scene_steps.proofs.Same.SameScenes.{same-trans}
@@ -25,10 +26,14 @@ use Rattle.scene_steps.proofs.Spans.Executives.{last_end-early, pass_slot-before
 use Rattle.slot_exec.proofs.SceneOffers.{soft_fits-scene}
 use Rattle.slot_exec.specs.declared.runs.Chosen.{Chosen}
 use Rattle.slot_exec.specs.Changes.{chosen_of, HasPlaces, jobs_after, jobs_at, MayRun, ran_of, soft_after, spans_after, spans_at}
+use Rattle.slot_exec.specs.declared.rooms.Room.{Room}
 use Rattle.slot_exec.specs.Parts.{executive, IsExecutive}
+use Rattle.slot_exec.specs.Rooms.{room_after, RemembersSpans}
+use Rattle.slot_exec.proofs.Remembered.{RemembersScene-later}
+use Rattle.slot_exec.proofs.SceneRooms.{RemembersScene-from_spans, RemembersScene-slot, RemembersSpans-from_scene}
 use Rattle.slot_exec.proofs.SlotChoice.{choice_of, IsChosen, IsChosen-from_parts, jobs_after-choice, MayRun-from_choice, ran_of-choice, soft_after-choice, spans_after-choice}
 
-module _ {plan : PlanParts} {time : ℕ} {rows : List Span} {jobs : List Job} (reserve : Reserved) {soft : List SoftJob} {row limit capacity most : ℕ} (is : IsExecutive (executive plan time rows jobs reserve.nexts soft row) rows reserve.sporadics limit capacity most) where
+module _ {plan : PlanParts} {time : ℕ} {rows : List Span} {jobs : List Job} (reserve : Reserved) {soft : List SoftJob} {row limit capacity most : ℕ} {known : Room} (is : IsExecutive (executive plan time rows jobs reserve.nexts soft row) rows reserve.sporadics limit capacity most known) where
   -- the executive of the parts
   abbrev exec : Executive
   exec = executive plan time rows jobs reserve.nexts soft row
@@ -44,6 +49,12 @@ module _ {plan : PlanParts} {time : ℕ} {rows : List Span} {jobs : List Job} (r
   end-near =
       let near = last_end-early exec jobs (horizon plan.cycle time) is.plan is.stands is.early in
       omega (arith, near, ap (last_end time) is.spans)
+
+  -- what is remembered is so of the spans, after the slot
+  pub RemembersSpans-parts : RemembersSpans rows reserve time known
+  RemembersSpans-parts =
+      let later = RemembersScene-later plan.tasks.sporadics plan.cycle exec.scene known is.remembers in
+      subst (λ xs. RemembersSpans xs reserve time known) (sym is.spans) (RemembersSpans-from_scene exec reserve known is.plan is.stands is.sporadics refl later)
 
   module _ (chosen : Chosen) (chosen_is : chosen ≡ chosen_of soft (soft_fits rows reserve time) (earliest (ready time jobs))) where
     -- what is chosen is there
@@ -147,15 +158,19 @@ module _ {plan : PlanParts} {time : ℕ} {rows : List Span} {jobs : List Job} (r
             (subst (λ r. Does exec next slot (told_of_slot r)) (sym (runs ∙ ran_of-parts)) Does-parts)
 
         -- and the parts agree after it
-        pub IsExecutive-parts : time < 2 ^ 32 → IsExecutive next next_rows reserve.sporadics limit capacity most
-        IsExecutive-parts early =
+        pub IsExecutive-parts : (room : Room) (turned : Bool) → RemembersSpans rows reserve time room → turned ≡ ((run_time + 1) % plan.cycle == 0) → time < 2 ^ 32 → IsExecutive next next_rows reserve.sporadics limit capacity most (room_after chosen turned room)
+        IsExecutive-parts room turned remembered turns early =
+            let stands = StandsForSome-from_does exec next slot (told_of_slot (choice_of exec)) Does-parts in
+            let of_scene = RemembersScene-from_spans exec reserve room is.plan is.stands is.sporadics refl (subst (λ xs. RemembersSpans xs reserve time room) is.spans remembered) in
             record {
               plan = is.plan;
-              stands = StandsForSome-from_does exec next slot (told_of_slot (choice_of exec)) Does-parts;
+              stands = stands;
               early = omega (arith, next_time-is);
               spans = scene-step.1;
               sporadics = is.sporadics;
               places = is.places;
               queue = is.queue;
               ring = is.ring;
+              remembers =
+                  RemembersScene-slot exec is.plan is.stands next.scene chosen turned room IsChosen-parts next_time-is refl scene-step.0.jobs (every_executive_is_kept next is.plan stands).bounds (turns ∙ ap (λ t. (t + 1) % plan.cycle == 0) time_is) of_scene;
             }

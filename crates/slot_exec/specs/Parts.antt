@@ -8,6 +8,8 @@ use Rattle.slot_core.specs.Plans.{PlanParts, IsPlan}
 use Rattle.slot_core.specs.Spans.{spans_of}
 use Rattle.slot_core.specs.Executives.{Executive, StandsForSome}
 use Rattle.sporadic_reserve.specs.Reserves.{without_name}
+use Rattle.slot_exec.specs.declared.rooms.Room.{Room}
+use Rattle.slot_exec.specs.Rooms.{RemembersScene}
 
 -- the points at which spans end
 abbrev pub ends_of : List Span → List ℕ
@@ -32,10 +34,11 @@ abbrev pub job_room : ℕ → ℕ
 job_room cycle = 3 * cycle
 
 -- the parts agree: the executive has a plan and stands for some legal history, the spans of the
--- table are those of the scene, the reserve has the plan's sporadic tasks, and there is room
+-- table are those of the scene, the reserve has the plan's sporadic tasks, there is room for more,
+-- and what is remembered of the room for soft work is so
 pub record IsExecutive
     (exec : Executive) (rows : List Span) (reserved : List Sporadic)
-    (limit capacity most : ℕ) : Type 0 where
+    (limit capacity most : ℕ) (room : Room) : Type 0 where
   pub plan : IsPlan exec.plan
   pub stands : StandsForSome exec
   pub early : exec.scene.time ≤ 2 ^ 32
@@ -44,3 +47,5 @@ pub record IsExecutive
   pub places : limit ≡ span_room exec.plan.cycle
   pub queue : capacity ≡ job_room exec.plan.cycle
   pub ring : most ≡ exec.plan.tasks.soft_limit
+  pub remembers :
+      RemembersScene exec.plan.tasks.sporadics exec.plan.cycle exec.scene exec.scene.time room

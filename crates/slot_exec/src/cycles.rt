@@ -1,6 +1,6 @@
 //! The cycles of a plan: how they begin and how they go on.
 
-ghost use Rattle.std.specs.Prelude.{◌≡◌, ◌+◌, ◌/◌, ◌%◌, ◌≤◌, ◌<◌, ◌^◌, ◌++◌, length, IfOk};
+ghost use Rattle.std.specs.Prelude.{◌≡◌, ◌+◌, ◌/◌, ◌%◌, ◌≤◌, ◌<◌, ◌^◌, ◌++◌, ◌==◌, length, IfOk};
 ghost use Rattle.slot_core.specs.declared.TheConstants.{CYCLES_LIMIT};
 ghost use Rattle.slot_core.specs.Kept.{AreApart};
 ghost use Rattle.slot_core.specs.Matches.{HaveSameItems};
@@ -46,13 +46,13 @@ fn insert_first<L: Ledger>(alloc: Global, plan: &Plan, blank: Blank) -> Result<J
 }
 
 /// Time goes on by one slot. At the end of a cycle the plan's spans and jobs of one more cycle come
-/// in.
+/// in; that it has ended is told.
 pub fn pass<T: SpareTable, L: Ledger>(
     plan: &Plan,
     table: &mut T,
     queue: &mut JobQueue,
     steps: &mut Steps<L>,
-)
+) -> bool
     requires goes_on { T.time table.old + 1
         < last_end (T.time table.old) (spans_of_pairs (T.pairs table.old)) }
     requires early { T.time table.old < 2 ^ 32 }
@@ -64,6 +64,7 @@ pub fn pass<T: SpareTable, L: Ledger>(
         queue.old.jobs
         (T.limit table.old)
         queue.old.capacity }
+    ensures turned { result ≡ ((T.time table.old + 1) % plan.now.cycle == 0) }
     ensures spans { spans_of_pairs (T.pairs table.new)
         ≡ spans_at plan.now (T.time table.old + 1) (spans_of_pairs (T.pairs table.old)) }
     ensures time { T.time table.new ≡ T.time table.old + 1 }
@@ -80,7 +81,9 @@ pub fn pass<T: SpareTable, L: Ledger>(
     if time % cycle == 0 {
         table.append_cycle(plan.spans(), steps);
         insert_cycle(queue, plan, time / cycle + 2, steps);
+        return true;
     }
+    false
 }
 
 /// The plan's jobs of this cycle come in, in the order in which they start.

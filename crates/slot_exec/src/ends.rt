@@ -6,7 +6,9 @@ ghost use Rattle.slot_core.specs.Keys.{is_soft};
 ghost use Rattle.slot_core.specs.Matches.{HaveSameItems};
 ghost use Rattle.interval_row.specs.Tables.{spans_of_pairs};
 ghost use Rattle.scene_steps.specs.Ends.{ending_job, ending_soft, freed, jobs_left, soft_left, spans_left, AreDueInSpans};
+ghost use Rattle.slot_exec.specs.Rooms.{due_left};
 
+use crate::rooms::due_without;
 use circular_buffer::HeapCircularBuffer;
 use interval_row::SpareTable;
 use job_queue::JobQueue;
@@ -14,12 +16,14 @@ use slot_core::{Done, Job, Key, SoftJob, Steps};
 use std::sync::ledger::Ledger;
 
 /// The job of this key ends, where it has started: it goes, and the slots that it had left are due
-/// no more.
+/// no more, also not among those that are due by `tight`.
 pub fn end_early<T: SpareTable, L: Ledger>(
     table: &mut T,
     queue: &mut JobQueue,
     soft: &mut HeapCircularBuffer<SoftJob>,
     key: Key,
+    tight: u64,
+    due: &mut u64,
     steps: &mut Steps<L>,
 ) -> Done
     requires { AreDueInSpans queue.old.jobs (spans_of_pairs (T.pairs table.old)) }
@@ -38,6 +42,9 @@ pub fn end_early<T: SpareTable, L: Ledger>(
         (if is_soft key then queue.old.jobs else jobs_left (T.time table.old) key queue.old.jobs) }
     ensures capacity { queue.new.capacity ≡ queue.old.capacity }
     ensures stays { result ≡ Done.NotRunning → queue.new ≡ queue.old }
+    ensures due { due.new
+        ≡ (if is_soft key then due.old
+        else due_left (ending_job (T.time table.old) key queue.old.jobs) tight due.old) }
     ensures soft { soft.new.items
         ≡ (if is_soft key then soft_left key soft.old.items else soft.old.items) }
     ensures ring { soft.new.capacity ≡ soft.old.capacity }
@@ -45,7 +52,7 @@ pub fn end_early<T: SpareTable, L: Ledger>(
 {
     match key {
         Key::Soft(row) => end_soft(soft, row),
-        _ => end_job(table, queue, key, steps),
+        _ => end_job(table, queue, key, tight, due, steps),
     }
 }
 
@@ -72,6 +79,8 @@ fn end_job<T: SpareTable, L: Ledger>(
     table: &mut T,
     queue: &mut JobQueue,
     key: Key,
+    tight: u64,
+    due: &mut u64,
     steps: &mut Steps<L>,
 ) -> Done
     requires { AreDueInSpans queue.old.jobs (spans_of_pairs (T.pairs table.old)) }
@@ -90,6 +99,8 @@ fn end_job<T: SpareTable, L: Ledger>(
     ensures jobs { HaveSameItems
         queue.new.jobs
         (jobs_left (T.time table.old) key queue.old.jobs) }
+    ensures due { due.new
+        ≡ due_left (ending_job (T.time table.old) key queue.old.jobs) tight due.old }
     ensures stays { result ≡ Done.NotRunning → queue.new ≡ queue.old }
     ensures capacity { queue.new.capacity ≡ queue.old.capacity }
     ensures steps { steps.old ≤ steps.new }
@@ -98,6 +109,7 @@ fn end_job<T: SpareTable, L: Ledger>(
         Some(job) => {
             queue.take(key, steps);
             table.give_back(job.dl, job.left, steps);
+            *due = due_without(job, tight, *due);
             Done::Freed(job.left)
         }
         None => Done::NotRunning,

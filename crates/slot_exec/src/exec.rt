@@ -28,6 +28,7 @@ mod tests;
 use crate::cycles::{first_jobs, pass};
 use crate::ends::end_early;
 use crate::offers::{admit, answer_offer, offered};
+use crate::rooms::{Room, after_slot, due_told, due_with, free_beside};
 use crate::runs::{choose, run};
 use crate::shown::{first_spans, spot_of};
 use crate::sporadic_arrivals::{arriving_job, take_arrival};
@@ -50,7 +51,8 @@ use std::sync::ledger::Ledger;
 /// Contracts see the plan, the scene and the row of the last arrival. The executive always stands
 /// for some legal history: each call tells what the definitions tell at every history for which it
 /// stands, and stands for the longer one afterwards. `start` takes all memory, and no later call
-/// takes any.
+/// takes any. What a search has told of the room for soft work is remembered, and the next search
+/// comes where that does not decide.
 #[derive(Drop)]
 pub struct Exec<T: SpareTable> {
     plan: Plan,
@@ -59,6 +61,9 @@ pub struct Exec<T: SpareTable> {
     queue: JobQueue,
     soft: HeapCircularBuffer<SoftJob>,
     last_row: u32,
+    free: u64,
+    tight: u64,
+    due: u64,
 }
 
 impl<T: SpareTable> Model for Exec<T> {
@@ -90,7 +95,8 @@ impl<T: SpareTable> Model for Exec<T> {
         e.reserve.sporadics
         (T.limit e.table)
         e.queue.capacity
-        e.soft.capacity };
+        e.soft.capacity
+        (record { free = e.free; tight = e.tight; due = e.due }) };
 }
 
 impl<T: SpareTable> Exec<T> {
@@ -113,6 +119,9 @@ impl<T: SpareTable> Exec<T> {
             queue,
             soft,
             last_row: 0,
+            free: 0,
+            tight: 0,
+            due: 0,
         })
     }
 
@@ -249,6 +258,8 @@ impl<T: SpareTable> Exec<T> {
             return answer;
         }
         let job = offered(row, self.table.time(), c, d);
+        self.free = free_beside(job, self.free);
+        self.due = due_with(job, self.tight, self.due);
         admit(&mut self.table, &mut self.queue, job, steps);
         answer
     }
@@ -281,14 +292,16 @@ impl<T: SpareTable> Exec<T> {
     {
         self.last_row = row;
         let job = arriving_job(self.plan.sporadics(), index, row, self.table.time());
-        take_arrival(
+        let answer = take_arrival(
             &mut self.table,
             &mut self.reserve,
             &mut self.queue,
             index,
             job,
             steps,
-        )
+        );
+        self.due = due_told(answer, job, self.tight, self.due);
+        answer
     }
 
     /// The job of this key has ended, before it ran all its slots. Freed(n) where it has started
@@ -308,7 +321,15 @@ impl<T: SpareTable> Exec<T> {
         ensures time { self.new.scene.time ≡ self.old.scene.time }
     {
         self.last_row = row;
-        end_early(&mut self.table, &mut self.queue, &mut self.soft, key, steps)
+        end_early(
+            &mut self.table,
+            &mut self.queue,
+            &mut self.soft,
+            key,
+            self.tight,
+            &mut self.due,
+            steps,
+        )
     }
 
     /// The firm job that arrived in row `firm` is taken back before it has ended, whether it has
@@ -340,7 +361,14 @@ impl<T: SpareTable> Exec<T> {
             → steps.new ≤ steps.old + length self.old.scene.jobs }
     {
         self.last_row = row;
-        take_back(&mut self.table, &mut self.queue, firm, steps)
+        take_back(
+            &mut self.table,
+            &mut self.queue,
+            firm,
+            self.tight,
+            &mut self.due,
+            steps,
+        )
     }
 
     /// One slot passes. The first soft job runs where soft work may, else the earliest guaranteed
@@ -354,7 +382,19 @@ impl<T: SpareTable> Exec<T> {
         ensures time { self.new.scene.time ≡ self.old.scene.time + 1 }
         ensures steps { steps.old ≤ steps.new }
     {
-        let chosen = choose(&self.table, &self.reserve, &self.queue, &self.soft, steps);
+        let room = Room {
+            free: self.free,
+            tight: self.tight,
+            due: self.due,
+        };
+        let (chosen, room) = choose(
+            &self.table,
+            &self.reserve,
+            &self.queue,
+            &self.soft,
+            room,
+            steps,
+        );
         run(
             chosen,
             &mut self.table,
@@ -362,7 +402,11 @@ impl<T: SpareTable> Exec<T> {
             &mut self.soft,
             steps,
         );
-        pass(&self.plan, &mut self.table, &mut self.queue, steps);
+        let turned = pass(&self.plan, &mut self.table, &mut self.queue, steps);
+        let room = after_slot(room, chosen, turned);
+        self.free = room.free;
+        self.tight = room.tight;
+        self.due = room.due;
         chosen.ran()
     }
 }

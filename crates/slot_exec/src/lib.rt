@@ -8,6 +8,7 @@ mod cycles;
 mod ends;
 pub mod exec;
 mod offers;
+mod rooms;
 mod runs;
 mod shown;
 mod sporadic_arrivals;

@@ -1,15 +1,16 @@
 //! What a slot runs.
 
-ghost use Rattle.std.specs.Prelude.{◌≡◌, ◌≤◌, ◌<◌, ◌^◌, length};
+ghost use Rattle.std.specs.Prelude.{◌≡◌, ◌+◌, ◌≤◌, ◌<◌, ◌^◌, length};
 ghost use Rattle.slot_core.specs.Choice.{earliest, ready};
 ghost use Rattle.slot_core.specs.Matches.{HaveSameItems};
 ghost use Rattle.spare_capacity.specs.Recurrence.{last_end};
 ghost use Rattle.interval_row.specs.Tables.{spans_of_pairs};
 ghost use Rattle.guarantee.specs.Offers.{soft_fits};
+ghost use Rattle.slot_exec.specs.Rooms.{RemembersSpans};
 ghost use Rattle.slot_exec.specs.Changes.{chosen_job, chosen_of, front_run, jobs_after, ran_of, soft_after, spans_after, MayRun};
 
+use crate::rooms::{Room, may_run};
 use circular_buffer::HeapCircularBuffer;
-use guarantee::may_run_soft;
 use interval_row::SpareTable;
 use job_queue::JobQueue;
 use slot_core::{Job, Key, Ran, SoftJob, Steps};
@@ -41,27 +42,43 @@ impl Chosen {
 }
 
 /// The first soft job where soft work may run, else the earliest job that is ready, else nothing.
+/// And what is remembered then, for arrivals of sporadic tasks after the slot.
 pub fn choose<T: SpareTable, L: Ledger>(
     table: &T,
     reserve: &Reserve,
     queue: &JobQueue,
     soft: &HeapCircularBuffer<SoftJob>,
+    room: Room,
     steps: &mut Steps<L>,
-) -> Chosen
+) -> (Chosen, Room)
     requires after { T.time table.now
         < last_end (T.time table.now) (spans_of_pairs (T.pairs table.now)) }
     requires near { last_end (T.time table.now) (spans_of_pairs (T.pairs table.now)) < 2 ^ 41 }
-    ensures chosen { result
+    requires room { RemembersSpans
+        (spans_of_pairs (T.pairs table.now))
+        reserve.now
+        (T.time table.now)
+        room }
+    ensures chosen { result.0
         ≡ chosen_of
         soft.now.items
         (soft_fits (spans_of_pairs (T.pairs table.now)) reserve.now (T.time table.now))
         (earliest (ready (T.time table.now) queue.now.jobs)) }
+    ensures room { RemembersSpans
+        (spans_of_pairs (T.pairs table.now))
+        reserve.now
+        (T.time table.now)
+        result.1 }
     ensures steps { steps.old ≤ steps.new }
 {
-    match soft.front() {
-        Some(first) if may_run_soft(table, reserve, steps) => Chosen::Soft(first.row),
-        _ => earliest_job(queue, table.time(), steps),
+    let Some(first) = soft.front() else {
+        return (earliest_job(queue, table.time(), steps), room);
+    };
+    let (fits, room) = may_run(table, reserve, room, steps);
+    if fits {
+        return (Chosen::Soft(first.row), room);
     }
+    (earliest_job(queue, table.time(), steps), room)
 }
 
 /// The earliest job that is ready, if there is one.

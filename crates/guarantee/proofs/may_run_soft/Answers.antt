@@ -2,7 +2,7 @@ use Rattle.std.proofs.Common.{◌≤◌, length, arith}
 use Rattle.slot_facts.proofs.Lists.Tests.{same_tests}
 use Rattle.interval_row.specs.Tables.{spans_of_pairs}
 use Rattle.guarantee.specs.Offers.{soft_fits}
-use Rattle.guarantee.proofs.Decisions.{fits-spare, searched-fits, spare-fits}
+use Rattle.guarantee.proofs.Decisions.{fits-spare, spare-fits}
 use Rattle.guarantee.proofs.Tables.{length-spans_of_pairs}
 use Rattle.guarantee.proofs.may_run_soft.Goals as goal
 
@@ -17,7 +17,3 @@ returns-then-is_empty-clause-answer g c =
     same_tests c.has_spare.result (soft_fits spans c.args.reserve.now t)
     (λ h. spare-fits t spans c.args.reserve.now table.consecutive table.proper table.filled some c.requires.after none (c.has_spare.ensures.answer.0 h))
     (λ h. c.has_spare.ensures.answer.1 (fits-spare t spans c.args.reserve.now table.consecutive table.proper table.filled some c.requires.after none h))
-
-pub returns-clause-answer : goal.returns-clause-answer
-returns-clause-answer g c =
-    searched-fits (spans_of_pairs (g.T.SpareTable.pairs c.args.table.now)) c.args.reserve.now (g.T.SpareTable.time c.args.table.now) c.time-next.result c.first_short.result c.is_none.result c.time-next.ensures c.first_short.ensures.first c.is_none.ensures

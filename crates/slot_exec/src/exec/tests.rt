@@ -1,15 +1,16 @@
-//! What an executive consists of, and how often an offer reads its table.
+//! What an executive consists of, and how often offers and soft work read its table.
 
-ghost use Rattle.std.specs.Prelude.{◌≡◌, ◌<◌};
+ghost use Rattle.std.specs.Prelude.{◌≡◌, ◌<◌, true};
+ghost use Rattle.slot_core.specs.Ranges.{is_sound};
 
 use crate::Exec;
 use circular_buffer::HeapCircularBuffer;
 use cycle_plan::{Plan, make_plan};
 use guarantee::{Answer, test};
-use interval_row::{RowTable, SpareTable, Spot};
+use interval_row::{ChainTable, RowTable, SpareTable, Spot};
 use job_queue::JobQueue;
-use sample_sets::{pair_set, unmanned_flight_set};
-use slot_core::{Firm, Memory, SoftJob, Span, Steps};
+use sample_sets::{alarm_set, pair_set, unmanned_flight_set};
+use slot_core::{Firm, Key, Memory, Ran, Soft, SoftJob, Span, Steps, TaskSet};
 use sporadic_reserve::Reserve;
 use std::alloc::Global;
 use std::cell::Cell;
@@ -20,10 +21,15 @@ use std::test::Fail;
 
 #[test]
 fn fields_are_whole(rt: HostRuntime) -> Result<(), Fail> {
-    let planned = make_plan(rt.alloc(), pair_set(rt.alloc())?)
-        .ok()
-        .ok_or("no plan")?;
-    let exec: Exec<RowTable> = Exec::start(rt.alloc(), planned)?;
+    let rows: Exec<RowTable> = start(rt.alloc(), pair_set(rt.alloc())?)?;
+    named(&rt, rows);
+    let chain: Exec<ChainTable> = start(rt.alloc(), pair_set(rt.alloc())?)?;
+    named(&rt, chain);
+    Ok(())
+}
+
+/// Names the type of each field of an executive over this table, before its first slot.
+fn named<R: Abort, T: SpareTable>(rt: &R, exec: Exec<T>) {
     let Exec {
         plan,
         table,
@@ -31,16 +37,28 @@ fn fields_are_whole(rt: HostRuntime) -> Result<(), Fail> {
         queue,
         soft,
         last_row,
+        free,
+        tight,
+        due,
     } = exec;
     let plan: Plan = plan;
-    let table: RowTable = table;
+    let table: T = table;
     let reserve: Reserve = reserve;
     let queue: JobQueue = queue;
     let soft: HeapCircularBuffer<SoftJob> = soft;
     let last_row: u32 = last_row;
+    let (free, tight, due): (u64, u64, u64) = (free, tight, due);
     assert_eq!(rt; (plan.cycle(), table.time(), last_row), (8, 0, 0));
     assert_eq!(rt; (reserve.is_empty(), queue.len(), soft.len()), (true, 6, 0));
-    Ok(())
+    assert_eq!(rt; (free, tight, due), (0, 0, 0));
+}
+
+/// The executive of a set before the first slot.
+fn start<T: SpareTable>(alloc: Global, tasks: TaskSet) -> Result<Exec<T>, Fail>
+    requires { is_sound tasks ≡ true }
+{
+    let plan = make_plan(alloc, tasks).ok().ok_or("no plan")?;
+    Ok(Exec::start(alloc, plan)?)
 }
 
 #[test]
@@ -74,6 +92,50 @@ fn reads<R: Abort, L: Ledger>(rt: &R, alloc: Global, blank: Blank) -> Result<(),
     assert_eq!(rt; exec.firm(1, 9, 20, &mut steps), Firm::Accepted);
     assert!(rt; (2..=43).contains(&exec.table.reads.get()));
     Ok(())
+}
+
+#[test]
+fn waiting_soft_work_is_searched_for_once(rt: HostRuntime) -> Result<(), Fail> {
+    searches::<HostRuntime, Brand>(&rt, rt.alloc(), Blank::new(1))
+}
+
+/// A cycle of 8 slots with 3 of jobs, 4 of an offer and 1 held for an alarm that does not come.
+/// Soft work may run in slot 6, from which on no alarm is due by 8. For each slot: whether soft
+/// work runs, and whether spans are read.
+fn searches<R: Abort, L: Ledger>(rt: &R, alloc: Global, blank: Blank) -> Result<(), Fail>
+    requires name { blank.name ≡ L.name }
+    requires parts { blank.parts ≡ L.parts }
+    requires some { 0 < L.parts }
+{
+    let slots = [
+        (false, true),
+        (false, false),
+        (false, false),
+        (false, false),
+        (false, false),
+        (false, false),
+        (true, true),
+        (false, false),
+    ];
+    let mut steps: Steps<L> = Steps::new(blank);
+    let plan = make_plan(alloc, alarm_set(alloc)?).ok().ok_or("no plan")?;
+    let mut exec: Exec<ReadTable<RowTable>> = Exec::start(alloc, plan)?;
+    assert_eq!(rt; exec.firm(1, 4, 8, &mut steps), Firm::Accepted);
+    assert_eq!(rt; exec.soft(2, 3), Soft::Taken);
+    for (runs, reads) in slots {
+        exec.table.reads.set(0);
+        let ran = slot(&mut exec, &mut steps) == Some(Ran::Key(Key::Soft(2)));
+        assert_eq!(rt; (ran, exec.table.reads.get() > 0), (runs, reads));
+    }
+    Ok(())
+}
+
+/// A slot, where the time is in its range.
+fn slot<T: SpareTable, L: Ledger>(exec: &mut Exec<T>, steps: &mut Steps<L>) -> Option<Ran> {
+    if 1 << 32 <= exec.now() {
+        return None;
+    }
+    Some(exec.slot(steps))
 }
 
 /// What the test answers at time 0, where a cycle has 20 slots.

@@ -1,16 +1,38 @@
-use Rattle.std.proofs.Common.{max, ◌∙◌, arith}
-use Rattle.guarantee.proofs.Segments.{found-later, IsLevelFrom-later}
+use Rattle.std.proofs.Common.{◌≡◌, ◌+◌, ◌-◌, ◌≤◌, ◌<◌, max, sym, ap, ◌∙◌, subst, arith}
+use Rattle.std.specs.Option.{option_map}
+use Rattle.guarantee.specs.declared.search.Level.{Level}
+use Rattle.guarantee.specs.Stretches.{evidence_of, IsLevelFrom}
+use Rattle.guarantee.proofs.Segments.{demand, found-later, found-told, IsLevelFrom-later, Leaves-join, Leaves-level, Leaves-part}
 use Rattle.guarantee.proofs.search.short_by_levels.Goals as goal
 
 pub loop-at-preserved : goal.loop-at-preserved
 loop-at-preserved c =
     let a = c.args in
-    let level = c.level_at.result in
-    let is = c.level_at.ensures.level in
-    let more = c.level_at.ensures.after in
+    let at = c.loop-at.at in
+    let inv = c.loop-at.invariant in
+    let level = c.short_at.new.tried.level in
+    let left = c.short_at.new.tried.left in
+    let kept : level ≡ c.level_at-tried.result = c.short_at.ensures.level in
+    let until : level.until ≡ c.level_at-tried.result.until = ap (λ (n : Level). n.until) kept in
+    let same_demand : level.demand ≡ c.level_at-tried.result.demand = ap (λ (n : Level). n.demand) kept in
+    let more : at < level.until = omega (arith, until, c.level_at-tried.ensures.after) in
+    let is = subst (λ (n : Level). IsLevelFrom a.reserve.now a.ask.arrivals at n) (sym kept) c.level_at-tried.ensures.level in
+    let low : a.ask.now ≤ at = omega (arith, inv.low, c.requires.from) in
+    let room : a.ask.slots + a.due + level.demand ≤ at - a.ask.now = omega (arith, same_demand, c.in_default.ensures.short) in
+    let before = Leaves-part (λ x. a.due + demand a.reserve.now a.ask.arrivals x) a.ask.now a.ask.slots c.loop-at.tried.left left a.from at a.from at c.short_at.ensures.least (omega arith) (omega arith) inv.left in
+    let here = Leaves-level a.reserve.now a.ask a.due left at level.until level low (omega arith) is (λ some. let most = c.short_at.ensures.left c.in_default.is (omega (arith, same_demand)) in omega (arith, same_demand, most)) in
     record {
-      low = omega (arith, more);
-      same = c.loop-at.invariant.same ∙ found-later a.reserve.now a.now a.arrivals a.needed c.loop-at.at a.until level (omega arith) more is (omega arith);
-      here = IsLevelFrom-later a.reserve.now a.arrivals c.loop-at.at level.until level (omega (arith, more)) is;
-      after = IsLevelFrom-later a.reserve.now a.arrivals c.loop-at.at (max a.from a.until) level (omega arith) is;
+      low = omega (arith, inv.low, more);
+      same = inv.same ∙ found-later a.reserve.now a.ask.now a.ask.arrivals (a.ask.slots + a.due) at a.until level low more is room;
+      here = IsLevelFrom-later a.reserve.now a.ask.arrivals at level.until level (omega (arith, more)) is;
+      after = IsLevelFrom-later a.reserve.now a.ask.arrivals at (max a.from a.until) level (omega (arith, c.loop-at-test.true)) is;
+      left = Leaves-join (λ x. a.due + demand a.reserve.now a.ask.arrivals x) a.ask.now a.ask.slots left a.from at level.until before here;
+      least = omega (arith, inv.least, c.short_at.ensures.least);
     }
+
+pub returns-in-Some-clause-short : goal.returns-in-Some-clause-short
+returns-in-Some-clause-short c =
+    let a = c.args in
+    let needed = a.ask.slots + a.due in
+    found-told a.reserve.now a.ask.now a.ask.arrivals needed c.loop-at.at a.until c.level_at-tried.result c.in-Some.evidence c.loop-at-test.true c.level_at-tried.ensures.after c.level_at-tried.ensures.level c.in-Some.ensures.short
+    ∙ sym (ap (option_map (evidence_of a.reserve.now a.ask.now a.ask.arrivals needed)) c.loop-at.invariant.same)

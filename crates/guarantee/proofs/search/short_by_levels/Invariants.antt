@@ -1,15 +1,18 @@
-use Rattle.std.proofs.Common.{◌≡◌, ◌-◌, ◌≤◌, max}
-use Rattle.guarantee.specs.Stretches.{IsLevelFrom}
+use Rattle.std.proofs.Common.{◌≡◌, ◌+◌, ◌-◌, ◌≤◌, max}
+use Rattle.guarantee.specs.Stretches.{IsLevelFrom, LeavesBetween}
 use Rattle.guarantee.proofs.Segments.{found_from}
 use Rattle.guarantee.proofs.search.short_by_levels.Given as goal
 
--- what is left to search gives the same, and the level holds from here on and after the search
+-- what is left to search gives the same, the level holds from here on and after the search, and
+-- before here so much is left
 abbrev pub invariant-loop-at : goal.invariant-loop-at
 invariant-loop-at l = record {
   low : l.from ≤ l.at;
-  same : found_from l.reserve l.now l.arrivals l.needed l.from l.until ≡ found_from l.reserve l.now l.arrivals l.needed l.at l.until;
-  here : IsLevelFrom l.reserve l.arrivals l.at l.level;
-  after : IsLevelFrom l.reserve l.arrivals (max l.from l.until) l.level;
+  same : found_from l.reserve l.ask.now l.ask.arrivals (l.ask.slots + l.due) l.from l.until ≡ found_from l.reserve l.ask.now l.ask.arrivals (l.ask.slots + l.due) l.at l.until;
+  here : IsLevelFrom l.reserve l.ask.arrivals l.at l.tried.level;
+  after : IsLevelFrom l.reserve l.ask.arrivals (max l.from l.until) l.tried.level;
+  left : LeavesBetween l.reserve l.ask l.due l.tried.left l.from l.at;
+  least : l.tried.left ≤ l.initial.tried.left;
 }
 
 abbrev pub decreases-loop-at : goal.decreases-loop-at

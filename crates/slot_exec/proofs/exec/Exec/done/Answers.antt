@@ -7,12 +7,12 @@ end_early-requires g c = due-before _ _ _ _ _ _ _ c.args.row c.args.key c.self.i
 pub invariant_of-self : goal.invariant_of-self
 invariant_of-self g c =
     let ends = c.end_early.ensures in
-    (parts-ended _ _ _ _ _ _ _ c.args.row c.args.key c.self.invariant c.self.view_is _ _ _ _ _ _ _ _ c.requires.later ends.freed ends.spans ends.time ends.places ends.jobs ends.capacity ends.soft ends.ring).1
+    (parts-ended _ _ _ _ _ _ _ c.args.row c.args.key c.self.invariant c.self.view_is _ _ _ _ _ _ _ _ _ c.requires.later ends.freed ends.spans ends.time ends.places ends.jobs ends.capacity ends.soft ends.ring ends.due).1
 
 pub returns-clause-does : goal.returns-clause-does
 returns-clause-does g c =
     let ends = c.end_early.ensures in
-    (parts-ended _ _ _ _ _ _ _ c.args.row c.args.key c.self.invariant c.self.view_is _ _ _ _ _ _ _ _ c.requires.later ends.freed ends.spans ends.time ends.places ends.jobs ends.capacity ends.soft ends.ring).0
+    (parts-ended _ _ _ _ _ _ _ c.args.row c.args.key c.self.invariant c.self.view_is _ _ _ _ _ _ _ _ _ c.requires.later ends.freed ends.spans ends.time ends.places ends.jobs ends.capacity ends.soft ends.ring ends.due).0
 
 pub returns-clause-answer : goal.returns-clause-answer
 returns-clause-answer g c =

@@ -1,7 +1,7 @@
 -- An offer: the answer is that of the scene, and where it is accepted its job finds a place.
 use Rattle.std.proofs.Common.{rules, ◌≡◌, ◌≢◌}
 use Rattle.slot_core.specs.declared.events.Firm.TheVariants.{Accepted}
-use Rattle.slot_exec.proofs.FirmOffers.{offer-first, offer-near, offer-reach, answer-seen, exact-seen, Does-refused_offer, IsExecutive-refused_offer, HavePlace-offer, Does-accepted_offer, IsExecutive-accepted_offer}
+use Rattle.slot_exec.proofs.FirmOffers.{offer-first, offer-near, offer-reach, answer-seen, exact-seen, Does-refused_offer, IsExecutive-refused_offer, due-offer, later-offer, HavePlace-offer, Does-accepted_offer, IsExecutive-accepted_offer}
 use Rattle.slot_exec.proofs.OfferReasons.{no_room-told, evidence-told}
 use Rattle.slot_exec.proofs.StepBounds.{few_steps-offer}
 use Rattle.slot_exec.proofs.exec.Exec.firm.Goals as goal
@@ -48,6 +48,16 @@ admit-requires g c =
     let accepted : c.answer_offer-answer.result ≡ Accepted = search rules in
     HavePlace-offer c.self.inside.reserve c.self.invariant c.self.view_is c.requires.later c.requires.some c.requires.few c.requires.near c.cycle-cycle.ensures.cycle c.answer_offer-answer.ensures.answer accepted c.time.ensures c.offered-job.ensures
 
+pub free_beside-self-inside-requires : goal.free_beside-self-inside-requires
+free_beside-self-inside-requires g c =
+    let accepted : c.answer_offer-answer.result ≡ Accepted = search rules in
+    later-offer c.self.inside.reserve c.self.invariant c.self.view_is c.requires.later c.requires.some c.requires.few c.requires.near c.cycle-cycle.ensures.cycle c.answer_offer-answer.ensures.answer accepted c.time.ensures c.offered-job.ensures
+
+pub due_with-self-inside-requires : goal.due_with-self-inside-requires
+due_with-self-inside-requires g c =
+    let accepted : c.answer_offer-answer.result ≡ Accepted = search rules in
+    due-offer c.self.inside.reserve c.self.invariant c.self.view_is c.requires.later c.requires.some c.requires.few c.requires.near c.cycle-cycle.ensures.cycle c.answer_offer-answer.ensures.answer accepted c.time.ensures c.offered-job.ensures
+
 pub returns-clause-does : goal.returns-clause-does
 returns-clause-does g c =
     let accepted : c.answer_offer-answer.result ≡ Accepted = search rules in
@@ -58,7 +68,8 @@ pub invariant_of-self-2 : goal.invariant_of-self-2
 invariant_of-self-2 g c =
     let accepted : c.answer_offer-answer.result ≡ Accepted = search rules in
     let joins = c.admit.ensures in
-    IsExecutive-accepted_offer c.self.inside.reserve c.self.invariant c.self.view_is c.requires.later c.requires.some c.requires.few c.requires.near c.cycle-cycle.ensures.cycle c.answer_offer-answer.ensures.answer accepted c.time.ensures c.offered-job.ensures c.admit.new.queue.jobs joins.time joins.spans joins.jobs joins.places joins.capacity
+    rw (c.free_beside-self-inside.ensures, c.due_with-self-inside.ensures)
+    (IsExecutive-accepted_offer c.self.inside.reserve c.self.invariant c.self.view_is c.requires.later c.requires.some c.requires.few c.requires.near c.cycle-cycle.ensures.cycle c.answer_offer-answer.ensures.answer accepted c.time.ensures c.offered-job.ensures c.admit.new.queue.jobs joins.time joins.spans joins.jobs joins.places joins.capacity)
 
 pub returns-clause-few_steps : goal.returns-clause-few_steps
 returns-clause-few_steps g c counted none accepted =

@@ -2,7 +2,7 @@
 use Rattle.std.proofs.Common.{◌<◌, ◌^◌, ap, ◌∙◌, arith}
 use Rattle.slot_core.specs.Executives.{Executive}
 use Rattle.slot_exec.proofs.SlotChoice.{choice_of}
-use Rattle.slot_exec.proofs.SlotParts.{Does-seen, end-near, HasPlaces-parts, IsExecutive-parts, MayRun-parts, next_slot-before_end, ran_of-parts, slot-before_end}
+use Rattle.slot_exec.proofs.SlotParts.{Does-seen, end-near, HasPlaces-parts, IsExecutive-parts, MayRun-parts, next_slot-before_end, ran_of-parts, RemembersSpans-parts, slot-before_end}
 use Rattle.slot_exec.proofs.exec.Exec.slot.Goals as goal
 
 pub choose-chosen-requires-clause-after : goal.choose-chosen-requires-clause-after
@@ -12,36 +12,39 @@ choose-chosen-requires-clause-after g c =
 pub choose-chosen-requires-clause-near : goal.choose-chosen-requires-clause-near
 choose-chosen-requires-clause-near g c = end-near c.self.inside.reserve c.self.invariant
 
+pub choose-chosen-requires-clause-room : goal.choose-chosen-requires-clause-room
+choose-chosen-requires-clause-room g c = RemembersSpans-parts c.self.inside.reserve c.self.invariant
+
 pub run-requires : goal.run-requires
 run-requires g c =
-    MayRun-parts c.self.inside.reserve c.self.invariant c.choose-chosen.result c.choose-chosen.ensures.chosen
+    MayRun-parts c.self.inside.reserve c.self.invariant c.choose-chosen.result.0 c.choose-chosen.ensures.chosen
 
-pub pass-requires-clause-goes_on : goal.pass-requires-clause-goes_on
-pass-requires-clause-goes_on g c =
+pub pass-turned-requires-clause-goes_on : goal.pass-turned-requires-clause-goes_on
+pass-turned-requires-clause-goes_on g c =
     let ran = c.run.ensures in
-    next_slot-before_end c.self.inside.reserve c.self.invariant c.choose-chosen.result c.choose-chosen.ensures.chosen _ _ c.run.new.queue.jobs ran.time ran.spans ran.jobs
+    next_slot-before_end c.self.inside.reserve c.self.invariant c.choose-chosen.result.0 c.choose-chosen.ensures.chosen _ _ c.run.new.queue.jobs ran.time ran.spans ran.jobs
 
-pub pass-requires-clause-places : goal.pass-requires-clause-places
-pass-requires-clause-places g c =
+pub pass-turned-requires-clause-places : goal.pass-turned-requires-clause-places
+pass-turned-requires-clause-places g c =
     let ran = c.run.ensures in
     rw (ran.places, ran.capacity)
-    (HasPlaces-parts c.self.inside.reserve c.self.invariant c.choose-chosen.result c.choose-chosen.ensures.chosen _ _ c.run.new.queue.jobs ran.time ran.spans ran.jobs)
+    (HasPlaces-parts c.self.inside.reserve c.self.invariant c.choose-chosen.result.0 c.choose-chosen.ensures.chosen _ _ c.run.new.queue.jobs ran.time ran.spans ran.jobs)
 
 pub invariant_of-self : goal.invariant_of-self
 invariant_of-self g c =
     let ran = c.run.ensures in
-    let passed = c.pass.ensures in
+    let passed = c.pass-turned.ensures in
     let early : g.T.SpareTable.time c.self.inside.table < 2 ^ 32 = omega (arith, c.requires, ap (λ (e : Executive). e.scene.time) c.self.view_is) in
-    rw (passed.room, ran.places, passed.capacity, ran.capacity, ran.ring)
-    (IsExecutive-parts c.self.inside.reserve c.self.invariant c.choose-chosen.result c.choose-chosen.ensures.chosen _ _ c.run.new.queue.jobs ran.time ran.spans ran.jobs _ _ c.pass.new.queue.jobs _ passed.time passed.spans passed.jobs ran.soft early)
+    rw (passed.room, ran.places, passed.capacity, ran.capacity, ran.ring, c.after_slot-room.ensures)
+    (IsExecutive-parts c.self.inside.reserve c.self.invariant c.choose-chosen.result.0 c.choose-chosen.ensures.chosen _ _ c.run.new.queue.jobs ran.time ran.spans ran.jobs _ _ c.pass-turned.new.queue.jobs _ passed.time passed.spans passed.jobs ran.soft c.choose-chosen.result.1 c.pass-turned.result c.choose-chosen.ensures.room passed.turned early)
 
 pub returns-clause-does : goal.returns-clause-does
 returns-clause-does g c =
     let ran = c.run.ensures in
-    let passed = c.pass.ensures in
-    Does-seen c.self.inside.reserve c.self.invariant c.choose-chosen.result c.choose-chosen.ensures.chosen _ _ c.run.new.queue.jobs ran.time ran.spans ran.jobs _ _ c.pass.new.queue.jobs _ passed.time passed.spans passed.jobs ran.soft _ _ c.self.view_is c.ran.ensures
+    let passed = c.pass-turned.ensures in
+    Does-seen c.self.inside.reserve c.self.invariant c.choose-chosen.result.0 c.choose-chosen.ensures.chosen _ _ c.run.new.queue.jobs ran.time ran.spans ran.jobs _ _ c.pass-turned.new.queue.jobs _ passed.time passed.spans passed.jobs ran.soft _ _ c.self.view_is c.ran.ensures
 
 pub returns-clause-answer : goal.returns-clause-answer
 returns-clause-answer g c =
-    let runs = ran_of-parts c.self.inside.reserve c.self.invariant c.choose-chosen.result c.choose-chosen.ensures.chosen in
+    let runs = ran_of-parts c.self.inside.reserve c.self.invariant c.choose-chosen.result.0 c.choose-chosen.ensures.chosen in
     c.ran.ensures ∙ runs ∙ ap choice_of c.self.view_is

@@ -1,22 +1,25 @@
 use Rattle.slot_core.specs.declared.jobs.Key.TheVariants.{Firm}
 use Rattle.slot_exec.proofs.EarlyEnds.{due-before}
-use Rattle.slot_exec.proofs.FirmWithdrawals.{answer-withdrawn, some-withdrawn, none-withdrawn, parts-withdrawn}
+use Rattle.slot_exec.proofs.FirmWithdrawals.{answer-withdrawn, come-before, some-withdrawn, none-withdrawn, parts-withdrawn}
 use Rattle.slot_exec.proofs.StepBounds.{few_steps-withdrawal, no_job_steps-withdrawal}
 use Rattle.slot_exec.proofs.exec.Exec.withdraw.Goals as goal
 
 pub take_back-requires : goal.take_back-requires
 take_back-requires g c =
-    due-before _ _ _ _ _ _ _ c.args.row (Firm c.args.firm) c.self.invariant c.self.view_is
+    record {
+      due = due-before _ _ _ _ _ _ _ c.args.row (Firm c.args.firm) c.self.invariant c.self.view_is;
+      come = come-before _ _ _ _ _ _ _ c.args.row c.args.firm c.self.invariant c.self.view_is;
+    }
 
 pub invariant_of-self : goal.invariant_of-self
 invariant_of-self g c =
     let gone = c.take_back.ensures in
-    (parts-withdrawn _ _ _ _ _ _ _ c.args.row c.args.firm c.self.invariant c.self.view_is _ _ _ _ _ _ c.requires.later gone.gone gone.spans gone.time gone.places gone.jobs gone.capacity).1
+    (parts-withdrawn _ _ _ _ _ _ _ c.args.row c.args.firm c.self.invariant c.self.view_is _ _ _ _ _ _ _ c.requires.later gone.gone gone.spans gone.time gone.places gone.jobs gone.capacity gone.due).1
 
 pub returns-clause-does : goal.returns-clause-does
 returns-clause-does g c =
     let gone = c.take_back.ensures in
-    (parts-withdrawn _ _ _ _ _ _ _ c.args.row c.args.firm c.self.invariant c.self.view_is _ _ _ _ _ _ c.requires.later gone.gone gone.spans gone.time gone.places gone.jobs gone.capacity).0
+    (parts-withdrawn _ _ _ _ _ _ _ c.args.row c.args.firm c.self.invariant c.self.view_is _ _ _ _ _ _ _ c.requires.later gone.gone gone.spans gone.time gone.places gone.jobs gone.capacity gone.due).0
 
 pub returns-clause-answer : goal.returns-clause-answer
 returns-clause-answer g c =

@@ -1,0 +1,358 @@
+use Rattle.std.proofs.Common.{◌≡◌, ℕ, ◌+◌, ◌≤◌, [], None, max, take, refl, sym, ap, ◌∙◌, inl, inr, arith}
+use Rattle.std.specs.Option.{option_map}
+use Rattle.std.proofs.lemmas.Bool.{cases_lt}
+use Rattle.std.proofs.lemmas.Int.{ints}
+use Rattle.slot_facts.proofs.Sets.Faults.{option_map-None}
+use Rattle.spare_capacity.specs.Recurrence.{last_end}
+use Rattle.interval_row.specs.Tables.{spans_of_pairs}
+use Rattle.guarantee.specs.Offers.{evidence_at, first_short, need_until}
+use Rattle.guarantee.specs.Places.{works}
+use Rattle.guarantee.specs.Stretches.{NeedsNone}
+use Rattle.guarantee.proofs.Decisions.{OnOk-none}
+use Rattle.guarantee.proofs.Segments.{covered, covered-leaves, leaves-end, not_covered, IsLevelFrom-later, Leaves-join, Leaves-part, Looks-end, Looks-inside, Looks-found, Looks-last, Looks-later, Looks-leaves}
+use Rattle.guarantee.proofs.Tables.{last-ends, last-works, later-start, IsSeen-place}
+use Rattle.guarantee.proofs.search.first_short_on.Goals as goal
+
+pub untried-tried-requires : goal.untried-tried-requires
+untried-tried-requires g c =
+    let a = c.args in
+    let t = g.T.SpareTable.time a.table.now in
+    let seen = IsSeen-place t (g.T.SpareTable.limit a.table.now) (g.T.SpareTable.pairs a.table.now) a.place c.requires.table c.requires.place in
+    omega (arith, seen.stands.after, seen.stands.rising, seen.stands.within, c.requires.now, c.last_end-last.ensures)
+
+pub short_between-requires-clause-from : goal.short_between-requires-clause-from
+short_between-requires-clause-from g c =
+    let a = c.args in
+    let t = g.T.SpareTable.time a.table.now in
+    let pairs = g.T.SpareTable.pairs a.table.now in
+    let table = c.requires.table in
+    let inv = c.loop-evidence.invariant in
+    let place = c.loop-evidence.place in
+    let seen = IsSeen-place t (g.T.SpareTable.limit a.table.now) pairs place table inv.place in
+    omega (arith, seen.stands.after, c.requires.now, c.max-first.ensures)
+
+pub short_between-requires-clause-near : goal.short_between-requires-clause-near
+short_between-requires-clause-near g c =
+    let a = c.args in
+    let t = g.T.SpareTable.time a.table.now in
+    let pairs = g.T.SpareTable.pairs a.table.now in
+    let table = c.requires.table in
+    let inv = c.loop-evidence.invariant in
+    let place = c.loop-evidence.place in
+    let seen = IsSeen-place t (g.T.SpareTable.limit a.table.now) pairs place table inv.place in
+    omega (arith, seen.stands.within, c.requires.near)
+
+pub short_between-requires-clause-few : goal.short_between-requires-clause-few
+short_between-requires-clause-few g c =
+    let a = c.args in
+    let t = g.T.SpareTable.time a.table.now in
+    let pairs = g.T.SpareTable.pairs a.table.now in
+    let table = c.requires.table in
+    let inv = c.loop-evidence.invariant in
+    let place = c.loop-evidence.place in
+    let seen = IsSeen-place t (g.T.SpareTable.limit a.table.now) pairs place table inv.place in
+    omega (arith, seen.small, c.requires.few)
+
+pub returns-in-Some-clause-first : goal.returns-in-Some-clause-first
+returns-in-Some-clause-first g c =
+    let a = c.args in
+    let t = g.T.SpareTable.time a.table.now in
+    let pairs = g.T.SpareTable.pairs a.table.now in
+    let table = c.requires.table in
+    let inv = c.loop-evidence.invariant in
+    let place = c.loop-evidence.place in
+    let seen = IsSeen-place t (g.T.SpareTable.limit a.table.now) pairs place table inv.place in
+    let spans = spans_of_pairs pairs in
+    let needed = a.ask.slots + place.due in
+    let due : needed ≡ a.ask.slots + works (take place.index spans) = omega (arith, seen.due) in
+    let low : place.span.start ≤ c.max-first.result = omega (arith, c.max-first.ensures) in
+    let looks = Looks-inside spans t a.ask.slots a.ask.now needed c.max-first.result place.index place.span table.consecutive seen.at c.requires.now due low in
+    let same = inv.same ∙ ap (first_short spans a.reserve.now t a.ask.arrivals a.ask.slots) (sym c.max-first.ensures) in
+    Looks-found spans a.reserve.now t a.ask.arrivals a.ask.slots a.ask.now needed c.max-first.result place.span.end c.in-Some.evidence looks c.in-Some.ensures.short
+    ∙ sym (ap (option_map (evidence_at spans a.reserve.now t a.ask.arrivals a.ask.slots)) same)
+
+pub overflow_add-ask : goal.overflow_add-ask
+overflow_add-ask g c =
+    let a = c.args in
+    let t = g.T.SpareTable.time a.table.now in
+    let pairs = g.T.SpareTable.pairs a.table.now in
+    let table = c.requires.table in
+    let inv = c.loop-evidence.invariant in
+    let place = c.loop-evidence.place in
+    let seen = IsSeen-place t (g.T.SpareTable.limit a.table.now) pairs place table inv.place in
+    omega (arith, seen.small, c.requires.few)
+
+pub overflow_add-ask-in-loop-evidence : goal.overflow_add-ask-in-loop-evidence
+overflow_add-ask-in-loop-evidence g c =
+    let a = c.args in
+    let t = g.T.SpareTable.time a.table.now in
+    let pairs = g.T.SpareTable.pairs a.table.now in
+    let table = c.requires.table in
+    let inv = c.loop-evidence.invariant in
+    let place = c.loop-evidence.place in
+    let seen = IsSeen-place t (g.T.SpareTable.limit a.table.now) pairs place table inv.place in
+    omega (arith, seen.small, c.requires.few, c.demand-most.ensures.small)
+
+pub left_after-requires-clause-after : goal.left_after-requires-clause-after
+left_after-requires-clause-after g c =
+    let a = c.args in
+    let t = g.T.SpareTable.time a.table.now in
+    let pairs = g.T.SpareTable.pairs a.table.now in
+    let table = c.requires.table in
+    let inv = c.loop-evidence.invariant in
+    let place = c.loop-evidence.place in
+    let seen = IsSeen-place t (g.T.SpareTable.limit a.table.now) pairs place table inv.place in
+    omega (arith, seen.stands.after, c.requires.now)
+
+pub left_after-requires-clause-near : goal.left_after-requires-clause-near
+left_after-requires-clause-near g c =
+    let a = c.args in
+    let t = g.T.SpareTable.time a.table.now in
+    let pairs = g.T.SpareTable.pairs a.table.now in
+    let table = c.requires.table in
+    let inv = c.loop-evidence.invariant in
+    let place = c.loop-evidence.place in
+    let seen = IsSeen-place t (g.T.SpareTable.limit a.table.now) pairs place table inv.place in
+    omega (arith, seen.stands.rising, seen.stands.within, c.requires.near)
+
+pub left_after-requires-clause-few : goal.left_after-requires-clause-few
+left_after-requires-clause-few g c =
+    let a = c.args in
+    let t = g.T.SpareTable.time a.table.now in
+    let pairs = g.T.SpareTable.pairs a.table.now in
+    let table = c.requires.table in
+    let inv = c.loop-evidence.invariant in
+    let place = c.loop-evidence.place in
+    let seen = IsSeen-place t (g.T.SpareTable.limit a.table.now) pairs place table inv.place in
+    omega (arith, seen.small, c.requires.few, c.demand-most.ensures.small)
+
+pub left_after-requires-clause-short : goal.left_after-requires-clause-short
+left_after-requires-clause-short g c =
+    let a = c.args in
+    let t = g.T.SpareTable.time a.table.now in
+    let pairs = g.T.SpareTable.pairs a.table.now in
+    let table = c.requires.table in
+    let inv = c.loop-evidence.invariant in
+    let place = c.loop-evidence.place in
+    let seen = IsSeen-place t (g.T.SpareTable.limit a.table.now) pairs place table inv.place in
+    seen.short
+
+pub returns-in-Some-left_after-clause-first : goal.returns-in-Some-left_after-clause-first
+returns-in-Some-left_after-clause-first g c =
+    let a = c.args in
+    let t = g.T.SpareTable.time a.table.now in
+    let pairs = g.T.SpareTable.pairs a.table.now in
+    let table = c.requires.table in
+    let inv = c.loop-evidence.invariant in
+    let place = c.loop-evidence.place in
+    let seen = IsSeen-place t (g.T.SpareTable.limit a.table.now) pairs place table inv.place in
+    let spans = spans_of_pairs pairs in
+    let needed = a.ask.slots + place.due in
+    let due : needed ≡ a.ask.slots + works (take place.index spans) = omega (arith, seen.due) in
+    let low : place.span.start ≤ c.max-first.result = omega (arith, c.max-first.ensures) in
+    let looks = Looks-inside spans t a.ask.slots a.ask.now needed c.max-first.result place.index place.span table.consecutive seen.at c.requires.now due low in
+    let same = inv.same ∙ ap (first_short spans a.reserve.now t a.ask.arrivals a.ask.slots) (sym c.max-first.ensures) in
+    let told = sym c.in_default.is ∙ c.short_between.ensures.short in
+    let onward = Looks-later spans a.reserve.now t a.ask.arrivals a.ask.slots a.ask.now needed c.max-first.result place.span.end (max c.max-first.result place.span.end) looks refl told in
+    let none = covered spans a.reserve.now t a.ask.arrivals a.ask.slots a.ask.now needed (max c.max-first.result place.span.end) c.demand-most.result c.in-Some-left_after.left place.index place.span table.consecutive table.filled seen.at c.requires.now due (omega arith) (λ z most. c.demand-most.ensures.most z (omega (arith, most, c.last_end-last.ensures))) c.in-Some-left_after.ensures in
+    sym (ap (option_map (evidence_at spans a.reserve.now t a.ask.arrivals a.ask.slots)) (same ∙ onward ∙ none))
+
+pub returns-in-Some-left_after-clause-left : goal.returns-in-Some-left_after-clause-left
+returns-in-Some-left_after-clause-left g c =
+    let a = c.args in
+    let t = g.T.SpareTable.time a.table.now in
+    let pairs = g.T.SpareTable.pairs a.table.now in
+    let table = c.requires.table in
+    let inv = c.loop-evidence.invariant in
+    let place = c.loop-evidence.place in
+    let seen = IsSeen-place t (g.T.SpareTable.limit a.table.now) pairs place table inv.place in
+    let spans = spans_of_pairs pairs in
+    let needed = a.ask.slots + place.due in
+    let due : needed ≡ a.ask.slots + works (take place.index spans) = omega (arith, seen.due) in
+    let low : place.span.start ≤ c.max-first.result = omega (arith, c.max-first.ensures) in
+    let looks = Looks-inside spans t a.ask.slots a.ask.now needed c.max-first.result place.index place.span table.consecutive seen.at c.requires.now due low in
+    let need : ℕ → ℕ = need_until spans a.reserve.now a.ask.arrivals in
+    let left = c.short_between.new.tried.left in
+    let before = Leaves-part need t a.ask.slots c.loop-evidence.tried.left left a.from (max a.from place.span.start) a.from c.max-first.result c.short_between.ensures.least (omega arith) (omega (arith, c.max-first.ensures)) inv.left in
+    let inside = Looks-leaves spans a.reserve.now a.ask t place.due left c.max-first.result place.span.end looks (c.short_between.ensures.left c.in_default.is) in
+    let so_far = Leaves-join need t a.ask.slots left a.from c.max-first.result place.span.end before inside in
+    let rest = covered-leaves spans a.reserve.now t a.ask.arrivals a.ask.slots a.ask.now needed c.demand-most.result c.in-Some-left_after.left place.index place.span table.consecutive table.filled seen.at c.requires.now due (λ z most. c.demand-most.ensures.most z (omega (arith, most, c.last_end-last.ensures))) c.in-Some-left_after.ensures in
+    let least = c.min.result in
+    Leaves-join need t a.ask.slots least a.from place.span.end (last_end t spans + 1)
+    (Leaves-part need t a.ask.slots left least a.from place.span.end a.from place.span.end (omega (arith, c.min.ensures)) (omega arith) (omega arith) so_far)
+    (Leaves-part need t a.ask.slots c.in-Some-left_after.left least place.span.end (last_end t spans + 1) place.span.end (last_end t spans + 1) (omega (arith, c.min.ensures)) (omega arith) (omega arith) rest)
+
+pub returns-in-Some-left_after-clause-none_soon : goal.returns-in-Some-left_after-clause-none_soon
+returns-in-Some-left_after-clause-none_soon g c none =
+    let inv = c.loop-evidence.invariant in
+    omega (arith, inv.stays none, inv.steps)
+
+pub returns-then-most-eq0-clause-first : goal.returns-then-most-eq0-clause-first
+returns-then-most-eq0-clause-first g c =
+    let a = c.args in
+    let t = g.T.SpareTable.time a.table.now in
+    let pairs = g.T.SpareTable.pairs a.table.now in
+    let table = c.requires.table in
+    let inv = c.loop-evidence.invariant in
+    let place = c.loop-evidence.place in
+    let seen = IsSeen-place t (g.T.SpareTable.limit a.table.now) pairs place table inv.place in
+    let spans = spans_of_pairs pairs in
+    let needed = a.ask.slots + place.due in
+    let due : needed ≡ a.ask.slots + works (take place.index spans) = omega (arith, seen.due) in
+    let low : place.span.start ≤ c.max-first.result = omega (arith, c.max-first.ensures) in
+    let looks = Looks-inside spans t a.ask.slots a.ask.now needed c.max-first.result place.index place.span table.consecutive seen.at c.requires.now due low in
+    let same = inv.same ∙ ap (first_short spans a.reserve.now t a.ask.arrivals a.ask.slots) (sym c.max-first.ensures) in
+    let told = sym c.in_default.is ∙ c.short_between.ensures.short in
+    let end : place.span.end ≡ max c.max-first.result place.span.end = omega (arith, inv.reached, seen.stands.rising, c.max-first.ensures) in
+    let onward = Looks-later spans a.reserve.now t a.ask.arrivals a.ask.slots a.ask.now needed c.max-first.result place.span.end place.span.end looks end told in
+    let quiet : NeedsNone a.reserve.now a.ask.arrivals (last_end t spans) = λ z most.
+    omega (arith, c.demand-most.ensures.most z (omega (arith, most, c.last_end-last.ensures)), c.if-most-eq0.true) in
+    c.first_short_start.ensures.first a.reserve.now quiet
+    ∙ sym (ap (option_map (evidence_at spans a.reserve.now t a.ask.arrivals a.ask.slots)) (same ∙ onward))
+
+pub loop-evidence-preserved : goal.loop-evidence-preserved
+loop-evidence-preserved g c =
+    let a = c.args in
+    let t = g.T.SpareTable.time a.table.now in
+    let pairs = g.T.SpareTable.pairs a.table.now in
+    let table = c.requires.table in
+    let inv = c.loop-evidence.invariant in
+    let place = c.loop-evidence.place in
+    let seen = IsSeen-place t (g.T.SpareTable.limit a.table.now) pairs place table inv.place in
+    let spans = spans_of_pairs pairs in
+    let needed = a.ask.slots + place.due in
+    let due : needed ≡ a.ask.slots + works (take place.index spans) = omega (arith, seen.due) in
+    let low : place.span.start ≤ c.max-first.result = omega (arith, c.max-first.ensures) in
+    let looks = Looks-inside spans t a.ask.slots a.ask.now needed c.max-first.result place.index place.span table.consecutive seen.at c.requires.now due low in
+    let same = inv.same ∙ ap (first_short spans a.reserve.now t a.ask.arrivals a.ask.slots) (sym c.max-first.ensures) in
+    let told = sym c.in_default.is ∙ c.short_between.ensures.short in
+    let need : ℕ → ℕ = need_until spans a.reserve.now a.ask.arrivals in
+    let left = c.short_between.new.tried.left in
+    let before = Leaves-part need t a.ask.slots c.loop-evidence.tried.left left a.from (max a.from place.span.start) a.from c.max-first.result c.short_between.ensures.least (omega arith) (omega (arith, c.max-first.ensures)) inv.left in
+    let inside = Looks-leaves spans a.reserve.now a.ask t place.due left c.max-first.result place.span.end looks (c.short_between.ensures.left c.in_default.is) in
+    let so_far = Leaves-join need t a.ask.slots left a.from c.max-first.result place.span.end before inside in
+    let stays : a.reserve.now.sporadics ≡ [] → ⊥ = λ none.
+    let nothing : c.demand-most.result ≡ 0 = c.demand-most.ensures.demand ∙ rw none refl in
+    omega (arith, c.if-most-eq0.false) in
+    let next = c.in-Some-after.later in
+    let is = c.in-Some-after.ensures in
+    let start = later-start t pairs place next table.consecutive inv.place is.place is.last in
+    let there = IsSeen-place t (g.T.SpareTable.limit a.table.now) pairs next table is.place in
+    let first : max a.from next.span.start ≡ max c.max-first.result place.span.end = omega (arith, c.max-first.ensures, seen.stands.rising) in
+    record {
+      place = is.place;
+      passed = omega (arith, inv.passed, is.last);
+      reached = omega (arith, there.stands.rising, inv.reached);
+      same = same ∙ Looks-later spans a.reserve.now t a.ask.arrivals a.ask.slots a.ask.now needed c.max-first.result place.span.end (max a.from next.span.start) looks first told;
+      level = IsLevelFrom-later a.reserve.now a.ask.arrivals (max c.max-first.result place.span.end) (max a.from next.span.start) _ (omega arith) c.short_between.ensures.level;
+      left = Leaves-part need t a.ask.slots left left a.from place.span.end a.from (max a.from next.span.start) (omega arith) (omega arith) (omega (arith, start, inv.reached)) so_far;
+      small = omega (arith, inv.small, c.short_between.ensures.least);
+      stays = λ none. absurd (stays none);
+      steps = omega (arith, inv.steps, is.steps, is.last);
+    }
+
+pub overflow_add-all : goal.overflow_add-all
+overflow_add-all g c =
+    let a = c.args in
+    let t = g.T.SpareTable.time a.table.now in
+    let pairs = g.T.SpareTable.pairs a.table.now in
+    let table = c.requires.table in
+    let inv = c.loop-evidence.invariant in
+    let place = c.loop-evidence.place in
+    let seen = IsSeen-place t (g.T.SpareTable.limit a.table.now) pairs place table inv.place in
+    omega (arith, seen.small, seen.stands.work)
+
+pub left_between-requires-clause-from : goal.left_between-requires-clause-from
+left_between-requires-clause-from g c =
+    let a = c.args in
+    let t = g.T.SpareTable.time a.table.now in
+    let pairs = g.T.SpareTable.pairs a.table.now in
+    let table = c.requires.table in
+    let inv = c.loop-evidence.invariant in
+    let place = c.loop-evidence.place in
+    let seen = IsSeen-place t (g.T.SpareTable.limit a.table.now) pairs place table inv.place in
+    omega (arith, seen.stands.after, seen.stands.rising, seen.stands.within, c.requires.now, c.last_end-last.ensures, c.max.ensures)
+
+pub left_between-requires-clause-few : goal.left_between-requires-clause-few
+left_between-requires-clause-few g c =
+    let a = c.args in
+    let t = g.T.SpareTable.time a.table.now in
+    let pairs = g.T.SpareTable.pairs a.table.now in
+    let table = c.requires.table in
+    let inv = c.loop-evidence.invariant in
+    let place = c.loop-evidence.place in
+    let seen = IsSeen-place t (g.T.SpareTable.limit a.table.now) pairs place table inv.place in
+    omega (arith, seen.small, seen.stands.work, c.requires.few)
+
+pub left_between-requires-clause-level : goal.left_between-requires-clause-level
+left_between-requires-clause-level g c =
+    let a = c.args in
+    let t = g.T.SpareTable.time a.table.now in
+    let pairs = g.T.SpareTable.pairs a.table.now in
+    let table = c.requires.table in
+    let inv = c.loop-evidence.invariant in
+    let place = c.loop-evidence.place in
+    let seen = IsSeen-place t (g.T.SpareTable.limit a.table.now) pairs place table inv.place in
+    IsLevelFrom-later a.reserve.now a.ask.arrivals (max c.max-first.result place.span.end) c.max.result _ (omega (arith, seen.stands.rising, seen.stands.within, c.last_end-last.ensures, c.max.ensures, c.max-first.ensures)) c.short_between.ensures.level
+
+pub returns-in_default-after-clause-first : goal.returns-in_default-after-clause-first
+returns-in_default-after-clause-first g c =
+    let a = c.args in
+    let t = g.T.SpareTable.time a.table.now in
+    let pairs = g.T.SpareTable.pairs a.table.now in
+    let table = c.requires.table in
+    let inv = c.loop-evidence.invariant in
+    let place = c.loop-evidence.place in
+    let seen = IsSeen-place t (g.T.SpareTable.limit a.table.now) pairs place table inv.place in
+    let spans = spans_of_pairs pairs in
+    let needed = a.ask.slots + place.due in
+    let due : needed ≡ a.ask.slots + works (take place.index spans) = omega (arith, seen.due) in
+    let low : place.span.start ≤ c.max-first.result = omega (arith, c.max-first.ensures) in
+    let looks = Looks-inside spans t a.ask.slots a.ask.now needed c.max-first.result place.index place.span table.consecutive seen.at c.requires.now due low in
+    let same = inv.same ∙ ap (first_short spans a.reserve.now t a.ask.arrivals a.ask.slots) (sym c.max-first.ensures) in
+    let told = sym c.in_default.is ∙ c.short_between.ensures.short in
+    let over = c.in_default-after.ensures.last in
+    let end = last-ends t pairs place inv.place over in
+    let first : c.max.result ≡ max c.max-first.result place.span.end = omega (arith, c.max.ensures, c.max-first.ensures, c.last_end-last.ensures, seen.stands.rising) in
+    let all = place.due + place.span.work in
+    let works_all : a.ask.slots + all ≡ a.ask.slots + works spans = omega (arith, last-works pairs place inv.place over) in
+    let until : c.last_end-last.result + 1 ≡ last_end t spans + 1 = omega (arith, c.last_end-last.ensures) in
+    let whole = Looks-end spans t a.ask.slots a.ask.now (a.ask.slots + all) c.max.result (c.last_end-last.result + 1) table.consecutive c.requires.now works_all (omega (arith, c.max.ensures, c.last_end-last.ensures)) until in
+    let onward = Looks-later spans a.reserve.now t a.ask.arrivals a.ask.slots a.ask.now needed c.max-first.result place.span.end c.max.result looks first told in
+    c.left_between.ensures.short
+    ∙ Looks-last spans a.reserve.now t a.ask.arrivals a.ask.slots a.ask.now (a.ask.slots + all) c.max.result (c.last_end-last.result + 1) whole until
+    ∙ sym (ap (option_map (evidence_at spans a.reserve.now t a.ask.arrivals a.ask.slots)) (same ∙ onward))
+
+pub returns-in_default-after-clause-left : goal.returns-in_default-after-clause-left
+returns-in_default-after-clause-left g c =
+    let a = c.args in
+    let t = g.T.SpareTable.time a.table.now in
+    let pairs = g.T.SpareTable.pairs a.table.now in
+    let table = c.requires.table in
+    let inv = c.loop-evidence.invariant in
+    let place = c.loop-evidence.place in
+    let seen = IsSeen-place t (g.T.SpareTable.limit a.table.now) pairs place table inv.place in
+    let spans = spans_of_pairs pairs in
+    let needed = a.ask.slots + place.due in
+    let due : needed ≡ a.ask.slots + works (take place.index spans) = omega (arith, seen.due) in
+    let low : place.span.start ≤ c.max-first.result = omega (arith, c.max-first.ensures) in
+    let looks = Looks-inside spans t a.ask.slots a.ask.now needed c.max-first.result place.index place.span table.consecutive seen.at c.requires.now due low in
+    let need : ℕ → ℕ = need_until spans a.reserve.now a.ask.arrivals in
+    let left = c.short_between.new.tried.left in
+    let before = Leaves-part need t a.ask.slots c.loop-evidence.tried.left left a.from (max a.from place.span.start) a.from c.max-first.result c.short_between.ensures.least (omega arith) (omega (arith, c.max-first.ensures)) inv.left in
+    let inside = Looks-leaves spans a.reserve.now a.ask t place.due left c.max-first.result place.span.end looks (c.short_between.ensures.left c.in_default.is) in
+    let so_far = Leaves-join need t a.ask.slots left a.from c.max-first.result place.span.end before inside in
+    let over = c.in_default-after.ensures.last in
+    let end = last-ends t pairs place inv.place over in
+    let first : c.max.result ≡ max c.max-first.result place.span.end = omega (arith, c.max.ensures, c.max-first.ensures, c.last_end-last.ensures, seen.stands.rising) in
+    let all = place.due + place.span.work in
+    let works_all : a.ask.slots + all ≡ a.ask.slots + works spans = omega (arith, last-works pairs place inv.place over) in
+    let until : c.last_end-last.result + 1 ≡ last_end t spans + 1 = omega (arith, c.last_end-last.ensures) in
+    let whole = Looks-end spans t a.ask.slots a.ask.now (a.ask.slots + all) c.max.result (c.last_end-last.result + 1) table.consecutive c.requires.now works_all (omega (arith, c.max.ensures, c.last_end-last.ensures)) until in
+    let up_to = Leaves-part need t a.ask.slots left left a.from place.span.end a.from c.max.result (omega arith) (omega arith) (omega (arith, end, inv.reached, c.max.ensures, c.last_end-last.ensures)) so_far in
+    leaves-end spans a.reserve.now a.ask t all left a.from c.max.result (c.last_end-last.result + 1) c.left_between.result whole until up_to c.left_between.ensures.left c.left_between.ensures.least
+
+pub returns-in_default-after-clause-none_soon : goal.returns-in_default-after-clause-none_soon
+returns-in_default-after-clause-none_soon g c none =
+    let nothing : c.demand-most.result ≡ 0 = c.demand-most.ensures.demand ∙ rw none refl in
+    absurd (omega (arith, c.if-most-eq0.false))

@@ -1,0 +1,28 @@
+use Rattle.std.proofs.Common.{◌≡◌, ◌+◌, ◌-◌, ◌^◌, ◌<◌, ◌≤◌, [], None, length, max}
+use Rattle.interval_row.specs.Tables.{spans_of_pairs}
+use Rattle.guarantee.specs.Offers.{first_short, need_until}
+use Rattle.guarantee.specs.Places.{IsPlace}
+use Rattle.guarantee.specs.Stretches.{IsLevelFrom, Leaves}
+use Rattle.guarantee.proofs.search.first_short_on.Given as goal
+
+-- from the span on the search gives the same, and the level holds there; before it so much is left;
+-- without sporadic tasks it stays at the first span
+abbrev pub invariant-loop-evidence : goal.invariant-loop-evidence
+invariant-loop-evidence g l =
+    let t = g.T.SpareTable.time l.table in
+    let pairs = g.T.SpareTable.pairs l.table in
+    let spans = spans_of_pairs pairs in
+    record {
+      place : IsPlace pairs l.place;
+      passed : l.initial.place.index ≤ l.place.index;
+      reached : l.from ≤ l.place.span.end;
+      same : first_short spans l.reserve t l.ask.arrivals l.ask.slots l.from ≡ first_short spans l.reserve t l.ask.arrivals l.ask.slots (max l.from l.place.span.start);
+      level : IsLevelFrom l.reserve l.ask.arrivals (max l.from l.place.span.start) l.tried.level;
+      left : Leaves (need_until spans l.reserve l.ask.arrivals) t l.ask.slots l.tried.left l.from (max l.from l.place.span.start);
+      small : l.tried.left < 2 ^ 41;
+      stays : l.reserve.sporadics ≡ [] → l.place.index ≡ l.initial.place.index;
+      steps : l.steps + l.initial.place.index ≡ l.initial.steps + l.place.index;
+    }
+
+abbrev pub decreases-loop-evidence : goal.decreases-loop-evidence
+decreases-loop-evidence g l = length (g.T.SpareTable.pairs l.table) - l.place.index

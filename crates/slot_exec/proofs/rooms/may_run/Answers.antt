@@ -1,0 +1,8 @@
+use Rattle.std.proofs.Common.{sym, arith}
+use Rattle.interval_row.specs.Tables.{spans_of_pairs}
+use Rattle.slot_exec.proofs.Remembered.{soft_fits-free}
+use Rattle.slot_exec.proofs.rooms.may_run.Goals as goal
+
+pub returns-then-room-ge1-clause-answer : goal.returns-then-room-ge1-clause-answer
+returns-then-room-ge1-clause-answer g c =
+    sym (soft_fits-free (spans_of_pairs (g.T.SpareTable.pairs c.args.table.now)) c.args.reserve.now (g.T.SpareTable.time c.args.table.now) c.args.room c.requires.room (omega (arith, c.if-room-ge1.true)))

@@ -1,0 +1,176 @@
+//! What an executive remembers of the room for soft work, so that few slots search for it.
+
+ghost use Rattle.std.specs.Prelude.{◌≡◌, ℕ, false, ◌≤◌, ◌<◌, ◌+◌, ◌^◌, IsTrue};
+ghost use Rattle.spare_capacity.specs.Recurrence.{last_end};
+ghost use Rattle.interval_row.specs.Tables.{spans_of_pairs};
+ghost use Rattle.guarantee.specs.Offers.{soft_fits};
+ghost use Rattle.slot_exec.specs.Rooms.{due_told, due_with, due_without, free_beside, room_after, RemembersSpans};
+
+use crate::runs::Chosen;
+use guarantee::{SoftRoom, may_run_soft, soft_room};
+use interval_row::SpareTable;
+use slot_core::{Job, Spo, Steps};
+use sporadic_reserve::Reserve;
+use std::sync::ledger::Ledger;
+
+/// What is remembered: how many slots are free up to each later time by which something is needed,
+/// a time that was short of room, and the slots of guaranteed jobs that are due by it.
+#[derive(Clone, Copy, PartialEq, Eq, Debug)]
+pub struct Room {
+    pub free: u64,
+    pub tight: u64,
+    pub due: u64,
+}
+
+/// Whether soft work may take this slot, and what is remembered then, for arrivals of sporadic
+/// tasks after the slot. The spans are searched only where what is remembered does not decide.
+pub fn may_run<T: SpareTable, L: Ledger>(
+    table: &T,
+    reserve: &Reserve,
+    room: Room,
+    steps: &mut Steps<L>,
+) -> (bool, Room)
+    requires after { T.time table.now
+        < last_end (T.time table.now) (spans_of_pairs (T.pairs table.now)) }
+    requires near { last_end (T.time table.now) (spans_of_pairs (T.pairs table.now)) < 2 ^ 41 }
+    requires room { RemembersSpans
+        (spans_of_pairs (T.pairs table.now))
+        reserve.now
+        (T.time table.now)
+        room }
+    ensures answer { result.0
+        ≡ soft_fits (spans_of_pairs (T.pairs table.now)) reserve.now (T.time table.now) }
+    ensures room { RemembersSpans
+        (spans_of_pairs (T.pairs table.now))
+        reserve.now
+        (T.time table.now)
+        result.1 }
+    ensures steps { steps.old ≤ steps.new }
+{
+    if reserve.is_empty() {
+        return (may_run_soft(table, reserve, steps), room);
+    }
+    if room.free >= 1 {
+        return (true, room);
+    }
+    if is_short(table, reserve, room) {
+        return (false, room);
+    }
+    search(table, reserve, room, steps)
+}
+
+/// Whether up to the time that was short there is still no room for a slot more.
+fn is_short<T: SpareTable>(table: &T, reserve: &Reserve, room: Room) -> bool
+    requires after { T.time table.now
+        < last_end (T.time table.now) (spans_of_pairs (T.pairs table.now)) }
+    requires near { last_end (T.time table.now) (spans_of_pairs (T.pairs table.now)) < 2 ^ 41 }
+    requires room { RemembersSpans
+        (spans_of_pairs (T.pairs table.now))
+        reserve.now
+        (T.time table.now)
+        room }
+    ensures { IsTrue result
+        → soft_fits (spans_of_pairs (T.pairs table.now)) reserve.now (T.time table.now) ≡ false }
+{
+    let now = table.time();
+    if room.tight <= now {
+        return false;
+    }
+    (room.tight - now).saturating_sub(room.due) <= reserve.demand(now + 1, room.tight)
+}
+
+/// What a search of the spans tells.
+fn search<T: SpareTable, L: Ledger>(
+    table: &T,
+    reserve: &Reserve,
+    room: Room,
+    steps: &mut Steps<L>,
+) -> (bool, Room)
+    requires after { T.time table.now
+        < last_end (T.time table.now) (spans_of_pairs (T.pairs table.now)) }
+    requires near { last_end (T.time table.now) (spans_of_pairs (T.pairs table.now)) < 2 ^ 41 }
+    requires room { RemembersSpans
+        (spans_of_pairs (T.pairs table.now))
+        reserve.now
+        (T.time table.now)
+        room }
+    ensures answer { result.0
+        ≡ soft_fits (spans_of_pairs (T.pairs table.now)) reserve.now (T.time table.now) }
+    ensures room { RemembersSpans
+        (spans_of_pairs (T.pairs table.now))
+        reserve.now
+        (T.time table.now)
+        result.1 }
+    ensures steps { steps.old ≤ steps.new }
+{
+    match soft_room(table, reserve, steps) {
+        SoftRoom::Free(free) => (true, Room { free, ..room }),
+        SoftRoom::Short { until, due } => (
+            false,
+            Room {
+                tight: until,
+                due,
+                ..room
+            },
+        ),
+    }
+}
+
+/// What is remembered after a slot in which this ran, and after which a cycle turned or not.
+pub fn after_slot(room: Room, chosen: Chosen, turned: bool) -> Room
+    ensures { result ≡ room_after chosen turned room }
+{
+    let free = if turned {
+        0
+    } else {
+        room.free.saturating_sub(1)
+    };
+    let due = match chosen {
+        Chosen::Guaranteed(job) if job.dl <= room.tight => room.due.saturating_sub(1),
+        _ => room.due,
+    };
+    Room { free, due, ..room }
+}
+
+/// How many slots are free beside an offer that is accepted, where so many are free now.
+pub fn free_beside(job: Job, free: u64) -> u64
+    requires { job.est ≤ job.dl }
+    ensures { result ≡ free_beside job free }
+{
+    free.min(job.dl - job.est)
+        .saturating_sub(u64::from(job.left))
+}
+
+/// The slots of guaranteed jobs that are due by `tight` with this job, where `due` are now.
+pub fn due_with(job: Job, tight: u64, due: u64) -> u64
+    requires { job.dl ≤ tight → due < 2 ^ 63 }
+    ensures { result ≡ due_with job tight due }
+{
+    if job.dl <= tight {
+        due + u64::from(job.left)
+    } else {
+        due
+    }
+}
+
+/// The same with the job of an arrival, where it is taken.
+pub fn due_told(answer: Spo, job: Job, tight: u64, due: u64) -> u64
+    requires { (deadline : ℕ) → answer ≡ Spo.Taken deadline → job.dl ≤ tight → due < 2 ^ 63 }
+    ensures { result ≡ due_told answer job tight due }
+{
+    match answer {
+        Spo::Soon(_) => due,
+        Spo::Taken(_) => due_with(job, tight, due),
+    }
+}
+
+/// The same without a job that goes.
+pub fn due_without(job: Job, tight: u64, due: u64) -> u64
+    ensures { result ≡ due_without job tight due }
+{
+    if job.dl <= tight {
+        due.saturating_sub(u64::from(job.left))
+    } else {
+        due
+    }
+}
