@@ -6,7 +6,7 @@ use Rattle.std.proofs.lemmas.List.Sorted.{IsPermutation-refl}
 use Rattle.slot_core.specs.OfflineJobs.{cycle_jobs}
 use Rattle.slot_core.specs.Plans.{PlanParts, IsPlan, plan_spans}
 use Rattle.slot_core.specs.Reports.{show_text}
-use Rattle.slot_core.specs.Spelling.{spelling}
+use Rattle.table_codec.specs.Grammar.{spelling}
 use Rattle.slot_facts.proofs.Demand.Feasible.{IsFeasible-from_none}
 use Rattle.sample_sets.specs.Sets.{pair_set}
 use Rattle.slot_examples.specs.Lines.{lines}

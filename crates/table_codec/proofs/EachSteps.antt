@@ -3,18 +3,18 @@ use Rattle.std.proofs.Common.{◌≡◌, ◌≢◌, ℕ, suc, ◌-◌, ◌+◌, 
 use Rattle.std.proofs.lemmas.List.{append-nil}
 use Rattle.table_codec.specs.declared.faults.TableFault.{TableFault}
 use Rattle.table_codec.specs.declared.faults.TableFault.TheVariants.{Memory}
-use Rattle.table_codec.specs.Readers.{Unread, Read, Reader, go_on, done, each_at}
+use Rattle.table_codec.specs.Readers.{Unread, Read, Reader, go_on, settled, each_at}
 
 -- what was read before, and what is read after it
 abbrev pub with_front : {X : Type 0} → List X → Read (List X) → Read (List X)
-with_front front read = go_on read (λ xs. done (front ++ xs))
+with_front front read = go_on read (λ xs. settled (Ok (front ++ xs)))
 
 -- where nothing was read before
 pub begins : {X : Type 0} (read : Read (List X)) → with_front [] read ≡ read
 begins (Ok x) = refl
 begins (Err fault) = refl
 
-regroup : {X : Type 0} (front : List X) (x : X) (read : Read (List X)) → with_front front (go_on read (λ xs. done (x ∷ xs))) ≡ with_front (front ++ x ∷ []) read
+regroup : {X : Type 0} (front : List X) (x : X) (read : Read (List X)) → with_front front (go_on read (λ xs. settled (Ok (x ∷ xs)))) ≡ with_front (front ++ x ∷ []) read
 regroup front x (Ok y) = ap (λ xs. Ok (xs, y.1)) (simp append_assoc)
 regroup front x (Err fault) = refl
 

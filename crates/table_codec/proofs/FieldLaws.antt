@@ -1,99 +1,30 @@
--- Fields: what is read was spelled so, and what is spelled so is read.
-use Rattle.std.proofs.Common.{◌≡◌, ℕ, ◌+◌, ◌^◌, ◌<◌, ◌≤◌, Bool, true, false, cond, pos, List, [], ◌∷◌, ◌++◌, length, get_or, take, drop, Ok, Err, refl, sym, ap, subst, ◌∙◌, append_assoc, arith, inl, inr}
-use Rattle.std.specs.Prelude.{nat_lt, ◌==◌, slice_index}
-use Rattle.std.specs.Int.{Width, w16, w32, byte_len, from_le_bytes, to_le_bytes}
-use Rattle.std.proofs.lemmas.Bool.{ltb-true, cases_lt, ltb-false, le-ltb, and_parts}
+-- Fields: what is read was written so, and what is written so is read.
+use Rattle.std.proofs.Common.{◌≡◌, ℕ, ◌^◌, ◌<◌, ℤ, true, List, [], ◌∷◌, ◌++◌, length, Ok, FitsSigned, refl, sym, ap, subst, ◌∙◌, arith}
+use Rattle.std.specs.Prelude.{nat_le, ◌==◌, slice_index, ⊤}
+use Rattle.std.specs.Int.{Width, w16, w32, w64, byte_len, from_le_bytes, to_le_bytes, cast_signed, cast_unsigned}
+use Rattle.std.proofs.lemmas.Bool.{ltb-true, leb-true, and_parts}
 use Rattle.std.proofs.lemmas.Bool.Decides.{nat_tests}
-use Rattle.std.proofs.lemmas.List.{take_at, drop_at, take-append-drop, length-append, length-take, get_or-drop, get_or-take, get_or_past}
-use Rattle.std.proofs.lemmas.Nat.{le_bytes_2, le_bytes_4, from_le_bytes-to_le_bytes_2, from_le_bytes-to_le_bytes_4}
+use Rattle.std.proofs.lemmas.Int.{ints, to_z-of_z, of_z-to_z}
+use Rattle.std.proofs.lemmas.Nat.{le_bytes_2, le_bytes_4, le_bytes_8, from_le_bytes-to_le_bytes_2, from_le_bytes-to_le_bytes_4, from_le_bytes-to_le_bytes_8}
 use Rattle.slot_core.specs.declared.TheConstants.{NAME_LIMIT}
 use Rattle.slot_core.specs.declared.faults.Part.{Part}
 use Rattle.slot_core.specs.declared.faults.Field.{Field}
-use Rattle.slot_core.specs.declared.faults.TaskFault.TheVariants.{Missing, OutOfRange, TooMany}
 use Rattle.slot_core.specs.Names.{is_name}
 use Rattle.slot_core.specs.Ranges.{is_between}
-use Rattle.slot_core.specs.Spelling.{spelled_name, spelled_count}
 use Rattle.slot_facts.proofs.Sets.Ranges.{bounds}
 use Rattle.table_codec.specs.declared.faults.TableFault.{TableFault}
-use Rattle.table_codec.specs.declared.faults.TableFault.TheVariants.{Short, BadSource}
-use Rattle.table_codec.specs.Readers.{Unread, Read, Reader, go_on, done, refuse, bytes_at, byte_at, number_at, within_at, count_at, some_at, bad_name, text_at, name_at}
-
--- ---- bytes
-
-abbrev pub IsBytes : List ℕ → Type 0
-IsBytes bytes = (i : ℕ) → get_or bytes i 0 < 256
-
-IsBytes-drop : (n : ℕ) (bytes : List ℕ) → IsBytes bytes → IsBytes (drop n bytes)
-IsBytes-drop n bytes h i = rw get_or-drop (h (n + i))
-
-IsBytes-take : (n : ℕ) (bytes : List ℕ) → IsBytes bytes → IsBytes (take n bytes)
-IsBytes-take n bytes h i =
-    elim (cases_lt i n) [
-      | inl lt ↦ rw (get_or-take n bytes i 0 lt) (h i)
-      | inr le ↦ rw (get_or_past (take n bytes) i 0 (omega (arith, length-take n bytes))) (omega arith)
-    ]
-
--- what a reader took from the front of the unread bytes
-pub record Takes (input : Unread) (text : List ℕ) (rest : Unread) : Type 0 where
-  pub parts : IsBytes input.left → input.left ≡ text ++ rest.left
-  pub whole : rest.whole ≡ input.whole
-  pub bytes : IsBytes input.left → IsBytes rest.left
-
-pub Takes-then : {a b d : Unread} {x y : List ℕ} → Takes a x b → Takes b y d → Takes a (x ++ y) d
-Takes-then {d = d} {x = x} {y = y} p q =
-    record {
-      parts = λ h. p.parts h ∙ (ap (λ t. x ++ t) (q.parts (p.bytes h)) ∙ sym (append_assoc x y d.left));
-      whole = q.whole ∙ p.whole;
-      bytes = λ h. q.bytes (p.bytes h);
-    }
-
--- the unread bytes, once those in front are read
-abbrev pub at : ℕ → List ℕ → Unread
-at whole left = record { whole = whole; left = left }
-
--- ---- steps
-
--- a reading that gave a value took its first step
-pub step : {X Y P : Type 0} (r : Read X) {f : X → Reader Y} {y : Y × Unread} → go_on r f ≡ Ok y → ((x : X) (rest : Unread) → r ≡ Ok (x, rest) → f x rest ≡ Ok y → P) → P
-step (Ok x) h next = next x.0 x.1 refl h
-step (Err fault) h next = cc
-
--- a test that a reading passed
-pub passes : {X : Type 0} (test : Bool) (r : Reader X) (fault : TableFault) (input : Unread) (y : X × Unread) → (cond test r (refuse fault)) input ≡ Ok y → (test ≡ true) × (r input ≡ Ok y)
-passes true r fault input y h = (refl, h)
-passes false r fault input y h = cc
-
-pub avoids : {X : Type 0} (test : Bool) (r : Reader X) (fault : TableFault) (input : Unread) (y : X × Unread) → (cond test (refuse fault) r) input ≡ Ok y → (test ≡ false) × (r input ≡ Ok y)
-avoids true r fault input y h = cc
-avoids false r fault input y h = (refl, h)
-
--- the value and the rest that are read
-pub value_same : {X : Type 0} {a b : X × Unread} → done a.0 a.1 ≡ Ok b → a ≡ b
-value_same h = cc
+use Rattle.table_codec.specs.declared.layout.Layout.{Layout}
+use Rattle.table_codec.specs.declared.layout.NumberWidth.{NumberWidth}
+use Rattle.table_codec.specs.declared.layout.NumberWidth.TheVariants.{Two, Four}
+use Rattle.table_codec.specs.declared.layout.SpareWidth.{SpareWidth}
+use Rattle.table_codec.specs.declared.layout.SpareWidth.TheVariants.{Four as FourSpare, Eight}
+use Rattle.table_codec.specs.Readers.{Unread, settled, bytes_at}
+use Rattle.table_codec.specs.Forms.{tested, byte_form, number_form, signed_form, up_to, one_up_to, same_count, bad_name, text_form, name_form}
+use Rattle.table_codec.specs.Grammar.{number_width, spare_width, slots_form, range_form, index_form, spare_form}
+use Rattle.table_codec.specs.Sizes.{room, Fits}
+use Rattle.table_codec.proofs.FormLaws.{IsBytes, Takes, Takes-then, step, settles, value_same, ReadsWhole, ReadsBack, tested_whole, tested_back, bytes_takes, bytes_whole, bytes_back}
 
 -- ---- numbers
-
-enough : {X : Type 0} (b : Bool) (fault : TableFault) (x y : X × Unread) → cond b (Err fault) (Ok x) ≡ Ok y → (b ≡ false) × (x ≡ y)
-enough true fault x y h = cc
-enough false fault x y h = (refl, cc)
-
--- so many bytes
-pub bytes_takes : (n : ℕ) (input : Unread) (text : List ℕ) (rest : Unread) → bytes_at n input ≡ Ok (text, rest) → Takes input text rest × (length text ≡ n) × (IsBytes input.left → IsBytes text)
-bytes_takes n input text rest h =
-    let g = enough (nat_lt (length input.left) n) (Short input.whole) (take n input.left, record input { left = drop n input.left }) (text, rest) h in
-    let long : n ≤ length input.left = ltb-false (length input.left) n g.0 in
-    let front : take n input.left ≡ text = ap (λ (p : List ℕ × Unread). p.0) g.1 in
-    let after : record input { left = drop n input.left } ≡ rest = ap (λ (p : List ℕ × Unread). p.1) g.1 in
-    rw (← front, ← after) (
-      record { parts = λ _. sym (take-append-drop n input.left); whole = refl; bytes = IsBytes-drop n input.left },
-      omega (arith, length-take n input.left),
-      IsBytes-take n input.left,
-    )
-
-pub bytes_again : (whole n : ℕ) (text tail : List ℕ) → length text ≡ n → bytes_at n (at whole (text ++ tail)) ≡ Ok (text, at whole tail)
-bytes_again whole n text tail len =
-    let long : nat_lt (length (text ++ tail)) n ≡ false = le-ltb _ _ (omega (arith, length-append text tail)) in
-    rw (long, take_at text tail n len, drop_at text tail n len) refl
 
 -- a width of whole bytes, of which each number below the limit is spelled in one way
 pub record IsWide (w : Width) (limit : ℕ) : Type 0 where
@@ -118,100 +49,176 @@ wide32 = record {
   below = λ bytes small. omega (arith, small 0, small 1, small 2, small 3);
 }
 
-pub number_takes : (w : Width) (limit : ℕ) → IsWide w limit → (input : Unread) (n : ℕ) (rest : Unread) → number_at w input ≡ Ok (n, rest) → Takes input (to_le_bytes w n) rest
-number_takes w limit wide input n rest h =
-    step (bytes_at (byte_len w) input) h (λ text after taken h.
-    let t = bytes_takes (byte_len w) input text after taken in
-    let same : (from_le_bytes w text, after) ≡ (n, rest) = value_same h in
-    let spelled : IsBytes input.left → to_le_bytes w (from_le_bytes w text) ≡ text = λ bytes. wide.back text t.1 (t.2 bytes) in
+wide64 : IsWide w64 (2 ^ 64)
+wide64 = record {
+  len = λ n. refl;
+  back = λ bytes len small. le_bytes_8 bytes (from_le_bytes w64 bytes) len small refl;
+  again = λ n lt. from_le_bytes-to_le_bytes_8 n lt;
+  below = λ bytes small. omega (arith, small 0, small 1, small 2, small 3, small 4, small 5, small 6, small 7);
+}
+
+-- the field of a length or time is one
+wide_number : (w : NumberWidth) → IsWide (number_width w) (room w)
+wide_number Two = wide16
+wide_number Four = wide32
+
+-- it has room for the numbers of two bytes
+pub room-least : (layout : Layout) (n : ℕ) → n < 2 ^ 16 → Fits layout n
+room-least layout n lt = by_width layout.number
+  where
+    by_width : (w : NumberWidth) → n < room w
+    by_width Two = lt
+    by_width Four = omega (arith, lt)
+
+number_parts : (w : Width) (limit : ℕ) → IsWide w limit → (input : Unread) (n : ℕ) (rest : Unread) → (number_form w).read input ≡ Ok (n, rest) → Takes input (to_le_bytes w n) rest × (IsBytes input.left → n < limit)
+number_parts w limit wide input n rest h =
+    step (bytes_at (byte_len w) input) {f = λ text. settled (Ok (from_le_bytes w text))} h (λ text after taken h.
+    let (is, same) = settles (Ok (from_le_bytes w text)) after n rest h in
+    let value : from_le_bytes w text ≡ n = value_same (from_le_bytes w text) n is in
+    let (t, len, small) = bytes_takes (byte_len w) input text after taken in
     let takes : Takes input (to_le_bytes w (from_le_bytes w text)) after = record {
-      parts = λ bytes. t.0.parts bytes ∙ ap (λ x. x ++ after.left) (sym (spelled bytes));
-      whole = t.0.whole;
-      bytes = t.0.bytes;
+      parts = λ bytes. t.parts bytes ∙ ap (λ x. x ++ after.left) (sym (wide.back text len (small bytes)));
+      whole = t.whole;
+      bytes = t.bytes;
     } in
-    subst (λ (p : ℕ × Unread). Takes input (to_le_bytes w p.0) p.1) same takes)
+    let below : IsBytes input.left → from_le_bytes w text < limit = λ bytes. wide.below text (small bytes) in
+    let all : Takes input (to_le_bytes w (from_le_bytes w text)) rest = subst (λ i. Takes input (to_le_bytes w (from_le_bytes w text)) i) same takes in
+    subst (λ m. Takes input (to_le_bytes w m) rest × (IsBytes input.left → m < limit)) value (all, below))
 
-pub number_below : (w : Width) (limit : ℕ) → IsWide w limit → (input : Unread) (n : ℕ) (rest : Unread) → IsBytes input.left → number_at w input ≡ Ok (n, rest) → n < limit
-number_below w limit wide input n rest bytes h =
-    step (bytes_at (byte_len w) input) h (λ text after taken h.
-    let t = bytes_takes (byte_len w) input text after taken in
-    let same : from_le_bytes w text ≡ n = ap (λ (p : ℕ × Unread). p.0) (value_same {a = (from_le_bytes w text, after)} {b = (n, rest)} h) in
-    subst (λ m. m < limit) same (wide.below text (t.2 bytes)))
+number_whole : (w : Width) (limit : ℕ) → IsWide w limit → ReadsWhole (number_form w) (λ _. ⊤)
+number_whole w limit wide = record { of_read = λ input n rest h. ((number_parts w limit wide input n rest h).0, tt) }
 
-pub number_again : (w : Width) (limit : ℕ) → IsWide w limit → (whole n : ℕ) (tail : List ℕ) → n < limit → number_at w (at whole (to_le_bytes w n ++ tail)) ≡ Ok (n, at whole tail)
-number_again w limit wide whole n tail lt =
-    rw (bytes_again whole (byte_len w) (to_le_bytes w n) tail (wide.len n), wide.again n lt) refl
+number_back : (w : Width) (limit : ℕ) → IsWide w limit → (n : ℕ) → n < limit → ReadsBack (number_form w) n
+number_back w limit wide n lt = record {
+  again = λ whole tail.
+      rw ((bytes_back (byte_len w) (to_le_bytes w n) (wide.len n)).again whole tail, wide.again n lt) refl;
+}
 
--- a number of the set
-pub within_takes : (part : Part) (field : Field) (low high : ℕ) (input : Unread) (n : ℕ) (rest : Unread) → within_at w16 part field low high input ≡ Ok (n, rest) → Takes input (to_le_bytes w16 n) rest × (is_between low high n ≡ true)
-within_takes part field low high input n rest h =
-    step (number_at w16 input) h (λ m after read h.
-    let (inside, h) = passes (is_between low high m) (done m) (BadSource (OutOfRange (record { part = part; field = field }) (pos m))) after (n, rest) h in
-    let same : (m, after) ≡ (n, rest) = value_same h in
-    subst (λ (p : ℕ × Unread). Takes input (to_le_bytes w16 p.0) p.1 × (is_between low high p.0 ≡ true)) same (number_takes w16 (2 ^ 16) wide16 input m after read, inside))
+-- an index, and a length or a time
+pub index_whole : ReadsWhole index_form (λ _. ⊤)
+index_whole = number_whole w16 (2 ^ 16) wide16
 
-pub within_again : (part : Part) (field : Field) (low high whole n : ℕ) (tail : List ℕ) → high < 2 ^ 16 → is_between low high n ≡ true → within_at w16 part field low high (at whole (to_le_bytes w16 n ++ tail)) ≡ Ok (n, at whole tail)
-within_again part field low high whole n tail small inside =
-    let fits : n < 2 ^ 16 = omega (arith, bounds low high n inside) in
-    rw (number_again w16 (2 ^ 16) wide16 whole n tail fits, inside) refl
+pub index_back : (n : ℕ) → n < 2 ^ 16 → ReadsBack index_form n
+index_back = number_back w16 (2 ^ 16) wide16
 
--- a count
-pub count_takes : (part : Part) (field : Field) (limit : ℕ) (input : Unread) (n : ℕ) (rest : Unread) → count_at part field limit input ≡ Ok (n, rest) → Takes input (spelled_count n) rest × (n ≤ limit)
-count_takes part field limit input n rest h =
-    step (number_at w16 input) h (λ m after read h.
-    let (few, h) = avoids (nat_lt limit m) (done m) (BadSource (TooMany (record { part = part; field = field }) m)) after (n, rest) h in
-    let same : (m, after) ≡ (n, rest) = value_same h in
-    subst (λ (p : ℕ × Unread). Takes input (spelled_count p.0) p.1 × (p.0 ≤ limit)) same (number_takes w16 (2 ^ 16) wide16 input m after read, ltb-false _ _ few))
+pub slots_whole : (layout : Layout) → ReadsWhole (slots_form layout) (λ _. ⊤)
+slots_whole layout = number_whole (number_width layout.number) (room layout.number) (wide_number layout.number)
 
-pub count_again : (part : Part) (field : Field) (limit whole n : ℕ) (tail : List ℕ) → limit < 2 ^ 16 → n ≤ limit → count_at part field limit (at whole (spelled_count n ++ tail)) ≡ Ok (n, at whole tail)
-count_again part field limit whole n tail small few =
-    let low : nat_lt limit n ≡ false = le-ltb _ _ few in
-    rw (number_again w16 (2 ^ 16) wide16 whole n tail (omega arith), low) refl
+pub slots_back : (layout : Layout) (n : ℕ) → Fits layout n → ReadsBack (slots_form layout) n
+slots_back layout = number_back (number_width layout.number) (room layout.number) (wide_number layout.number)
 
-pub some_takes : (part : Part) (field : Field) (limit : ℕ) (input : Unread) (n : ℕ) (rest : Unread) → some_at part field limit input ≡ Ok (n, rest) → Takes input (spelled_count n) rest × (is_between 1 limit n ≡ true)
-some_takes part field limit input n rest h =
-    step (count_at part field limit input) h (λ m after read h.
-    let (some, h) = avoids (m == 0) (done m) (BadSource (Missing (record { part = part; field = field }))) after (n, rest) h in
-    let same : (m, after) ≡ (n, rest) = value_same h in
-    let (takes, few) = count_takes part field limit input m after read in
-    let inside : is_between 1 limit m ≡ true = grind (arith, nat_tests, some, few) in
-    subst (λ (p : ℕ × Unread). Takes input (spelled_count p.0) p.1 × (is_between 1 limit p.0 ≡ true)) same (takes, inside))
+-- of the set
+pub range_whole : (layout : Layout) (place : Part) (field : Field) (low high : ℕ) → ReadsWhole (range_form layout place field low high) (λ n. (is_between low high n ≡ true) × ⊤)
+range_whole layout place field low high = tested_whole _ _ (slots_whole layout)
 
-pub some_again : (part : Part) (field : Field) (limit whole n : ℕ) (tail : List ℕ) → limit < 2 ^ 16 → is_between 1 limit n ≡ true → some_at part field limit (at whole (spelled_count n ++ tail)) ≡ Ok (n, at whole tail)
-some_again part field limit whole n tail small inside =
-    let (least, most) = bounds 1 limit n inside in
-    let some : (n == 0) ≡ false = grind (arith, nat_tests) in
-    rw (count_again part field limit whole n tail small most, some) refl
+pub range_back : (layout : Layout) (place : Part) (field : Field) (low high n : ℕ) → high < 2 ^ 16 → is_between low high n ≡ true → ReadsBack (range_form layout place field low high) n
+range_back layout place field low high n small inside =
+    tested_back _ _ (slots_back layout n (room-least layout n (omega (arith, bounds low high n inside)))) inside
+
+-- counts
+pub up_to_whole : (place : Part) (field : Field) (limit : ℕ) → ReadsWhole (up_to place field limit) (λ n. (nat_le n limit ≡ true) × ⊤)
+up_to_whole place field limit = tested_whole _ _ index_whole
+
+pub up_to_back : (place : Part) (field : Field) (limit n : ℕ) → limit < 2 ^ 16 → nat_le n limit ≡ true → ReadsBack (up_to place field limit) n
+up_to_back place field limit n small few =
+    tested_back _ _ (index_back n (omega (arith, leb-true n limit few))) few
+
+pub one_up_to_whole : (place : Part) (field : Field) (limit : ℕ) → ReadsWhole (one_up_to place field limit) (λ n. (nat_le 1 n ≡ true) × ((nat_le n limit ≡ true) × ⊤))
+one_up_to_whole place field limit = tested_whole _ _ (up_to_whole place field limit)
+
+pub one_up_to_back : (place : Part) (field : Field) (limit n : ℕ) → limit < 2 ^ 16 → is_between 1 limit n ≡ true → ReadsBack (one_up_to place field limit) n
+one_up_to_back place field limit n small inside =
+    let (least, most) = and_parts (nat_le 1 n) (nat_le n limit) inside in
+    tested_back _ _ (up_to_back place field limit n small most) least
+
+-- of stored things
+pub same_count_whole : (wrong : ℕ → ℕ → TableFault) (computed : ℕ) → ReadsWhole (same_count wrong computed) (λ n. ((n == computed) ≡ true) × ⊤)
+same_count_whole wrong computed = tested_whole _ _ (number_whole w32 (2 ^ 32) wide32)
+
+pub same_count_back : (wrong : ℕ → ℕ → TableFault) (n : ℕ) → n < 2 ^ 32 → ReadsBack (same_count wrong n) n
+same_count_back wrong n lt = tested_back _ _ (number_back w32 (2 ^ 32) wide32 n lt) (itself n)
+  where
+    itself : (m : ℕ) → (m == m) ≡ true
+    itself m = grind (arith, nat_tests)
+
+-- ---- capacities
+
+signed_whole : (w : Width) (limit : ℕ) → IsWide w limit → ((n : ℕ) → n < limit → cast_unsigned w (cast_signed w n) ≡ n) → ReadsWhole (signed_form w) (λ _. ⊤)
+signed_whole w limit wide there = record {
+  of_read = λ input z rest h.
+      step ((number_form w).read input) {f = λ bits. settled (Ok (cast_signed w bits))} h (λ bits after read h.
+      let (is, same) = settles (Ok (cast_signed w bits)) after z rest h in
+      let value : cast_signed w bits ≡ z = value_same (cast_signed w bits) z is in
+      let (t, small) = number_parts w limit wide input bits after read in
+      let takes : Takes input (to_le_bytes w (cast_unsigned w (cast_signed w bits))) after = record {
+        parts = λ bytes. t.parts bytes ∙ ap (λ n. to_le_bytes w n ++ after.left) (sym (there bits (small bytes)));
+        whole = t.whole;
+        bytes = t.bytes;
+      } in
+      let all : Takes input (to_le_bytes w (cast_unsigned w (cast_signed w bits))) rest = subst (λ i. Takes input (to_le_bytes w (cast_unsigned w (cast_signed w bits))) i) same takes in
+      subst (λ y. Takes input (to_le_bytes w (cast_unsigned w y)) rest × ⊤) value (all, tt));
+}
+
+signed_back : (w : Width) (limit : ℕ) → IsWide w limit → (z : ℤ) → cast_unsigned w z < limit → cast_signed w (cast_unsigned w z) ≡ z → ReadsBack (signed_form w) z
+signed_back w limit wide z lt there = record {
+  again = λ whole tail.
+      rw ((number_back w limit wide (cast_unsigned w z) lt).again whole tail, there) refl;
+}
+
+bits-lt_32 : (z : ℤ) → FitsSigned w32 z → cast_unsigned w32 z < 2 ^ 32
+bits-lt_32 z fits = omega (arith, ints)
+
+bits-lt_64 : (z : ℤ) → FitsSigned w64 z → cast_unsigned w64 z < 2 ^ 64
+bits-lt_64 z fits = omega (arith, ints)
+
+pub spare_whole : (layout : Layout) → ReadsWhole (spare_form layout) (λ _. ⊤)
+spare_whole layout = by_width layout.spare
+  where
+    by_width : (w : SpareWidth) → ReadsWhole (signed_form (spare_width w)) (λ _. ⊤)
+    by_width FourSpare = signed_whole w32 (2 ^ 32) wide32 (λ n lt. of_z-to_z w32 n lt)
+    by_width Eight = signed_whole w64 (2 ^ 64) wide64 (λ n lt. of_z-to_z w64 n lt)
+
+pub spare_back : (layout : Layout) (z : ℤ) → FitsSigned (spare_width layout.spare) z → ReadsBack (spare_form layout) z
+spare_back layout z = by_width layout.spare
+  where
+    by_width : (w : SpareWidth) → FitsSigned (spare_width w) z → ReadsBack (signed_form (spare_width w)) z
+    by_width FourSpare fits = signed_back w32 (2 ^ 32) wide32 z (bits-lt_32 z fits) (to_z-of_z w32 z fits)
+    by_width Eight fits = signed_back w64 (2 ^ 64) wide64 z (bits-lt_64 z fits) (to_z-of_z w64 z fits)
 
 -- ---- names
 
-byte_takes : (input : Unread) (n : ℕ) (rest : Unread) → byte_at input ≡ Ok (n, rest) → Takes input (n ∷ []) rest
-byte_takes input n rest h =
-    step (bytes_at 1 input) h (λ text after read h.
-    let same : (slice_index text 0, after) ≡ (n, rest) = value_same h in
-    let (takes, one, _) = bytes_takes 1 input text after read in
-    subst (λ (p : ℕ × Unread). Takes input (p.0 ∷ []) p.1) same (rw (single text one) takes))
+byte_whole : ReadsWhole byte_form (λ _. ⊤)
+byte_whole = record {
+  of_read = λ input n rest h.
+      step (bytes_at 1 input) {f = λ text. settled (Ok (slice_index text 0))} h (λ text after read h.
+      let (is, same) = settles (Ok (slice_index text 0)) after n rest h in
+      let value : slice_index text 0 ≡ n = value_same (slice_index text 0) n is in
+      let (takes, one, _) = bytes_takes 1 input text after read in
+      let first : Takes input (slice_index text 0 ∷ []) after = subst (λ t. Takes input t after) (sym (single text one)) takes in
+      let all : Takes input (slice_index text 0 ∷ []) rest = subst (λ i. Takes input (slice_index text 0 ∷ []) i) same first in
+      subst (λ m. Takes input (m ∷ []) rest × ⊤) value (all, tt));
+}
   where
     single : (text : List ℕ) → length text ≡ 1 → slice_index text 0 ∷ [] ≡ text
     single [] one = absurd (omega arith)
     single (a ∷ []) one = refl
     single (a ∷ b ∷ text) one = absurd (omega arith)
 
-text_takes : (bad : TableFault) (n : ℕ) (input : Unread) (text : List ℕ) (rest : Unread) → text_at bad n input ≡ Ok (text, rest) → Takes input text rest × (length text ≡ n) × (is_name text ≡ true)
-text_takes bad n input text rest h =
-    step (bytes_at n input) h (λ bytes after read h.
-    let (named, h) = passes (is_name bytes) (done bytes) bad after (text, rest) h in
-    let same : (bytes, after) ≡ (text, rest) = value_same h in
-    let (takes, len, _) = bytes_takes n input bytes after read in
-    subst (λ (p : List ℕ × Unread). Takes input p.0 p.1 × (length p.0 ≡ n) × (is_name p.0 ≡ true)) same (takes, len, named))
+byte_back : (n : ℕ) → ReadsBack byte_form n
+byte_back n = record { again = λ whole tail. rw ((bytes_back 1 (n ∷ []) refl).again whole tail) refl }
 
-pub name_takes : (part : Part) (input : Unread) (name : List ℕ) (rest : Unread) → name_at part input ≡ Ok (name, rest) → Takes input (spelled_name name) rest × (is_name name ≡ true)
-name_takes part input name rest h =
-    step (byte_at input) h (λ n after read h.
-    let (inside, h) = passes (is_between 1 NAME_LIMIT n) (text_at (bad_name part) n) (bad_name part) after (name, rest) h in
-    let (takes, len, named) = text_takes (bad_name part) n after name rest h in
-    let both : Takes input (n ∷ name) rest = Takes-then (byte_takes input n after read) takes in
-    (rw len both, named))
+pub name_whole : (place : Part) → ReadsWhole (name_form place) (λ name. is_name name ≡ true)
+name_whole place = record {
+  of_read = λ input name rest h.
+      let size = tested byte_form (is_between 1 NAME_LIMIT) (λ _. bad_name place) in
+      step (size.read input) {f = λ n. (text_form place n).read} h (λ n after here h.
+      let first : ReadsWhole size (λ m. (is_between 1 NAME_LIMIT m ≡ true) × ⊤) = tested_whole _ _ byte_whole in
+      let second : ReadsWhole (text_form place n) (λ text. (is_name text ≡ true) × (length text ≡ n)) = tested_whole _ _ (bytes_whole n) in
+      let (front, _) = first.of_read input n after here in
+      let (back, made) = second.of_read after name rest h in
+      let both : Takes input ((n ∷ []) ++ name) rest = Takes-then front back in
+      (subst (λ m. Takes input ((m ∷ []) ++ name) rest) (sym made.1) both, made.0));
+}
 
 length-name : (name : List ℕ) → is_name name ≡ true → is_between 1 NAME_LIMIT (length name) ≡ true
 length-name [] named = cc
@@ -219,6 +226,13 @@ length-name (first ∷ rest) named =
     let short : length rest < NAME_LIMIT = ltb-true (length rest) NAME_LIMIT (and_parts _ _ (and_parts _ _ named).0).1 in
     grind (arith, nat_tests, short)
 
-pub name_again : (part : Part) (whole : ℕ) (name tail : List ℕ) → is_name name ≡ true → name_at part (at whole (spelled_name name ++ tail)) ≡ Ok (name, at whole tail)
-name_again part whole name tail named =
-    rw (bytes_again whole 1 (length name ∷ []) (name ++ tail) refl, length-name name named, bytes_again whole (length name) name tail refl, named) refl
+pub name_back : (place : Part) (name : List ℕ) → is_name name ≡ true → ReadsBack (name_form place) name
+name_back place name named = record {
+  again = λ whole tail.
+      rw (
+        (byte_back (length name)).again whole (name ++ tail),
+        length-name name named,
+        (bytes_back (length name) name refl).again whole tail,
+        named,
+      ) refl;
+}

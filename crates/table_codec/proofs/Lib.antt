@@ -1,7 +1,10 @@
 pub mod EachSteps
 pub mod FieldLaws
+pub mod FormLaws
+pub mod Lengths
 pub mod PlanSizes
 pub mod Planned
+pub mod Refusals
 pub mod SameSteps
 pub mod SetLaws
 pub mod SourceFaults

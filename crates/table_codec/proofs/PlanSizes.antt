@@ -1,6 +1,6 @@
--- The numbers of a plan are small.
+-- The numbers of a plan have room in the fields of any layout.
 use Rattle.std.proofs.lemmas.List.Sums.{sum_by-cons}
-use Rattle.std.proofs.Common.{◌≡◌, refl, ℕ, suc, ◌^◌, ◌<◌, ◌≤◌, List, [], ◌∷◌, length, ap, sym, ◌∙◌, subst, arith}
+use Rattle.std.proofs.Common.{◌≡◌, refl, ℕ, ℤ, pos, neg_ℤ, ◌≤ℤ◌, ◌<ℤ◌, suc, ◌^◌, ◌<◌, ◌≤◌, FitsSigned, List, [], ◌∷◌, length, ap, sym, ◌∙◌, subst, arith, rules}
 use Rattle.std.specs.Prelude.{All, Contains, sum_by}
 use Rattle.std.specs.List.{AllByRecursion}
 use Rattle.std.proofs.lemmas.Int.{ints}
@@ -28,7 +28,12 @@ use Rattle.interval_build.proofs.Least.{IsLeast-least}
 use Rattle.interval_build.proofs.PlanSpans.{first_points, first_points-rise, last_of_first_points, plan_spans-first}
 use Rattle.cycle_plan.specs.NearJobs.{instance_of}
 use Rattle.cycle_plan.proofs.NearJobFacts.{IsNear-from_first}
-use Rattle.table_codec.specs.Sizes.{IsSmallKey, IsSmallJob, IsSmallSpan}
+use Rattle.table_codec.specs.declared.layout.Layout.{Layout}
+use Rattle.table_codec.specs.declared.layout.SpareWidth.{SpareWidth}
+use Rattle.table_codec.specs.declared.layout.SpareWidth.TheVariants.{Four as FourSpare, Eight}
+use Rattle.table_codec.specs.Grammar.{spare_width}
+use Rattle.table_codec.specs.Sizes.{FitsKey, FitsJob, FitsSpan}
+use Rattle.table_codec.proofs.FieldLaws.{room-least}
 use Rattle.table_codec.proofs.StoredLaws.{IsStoredJob}
 
 -- the jobs that have slots left are no more than those slots
@@ -54,9 +59,9 @@ few_jobs plan is_plan =
     let some = AllByRecursion-from_Has (λ (j : Job). 1 ≤ j.left) plan.jobs (λ job listed. left-some plan.tasks plan.jobs job these listed) in
     omega (arith, length-le-left plan.jobs some, first_small plan.tasks plan.jobs these)
 
--- a job of the first cycle is small
-IsSmallJob-from_first : (set : TaskSet) (jobs : List Job) (job : Job) → AreFirstJobs set jobs → Has jobs job → IsSmallJob job
-IsSmallJob-from_first set jobs job these listed =
+-- the numbers of a job of the first cycle have room
+FitsJob-from_first : (layout : Layout) (set : TaskSet) (jobs : List Job) (job : Job) → AreFirstJobs set jobs → Has jobs job → FitsJob layout job
+FitsJob-from_first layout set jobs job these listed =
     let at = in_first set jobs job these listed in
     let fits = FitsInCycle-from_first set job these.sound these.feasible at in
     let near = IsNear-from_first set jobs job these listed in
@@ -70,47 +75,55 @@ IsSmallJob-from_first set jobs job these listed =
     let k : o.k < 2 ^ 16 = omega (arith, instance, near.2) in
     let most = cycle-at_most set these.sound in
     record {
-      key = subst (λ (j : Job). IsSmallKey j.key) (sym o.instance_of.derived) (g, t, k);
-      est = omega (arith, near.0);
-      dl = omega (arith, near.1);
-      declared = omega (arith, fits.room, fits.within, most);
+      key = subst (λ (j : Job). FitsKey layout j.key) (sym o.instance_of.derived) (g, t, room-least layout o.k k);
+      est = room-least layout job.est (omega (arith, near.0));
+      dl = room-least layout job.dl (omega (arith, near.1));
+      declared = room-least layout job.declared (omega (arith, fits.room, fits.within, most));
     }
 
--- so each job of a plan is
-pub all_small_jobs : (plan : PlanParts) → IsPlan plan → All IsSmallJob plan.jobs
-all_small_jobs plan is_plan =
-    All-from_recursion IsSmallJob plan.jobs (AllByRecursion-from_Has IsSmallJob plan.jobs (λ job listed. IsSmallJob-from_first plan.tasks plan.jobs job (AreFirstJobs-from_plan plan is_plan) listed))
+-- so do those of each job of a plan
+pub all_fitting_jobs : (layout : Layout) (plan : PlanParts) → IsPlan plan → All (FitsJob layout) plan.jobs
+all_fitting_jobs layout plan is_plan =
+    All-from_recursion (FitsJob layout) plan.jobs (AllByRecursion-from_Has (FitsJob layout) plan.jobs (λ job listed. FitsJob-from_first layout plan.tasks plan.jobs job (AreFirstJobs-from_plan plan is_plan) listed))
 
 -- it is stored as it is, with all its slots left
-pub all_stored_jobs : (plan : PlanParts) → IsPlan plan → AllByRecursion IsStoredJob plan.jobs
-all_stored_jobs plan is_plan =
+pub all_stored_jobs : (layout : Layout) (plan : PlanParts) → IsPlan plan → AllByRecursion (IsStoredJob layout) plan.jobs
+all_stored_jobs layout plan is_plan =
     let set = plan.tasks in
     let these = AreFirstJobs-from_plan plan is_plan in
-    AllByRecursion-from_Has IsStoredJob plan.jobs (λ job listed. record {
-      small = IsSmallJob-from_first set plan.jobs job these listed;
+    AllByRecursion-from_Has (IsStoredJob layout) plan.jobs (λ job listed. record {
+      fits = FitsJob-from_first layout set plan.jobs job these listed;
       fresh = (FitsInCycle-from_first set job these.sound these.feasible (in_first set plan.jobs job these listed)).whole;
     })
 
--- a span of a short cycle with little work is small: its capacity is the slack up to some time
-IsSmallSpan-at : (jobs : List Job) (last s e : ℕ) → s ≤ e → e ≤ last → last ≤ SLOT_LIMIT → sum_by (λ (j : Job). j.left) jobs ≤ SLOT_LIMIT → IsSmallSpan (span_at jobs last s e)
-IsSmallSpan-at jobs last s e rise within most small =
+-- a small capacity has room
+fits-from_bounds : (w : SpareWidth) (z : ℤ) → neg_ℤ (pos (2 ^ 31)) ≤ℤ z → z <ℤ pos (2 ^ 31) → FitsSigned (spare_width w) z
+fits-from_bounds FourSpare z low high = search rules
+fits-from_bounds Eight z low high =
+    let lower : neg_ℤ (pos (2 ^ 63)) ≤ℤ z = omega (arith, ints, low) in
+    let higher : z <ℤ pos (2 ^ 63) = omega (arith, ints, high) in
+    search rules
+
+-- the numbers of a span of a short cycle with little work have room: its capacity is the slack up
+-- to some time
+FitsSpan-at : (layout : Layout) (jobs : List Job) (last s e : ℕ) → s ≤ e → e ≤ last → last ≤ SLOT_LIMIT → sum_by (λ (j : Job). j.left) jobs ≤ SLOT_LIMIT → FitsSpan layout (span_at jobs last s e)
+FitsSpan-at layout jobs last s e rise within most small =
     let least = IsLeast-least (slack jobs s) e last within in
     let x = least.reached.0 in
     record {
-      start = omega arith;
-      end = omega arith;
-      work = omega (arith, work_between-le jobs s e);
-      low = omega (arith, ints, least.reached.3, work_between-le jobs s x);
-      high = omega (arith, ints, least.bound e (omega arith) within);
+      start = room-least layout s (omega arith);
+      end = room-least layout e (omega arith);
+      work = room-least layout (span_at jobs last s e).work (omega (arith, work_between-le jobs s e));
+      spare = fits-from_bounds layout.spare (span_at jobs last s e).spare (omega (arith, ints, least.reached.3, work_between-le jobs s x)) (omega (arith, ints, least.bound e (omega arith) within));
     }
 
--- so are the spans between rising points
-small_spans : (jobs : List Job) (last s : ℕ) (points : List ℕ) → AreRising s points → last_point s points ≤ last → last ≤ SLOT_LIMIT → sum_by (λ (j : Job). j.left) jobs ≤ SLOT_LIMIT → AllByRecursion IsSmallSpan (spans_between jobs last s points)
-small_spans jobs last s [] rising within most small = tt
-small_spans jobs last s (e ∷ points) rising within most small =
+-- so have those of the spans between rising points
+fitting_spans : (layout : Layout) (jobs : List Job) (last s : ℕ) (points : List ℕ) → AreRising s points → last_point s points ≤ last → last ≤ SLOT_LIMIT → sum_by (λ (j : Job). j.left) jobs ≤ SLOT_LIMIT → AllByRecursion (FitsSpan layout) (spans_between jobs last s points)
+fitting_spans layout jobs last s [] rising within most small = tt
+fitting_spans layout jobs last s (e ∷ points) rising within most small =
     let end : e ≤ last = omega (arith, last_point-above e points rising.1) in (
-      IsSmallSpan-at jobs last s e (omega (arith, rising.0)) end most small,
-      small_spans jobs last e points rising.1 within most small,
+      FitsSpan-at layout jobs last s e (omega (arith, rising.0)) end most small,
+      fitting_spans layout jobs last e points rising.1 within most small,
     )
 
 length-spans_between : (jobs : List Job) (last s : ℕ) (points : List ℕ) → length (spans_between jobs last s points) ≡ length points
@@ -122,16 +135,16 @@ plan_spans-are : (plan : PlanParts) → IsPlan plan → plan.spans ≡ spans_bet
 plan_spans-are plan is_plan =
     is_plan.spans ∙ ap (plan_spans plan.tasks) is_plan.cycle ∙ sym (plan_spans-first plan.tasks plan.jobs (AreFirstJobs-from_plan plan is_plan))
 
--- a plan has few spans, each of them small
+-- a plan has few spans, and their numbers have room
 pub few_spans : (plan : PlanParts) → IsPlan plan → length plan.spans ≤ SLOT_LIMIT
 few_spans plan is_plan =
     let points = first_points plan.tasks plan.jobs in
     omega (arith, ap (λ (ss : List Span). length ss) (plan_spans-are plan is_plan), length-spans_between plan.jobs (cycle_of plan.tasks) 0 points, few_points plan.tasks plan.jobs (AreFirstJobs-from_plan plan is_plan))
 
-pub all_small_spans : (plan : PlanParts) → IsPlan plan → All IsSmallSpan plan.spans
-all_small_spans plan is_plan =
+pub all_fitting_spans : (layout : Layout) (plan : PlanParts) → IsPlan plan → All (FitsSpan layout) plan.spans
+all_fitting_spans layout plan is_plan =
     let set = plan.tasks in
     let these = AreFirstJobs-from_plan plan is_plan in
     let points = first_points set plan.jobs in
-    let each = small_spans plan.jobs (cycle_of set) 0 points (first_points-rise set plan.jobs) (omega (arith, last_of_first_points set plan.jobs these)) (cycle-at_most set these.sound) (first_small set plan.jobs these) in
-    subst (All IsSmallSpan) (sym (plan_spans-are plan is_plan)) (All-from_recursion IsSmallSpan (spans_between plan.jobs (cycle_of set) 0 points) each)
+    let each = fitting_spans layout plan.jobs (cycle_of set) 0 points (first_points-rise set plan.jobs) (omega (arith, last_of_first_points set plan.jobs these)) (cycle-at_most set these.sound) (first_small set plan.jobs these) in
+    subst (All (FitsSpan layout)) (sym (plan_spans-are plan is_plan)) (All-from_recursion (FitsSpan layout) (spans_between plan.jobs (cycle_of set) 0 points) each)

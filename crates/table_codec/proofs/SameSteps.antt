@@ -6,8 +6,7 @@ use Rattle.std.proofs.lemmas.Option.{get_or_from_slice_get}
 use Rattle.slot_facts.proofs.Sets.Tasks.{slice_get-within}
 use Rattle.table_codec.specs.declared.faults.TableFault.{TableFault}
 use Rattle.table_codec.specs.declared.faults.TableFault.TheVariants.{Memory}
-use Rattle.table_codec.specs.Readers.{Unread, Read, Reader}
-use Rattle.table_codec.specs.Reading.{same_at}
+use Rattle.table_codec.specs.Readers.{Unread, Read, Reader, same_at}
 
 -- the things from place i on: the first, and the others
 one_more : {X : Type 0} (read : Reader X) (is_same : X → X → Bool) (wrong : ℕ → X → X → TableFault) (xs : List X) (i : ℕ) (x : X) (input : Unread) → i < length xs → x ≡ get_or xs i x → same_at read is_same wrong i (drop i xs) input ≡ same_at read is_same wrong i (x ∷ drop (i + 1) xs) input

@@ -1,11 +1,10 @@
--- Task sets: what is read was spelled so and is in range, and what is in range is read as it was
--- spelled.
-use Rattle.std.proofs.Common.{◌≡◌, ℕ, zero, suc, ◌+◌, ◌-◌, ◌^◌, ◌<◌, Bool, true, List, [], ◌∷◌, ◌++◌, length, Ok, refl, sym, ap, subst, ◌∙◌, append_assoc, arith}
-use Rattle.std.specs.Prelude.{flat_map, nat_le}
-use Rattle.std.specs.Int.{w16, to_le_bytes}
+-- Task sets: what is read was written so and is in range, and what is in range is read as it was
+-- written.
+use Rattle.std.proofs.Common.{◌≡◌, ℕ, ◌-◌, ◌^◌, ◌<◌, Bool, true, List, [], ◌∷◌, ◌++◌, length, refl, sym, ap, subst, ◌∙◌, append_assoc, arith}
+use Rattle.std.specs.Prelude.{flat_map}
+use Rattle.std.specs.Prelude.{nat_le}
 use Rattle.std.specs.List.{list_all, AllByRecursion}
-use Rattle.std.proofs.lemmas.Bool.{and_from, and_parts, le-leb, leb-true}
-use Rattle.std.proofs.lemmas.List.Concat.{flat_map-cons}
+use Rattle.std.proofs.lemmas.Bool.{and_from, and_parts}
 use Rattle.slot_core.specs.declared.TheConstants.{GRAPH_LIMIT, TASK_LIMIT, AFTER_LIMIT, SPORADIC_LIMIT, SLOT_LIMIT, SOFT_LIMIT}
 use Rattle.slot_core.specs.declared.tasks.Task.{Task}
 use Rattle.slot_core.specs.declared.tasks.Graph.{Graph}
@@ -14,99 +13,107 @@ use Rattle.slot_core.specs.declared.tasks.TaskSet.{TaskSet}
 use Rattle.slot_core.specs.declared.faults.Part.TheVariants.{Top, Graph as GraphPart, Task as TaskPart, Sporadic as SporadicPart}
 use Rattle.slot_core.specs.declared.faults.Field.TheVariants.{Soft, Graph as GraphKey, Sporadic as SporadicKey, Period, Offset, Deadline, Task as TaskKey, Wcet, After, Separation}
 use Rattle.slot_core.specs.Ranges.{is_between, task_in_range, graph_in_range, sporadic_in_range, is_in_range}
-use Rattle.slot_core.specs.Spelling.{layout_1, spelled_count, spelled_name, spelled_task, spelled_graph, spelled_sporadic}
 use Rattle.slot_facts.proofs.Sets.Ranges.{bounds}
-use Rattle.table_codec.specs.Readers.{Unread, Reader, number_at, within_at, count_at, some_at, name_at, each_at}
-use Rattle.table_codec.specs.Reading.{task_at, graph_at, sporadic_at, set_at}
-use Rattle.table_codec.proofs.FieldLaws.{Takes, Takes-then, at, step, value_same, wide16, number_takes, number_again, within_takes, within_again, count_takes, count_again, some_takes, some_again, name_takes, name_again}
+use Rattle.table_codec.specs.declared.layout.Layout.{Layout}
+use Rattle.table_codec.specs.Forms.{each, up_to, one_up_to, name_form}
+use Rattle.table_codec.specs.Grammar.{index_form, slots_form, range_form, task_form, graph_form, sporadic_form, set_form}
+use Rattle.table_codec.specs.Readers.{Unread}
+use Rattle.table_codec.proofs.FormLaws.{Takes, Takes-then, takes_nothing, at, step, ok_same, ReadsWhole, ReadsBack, each_whole, each_back}
+use Rattle.table_codec.proofs.FieldLaws.{index_whole, index_back, range_whole, range_back, up_to_whole, up_to_back, one_up_to_whole, one_up_to_back, name_whole, name_back}
 
--- ---- things in a row
-
-pub takes_nothing : (input : Unread) → Takes input [] input
-takes_nothing input = record { parts = λ _. refl; whole = refl; bytes = λ h. h }
-
-pub each_takes : {X : Type 0} (f : ℕ → Reader X) (spelled : X → List ℕ) (p : X → Bool) → ((i : ℕ) (input : Unread) (x : X) (rest : Unread) → f i input ≡ Ok (x, rest) → Takes input (spelled x) rest × (p x ≡ true)) → (i n : ℕ) (input : Unread) (xs : List X) (rest : Unread) → each_at f i n input ≡ Ok (xs, rest) → Takes input (flat_map spelled xs) rest × (length xs ≡ n) × (list_all p xs ≡ true)
-each_takes f spelled p one i zero input xs rest h =
-    let same = value_same {a = ([], input)} {b = (xs, rest)} h in
-    subst (λ (y : List _ × Unread). Takes input (flat_map spelled y.0) y.1 × (length y.0 ≡ 0) × (list_all p y.0 ≡ true)) same (takes_nothing input, refl, refl)
-each_takes f spelled p one i (suc n) input xs rest h =
-    step (f i input) h (λ x after here h.
-    step (each_at f (i + 1) n after) h (λ others last later h.
-    let same = value_same {a = (x ∷ others, last)} {b = (xs, rest)} h in
-    let (first, passes) = one i input x after here in
-    let (rests, len, all) = each_takes f spelled p one (i + 1) n after others last later in
-    let both : Takes input (spelled x ++ flat_map spelled others) last = Takes-then first rests in
-    let whole : Takes input (flat_map spelled (x ∷ others)) last = subst (λ text. Takes input text last) (sym (flat_map-cons spelled x others)) both in
-    subst (λ (y : List _ × Unread). Takes input (flat_map spelled y.0) y.1 × (length y.0 ≡ suc n) × (list_all p y.0 ≡ true)) same (whole, ap suc len, and_from (p x) (list_all p others) passes all)))
-
-pub each_again : {X : Type 0} (f : ℕ → Reader X) (spelled : X → List ℕ) (P : X → Type 0) → ((i whole : ℕ) (x : X) (tail : List ℕ) → P x → f i (at whole (spelled x ++ tail)) ≡ Ok (x, at whole tail)) → (i whole : ℕ) (xs : List X) (tail : List ℕ) → AllByRecursion P xs → each_at f i (length xs) (at whole (flat_map spelled xs ++ tail)) ≡ Ok (xs, at whole tail)
-each_again f spelled P one i whole [] tail all = refl
-each_again f spelled P one i whole (x ∷ xs) tail all =
-    let text : flat_map spelled (x ∷ xs) ++ tail ≡ spelled x ++ (flat_map spelled xs ++ tail) = ap (λ t. t ++ tail) (flat_map-cons spelled x xs) ∙ append_assoc (spelled x) (flat_map spelled xs) tail in
-    rw (text, one i whole x (flat_map spelled xs ++ tail) all.0, each_again f spelled P one (i + 1) whole xs tail all.1) refl
+-- a list that passes a count's test has that many
+counted : {X : Type 0} (test : ℕ → Bool) (n : ℕ) (xs : List X) → length xs ≡ n → test n ≡ true → test (length xs) ≡ true
+counted test n xs len h = subst (λ m. test m ≡ true) (sym len) h
 
 -- ---- tasks
 
-task_takes : (g t : ℕ) (input : Unread) (task : Task) (rest : Unread) → task_at layout_1 g t input ≡ Ok (task, rest) → Takes input (spelled_task layout_1 task) rest × (task_in_range task ≡ true)
-task_takes g t input task rest h =
-    step (name_at (TaskPart g t) input) h (λ name i1 r1 h.
-    step (within_at w16 (TaskPart g t) Wcet 1 SLOT_LIMIT i1) h (λ wcet i2 r2 h.
-    step (count_at (TaskPart g t) After AFTER_LIMIT i2) h (λ count i3 r3 h.
-    step (each_at (λ _. number_at w16) 0 count i3) h (λ after i4 r4 h.
-    let made : Task = record { name = name; wcet = wcet; after = after } in
-    let same = value_same {a = (made, i4)} {b = (task, rest)} h in
-    let (t1, named) = name_takes (TaskPart g t) input name i1 r1 in
-    let (t2, slots) = within_takes (TaskPart g t) Wcet 1 SLOT_LIMIT i1 wcet i2 r2 in
-    let (t3, few) = count_takes (TaskPart g t) After AFTER_LIMIT i2 count i3 r3 in
-    let (t4, len, _) = each_takes (λ _. number_at w16) spelled_count (λ _. true) (λ i a x b r. (number_takes w16 (2 ^ 16) wide16 a x b r, refl)) 0 count i3 after i4 r4 in
-    let counted : Takes i2 (spelled_count (length after)) i3 = subst (λ n. Takes i2 (spelled_count n) i3) (sym len) t3 in
-    let takes : Takes input (spelled_task layout_1 made) i4 = Takes-then (Takes-then (Takes-then t1 t2) counted) t4 in
-    let short : nat_le (length after) AFTER_LIMIT ≡ true = le-leb _ _ (omega (arith, len, few)) in
-    subst (λ (y : Task × Unread). Takes input (spelled_task layout_1 y.0) y.1 × (task_in_range y.0 ≡ true)) same (takes, and_from _ _ (and_from _ _ named slots) short)))))
+after_whole : (n : ℕ) → ReadsWhole (each (λ _. index_form) n) (λ after. (length after ≡ n) × (list_all (λ _. true) after ≡ true))
+after_whole = each_whole (λ _. index_form) (λ _. true) (λ i x. refl) (λ i. record { of_read = λ input x rest h. ((index_whole.of_read input x rest h).0, refl) })
+
+after_back : (after : List ℕ) → AllByRecursion (λ a. a < 2 ^ 16) after → ReadsBack (each (λ _. index_form) (length after)) after
+after_back after small = each_back (λ _. index_form) (λ i x. refl) (λ i x. refl) after (each_index after small)
+  where
+    each_index : (xs : List ℕ) → AllByRecursion (λ a. a < 2 ^ 16) xs → AllByRecursion (λ x. (j : ℕ) → ReadsBack index_form x) xs
+    each_index [] all = tt
+    each_index (x ∷ xs) all = ((λ j. index_back x all.0), each_index xs all.1)
+
+pub task_whole : (layout : Layout) (g t : ℕ) → ReadsWhole (task_form layout g t) (λ task. task_in_range task ≡ true)
+task_whole layout g t = record {
+  of_read = λ input task rest h.
+      step ((name_form (TaskPart g t)).read input) h (λ name i1 r1 h.
+      step ((range_form layout (TaskPart g t) Wcet 1 SLOT_LIMIT).read i1) h (λ wcet i2 r2 h.
+      step ((up_to (TaskPart g t) After AFTER_LIMIT).read i2) h (λ count i3 r3 h.
+      step ((each (λ _. index_form) count).read i3) h (λ after i4 r4 h.
+      let made : Task = record { name = name; wcet = wcet; after = after } in
+      let same = ok_same (made, i4) (task, rest) h in
+      let (t1, named) = (name_whole (TaskPart g t)).of_read input name i1 r1 in
+      let (t2, slots) = (range_whole layout (TaskPart g t) Wcet 1 SLOT_LIMIT).of_read i1 wcet i2 r2 in
+      let (t3, few) = (up_to_whole (TaskPart g t) After AFTER_LIMIT).of_read i2 count i3 r3 in
+      let (t4, listed) = (after_whole count).of_read i3 after i4 r4 in
+      let t3 : Takes i2 (index_form.written (length after)) i3 = subst (λ n. Takes i2 (index_form.written n) i3) (sym listed.0) t3 in
+      let takes : Takes input ((task_form layout g t).written made) i4 = Takes-then t1 (Takes-then t2 (Takes-then t3 (Takes-then t4 (takes_nothing i4)))) in
+      let range : task_in_range made ≡ true = and_from _ _ (and_from _ _ named slots.0) (counted (λ n. nat_le n AFTER_LIMIT) count after listed.0 few.0) in
+      subst (λ (y : Task × Unread). Takes input ((task_form layout g t).written y.0) y.1 × (task_in_range y.0 ≡ true)) same (takes, range)))));
+}
 
 -- a task in range with small indexes
 abbrev pub IsSpelledTask : Task → Type 0
 IsSpelledTask task = (task_in_range task ≡ true) × AllByRecursion (λ a. a < 2 ^ 16) task.after
 
-task_again : (g t whole : ℕ) (task : Task) (tail : List ℕ) → IsSpelledTask task → task_at layout_1 g t (at whole (spelled_task layout_1 task ++ tail)) ≡ Ok (task, at whole tail)
-task_again g t whole task tail fits =
-    let (front, short) = and_parts _ _ fits.0 in
-    let (named, slots) = and_parts _ _ front in
-    let name = spelled_name task.name in
-    let wcet = to_le_bytes w16 task.wcet in
-    let count = spelled_count (length task.after) in
-    let after = flat_map spelled_count task.after in
-    let text : spelled_task layout_1 task ++ tail ≡ name ++ (wcet ++ (count ++ (after ++ tail))) = simp append_assoc in
-    ap (λ left. task_at layout_1 g t (at whole left)) text ∙ rw (
-      name_again (TaskPart g t) whole task.name (wcet ++ (count ++ (after ++ tail))) named,
-      within_again (TaskPart g t) Wcet 1 SLOT_LIMIT whole task.wcet (count ++ (after ++ tail)) (omega arith) slots,
-      count_again (TaskPart g t) After AFTER_LIMIT whole (length task.after) (after ++ tail) (omega arith) (leb-true _ _ short),
-      each_again (λ _. number_at w16) spelled_count (λ a. a < 2 ^ 16) (λ i w x more lt. number_again w16 (2 ^ 16) wide16 w x more lt) 0 whole task.after tail fits.1,
-    ) refl
+pub task_back : (layout : Layout) (g t : ℕ) (task : Task) → IsSpelledTask task → ReadsBack (task_form layout g t) task
+task_back layout g t task fits = record {
+  again = λ whole tail.
+      let (front, short) = and_parts _ _ fits.0 in
+      let (named, slots) = and_parts _ _ front in
+      let name = (name_form (TaskPart g t)).written task.name in
+      let wcet = (slots_form layout).written task.wcet in
+      let count = index_form.written (length task.after) in
+      let after = flat_map index_form.written task.after in
+      let text : (task_form layout g t).written task ++ tail ≡ name ++ (wcet ++ (count ++ (after ++ tail))) = simp append_assoc in
+      ap (λ left. (task_form layout g t).read (at whole left)) text ∙ rw (
+        (name_back (TaskPart g t) task.name named).again whole (wcet ++ (count ++ (after ++ tail))),
+        (range_back layout (TaskPart g t) Wcet 1 SLOT_LIMIT task.wcet (omega arith) slots).again whole (count ++ (after ++ tail)),
+        (up_to_back (TaskPart g t) After AFTER_LIMIT (length task.after) (omega arith) short).again whole (after ++ tail),
+        (after_back task.after fits.1).again whole tail,
+      ) refl;
+}
 
 -- ---- graphs
 
-graph_takes : (g : ℕ) (input : Unread) (graph : Graph) (rest : Unread) → graph_at layout_1 g input ≡ Ok (graph, rest) → Takes input (spelled_graph layout_1 graph) rest × (graph_in_range graph ≡ true)
-graph_takes g input graph rest h =
-    step (name_at (GraphPart g) input) h (λ name i1 r1 h.
-    step (within_at w16 (GraphPart g) Period 1 SLOT_LIMIT i1) h (λ period i2 r2 h.
-    step (within_at w16 (GraphPart g) Offset 0 (period - 1) i2) h (λ offset i3 r3 h.
-    step (within_at w16 (GraphPart g) Deadline 1 (period - offset) i3) h (λ deadline i4 r4 h.
-    step (some_at (GraphPart g) TaskKey TASK_LIMIT i4) h (λ count i5 r5 h.
-    step (each_at (task_at layout_1 g) 0 count i5) h (λ tasks i6 r6 h.
-    let made : Graph = record { name = name; period = period; offset = offset; deadline = deadline; tasks = tasks } in
-    let same = value_same {a = (made, i6)} {b = (graph, rest)} h in
-    let (t1, named) = name_takes (GraphPart g) input name i1 r1 in
-    let (t2, p2) = within_takes (GraphPart g) Period 1 SLOT_LIMIT i1 period i2 r2 in
-    let (t3, p3) = within_takes (GraphPart g) Offset 0 (period - 1) i2 offset i3 r3 in
-    let (t4, p4) = within_takes (GraphPart g) Deadline 1 (period - offset) i3 deadline i4 r4 in
-    let (t5, p5) = some_takes (GraphPart g) TaskKey TASK_LIMIT i4 count i5 r5 in
-    let (t6, len, all) = each_takes (task_at layout_1 g) (spelled_task layout_1) task_in_range (task_takes g) 0 count i5 tasks i6 r6 in
-    let counted : Takes i4 (spelled_count (length tasks)) i5 = subst (λ n. Takes i4 (spelled_count n) i5) (sym len) t5 in
-    let few : is_between 1 TASK_LIMIT (length tasks) ≡ true = subst (λ n. is_between 1 TASK_LIMIT n ≡ true) (sym len) p5 in
-    let takes : Takes input (spelled_graph layout_1 made) i6 = Takes-then (Takes-then (Takes-then (Takes-then (Takes-then t1 t2) t3) t4) counted) t6 in
-    let range : graph_in_range made ≡ true = and_from _ _ (and_from _ _ (and_from _ _ (and_from _ _ (and_from _ _ named p2) p3) p4) few) all in
-    subst (λ (y : Graph × Unread). Takes input (spelled_graph layout_1 y.0) y.1 × (graph_in_range y.0 ≡ true)) same (takes, range)))))))
+tasks_whole : (layout : Layout) (g n : ℕ) → ReadsWhole (each (task_form layout g) n) (λ tasks. (length tasks ≡ n) × (list_all task_in_range tasks ≡ true))
+tasks_whole layout g = each_whole (task_form layout g) task_in_range (λ i x. refl) (task_whole layout g)
+
+tasks_back : (layout : Layout) (g : ℕ) (tasks : List Task) → AllByRecursion IsSpelledTask tasks → ReadsBack (each (task_form layout g) (length tasks)) tasks
+tasks_back layout g tasks fits = each_back (task_form layout g) (λ i x. refl) (λ i x. refl) tasks (each_task tasks fits)
+  where
+    each_task : (xs : List Task) → AllByRecursion IsSpelledTask xs → AllByRecursion (λ x. (j : ℕ) → ReadsBack (task_form layout g j) x) xs
+    each_task [] all = tt
+    each_task (x ∷ xs) all = ((λ j. task_back layout g j x all.0), each_task xs all.1)
+
+pub graph_whole : (layout : Layout) (g : ℕ) → ReadsWhole (graph_form layout g) (λ graph. graph_in_range graph ≡ true)
+graph_whole layout g = record {
+  of_read = λ input graph rest h.
+      let place = GraphPart g in
+      step ((name_form place).read input) h (λ name i1 r1 h.
+      step ((range_form layout place Period 1 SLOT_LIMIT).read i1) h (λ period i2 r2 h.
+      step ((range_form layout place Offset 0 (period - 1)).read i2) h (λ offset i3 r3 h.
+      step ((range_form layout place Deadline 1 (period - offset)).read i3) h (λ deadline i4 r4 h.
+      step ((one_up_to place TaskKey TASK_LIMIT).read i4) h (λ count i5 r5 h.
+      step ((each (task_form layout g) count).read i5) h (λ tasks i6 r6 h.
+      let made : Graph = record { name = name; period = period; offset = offset; deadline = deadline; tasks = tasks } in
+      let same = ok_same (made, i6) (graph, rest) h in
+      let (t1, named) = (name_whole place).of_read input name i1 r1 in
+      let (t2, p2) = (range_whole layout place Period 1 SLOT_LIMIT).of_read i1 period i2 r2 in
+      let (t3, p3) = (range_whole layout place Offset 0 (period - 1)).of_read i2 offset i3 r3 in
+      let (t4, p4) = (range_whole layout place Deadline 1 (period - offset)).of_read i3 deadline i4 r4 in
+      let (t5, p5) = (one_up_to_whole place TaskKey TASK_LIMIT).of_read i4 count i5 r5 in
+      let (t6, listed) = (tasks_whole layout g count).of_read i5 tasks i6 r6 in
+      let t5 : Takes i4 (index_form.written (length tasks)) i5 = subst (λ n. Takes i4 (index_form.written n) i5) (sym listed.0) t5 in
+      let few : is_between 1 TASK_LIMIT (length tasks) ≡ true = counted (is_between 1 TASK_LIMIT) count tasks listed.0 (and_from _ _ p5.0 p5.1.0) in
+      let takes : Takes input ((graph_form layout g).written made) i6 = Takes-then t1 (Takes-then t2 (Takes-then t3 (Takes-then t4 (Takes-then t5 (Takes-then t6 (takes_nothing i6)))))) in
+      let range : graph_in_range made ≡ true = and_from _ _ (and_from _ _ (and_from _ _ (and_from _ _ (and_from _ _ named p2.0) p3.0) p4.0) few) listed.1 in
+      subst (λ (y : Graph × Unread). Takes input ((graph_form layout g).written y.0) y.1 × (graph_in_range y.0 ≡ true)) same (takes, range)))))));
+}
 
 -- a graph in range with small indexes
 abbrev pub HasSmallIndexes : Graph → Type 0
@@ -121,98 +128,122 @@ spelled_tasks (task ∷ tasks) range small =
     let (first, rest) = and_parts (task_in_range task) (list_all task_in_range tasks) range in
     ((first, small.0), spelled_tasks tasks rest small.1)
 
-graph_again : (g whole : ℕ) (graph : Graph) (tail : List ℕ) → IsSpelledGraph graph → graph_at layout_1 g (at whole (spelled_graph layout_1 graph ++ tail)) ≡ Ok (graph, at whole tail)
-graph_again g whole graph tail fits =
-    let (counted, all) = and_parts _ _ fits.0 in
-    let (due, few) = and_parts _ _ counted in
-    let (released, p4) = and_parts _ _ due in
-    let (repeated, p3) = and_parts _ _ released in
-    let (named, p2) = and_parts _ _ repeated in
-    let high = (bounds 1 SLOT_LIMIT graph.period p2).1 in
-    let name = spelled_name graph.name in
-    let period = to_le_bytes w16 graph.period in
-    let offset = to_le_bytes w16 graph.offset in
-    let deadline = to_le_bytes w16 graph.deadline in
-    let count = spelled_count (length graph.tasks) in
-    let tasks = flat_map (spelled_task layout_1) graph.tasks in
-    let text : spelled_graph layout_1 graph ++ tail ≡ name ++ (period ++ (offset ++ (deadline ++ (count ++ (tasks ++ tail))))) = simp append_assoc in
-    ap (λ left. graph_at layout_1 g (at whole left)) text ∙ rw (
-      name_again (GraphPart g) whole graph.name (period ++ (offset ++ (deadline ++ (count ++ (tasks ++ tail))))) named,
-      within_again (GraphPart g) Period 1 SLOT_LIMIT whole graph.period (offset ++ (deadline ++ (count ++ (tasks ++ tail)))) (omega arith) p2,
-      within_again (GraphPart g) Offset 0 (graph.period - 1) whole graph.offset (deadline ++ (count ++ (tasks ++ tail))) (omega (arith, high)) p3,
-      within_again (GraphPart g) Deadline 1 (graph.period - graph.offset) whole graph.deadline (count ++ (tasks ++ tail)) (omega (arith, high)) p4,
-      some_again (GraphPart g) TaskKey TASK_LIMIT whole (length graph.tasks) (tasks ++ tail) (omega arith) few,
-      each_again (task_at layout_1 g) (spelled_task layout_1) IsSpelledTask (λ t w x more fit. task_again g t w x more fit) 0 whole graph.tasks tail (spelled_tasks graph.tasks all fits.1),
-    ) refl
+graph_back : (layout : Layout) (g : ℕ) (graph : Graph) → IsSpelledGraph graph → ReadsBack (graph_form layout g) graph
+graph_back layout g graph fits = record {
+  again = λ whole tail.
+      let (all_tasks, all) = and_parts _ _ fits.0 in
+      let (due, few) = and_parts _ _ all_tasks in
+      let (released, p4) = and_parts _ _ due in
+      let (repeated, p3) = and_parts _ _ released in
+      let (named, p2) = and_parts _ _ repeated in
+      let high = (bounds 1 SLOT_LIMIT graph.period p2).1 in
+      let place = GraphPart g in
+      let name = (name_form place).written graph.name in
+      let period = (slots_form layout).written graph.period in
+      let offset = (slots_form layout).written graph.offset in
+      let deadline = (slots_form layout).written graph.deadline in
+      let count = index_form.written (length graph.tasks) in
+      let tasks = flat_map (task_form layout g 0).written graph.tasks in
+      let text : (graph_form layout g).written graph ++ tail ≡ name ++ (period ++ (offset ++ (deadline ++ (count ++ (tasks ++ tail))))) = simp append_assoc in
+      ap (λ left. (graph_form layout g).read (at whole left)) text ∙ rw (
+        (name_back place graph.name named).again whole (period ++ (offset ++ (deadline ++ (count ++ (tasks ++ tail))))),
+        (range_back layout place Period 1 SLOT_LIMIT graph.period (omega arith) p2).again whole (offset ++ (deadline ++ (count ++ (tasks ++ tail)))),
+        (range_back layout place Offset 0 (graph.period - 1) graph.offset (omega (arith, high)) p3).again whole (deadline ++ (count ++ (tasks ++ tail))),
+        (range_back layout place Deadline 1 (graph.period - graph.offset) graph.deadline (omega (arith, high)) p4).again whole (count ++ (tasks ++ tail)),
+        (one_up_to_back place TaskKey TASK_LIMIT (length graph.tasks) (omega arith) few).again whole (tasks ++ tail),
+        (tasks_back layout g graph.tasks (spelled_tasks graph.tasks all fits.1)).again whole tail,
+      ) refl;
+}
 
 -- ---- sporadic tasks
 
-sporadic_takes : (s : ℕ) (input : Unread) (task : Sporadic) (rest : Unread) → sporadic_at layout_1 s input ≡ Ok (task, rest) → Takes input (spelled_sporadic layout_1 task) rest × (sporadic_in_range task ≡ true)
-sporadic_takes s input task rest h =
-    step (name_at (SporadicPart s) input) h (λ name i1 r1 h.
-    step (within_at w16 (SporadicPart s) Wcet 1 SLOT_LIMIT i1) h (λ wcet i2 r2 h.
-    step (within_at w16 (SporadicPart s) Separation 1 SLOT_LIMIT i2) h (λ separation i3 r3 h.
-    step (within_at w16 (SporadicPart s) Deadline 1 separation i3) h (λ deadline i4 r4 h.
-    let made : Sporadic = record { name = name; wcet = wcet; separation = separation; deadline = deadline } in
-    let same = value_same {a = (made, i4)} {b = (task, rest)} h in
-    let (t1, named) = name_takes (SporadicPart s) input name i1 r1 in
-    let (t2, p2) = within_takes (SporadicPart s) Wcet 1 SLOT_LIMIT i1 wcet i2 r2 in
-    let (t3, p3) = within_takes (SporadicPart s) Separation 1 SLOT_LIMIT i2 separation i3 r3 in
-    let (t4, p4) = within_takes (SporadicPart s) Deadline 1 separation i3 deadline i4 r4 in
-    let takes : Takes input (spelled_sporadic layout_1 made) i4 = Takes-then (Takes-then (Takes-then t1 t2) t3) t4 in
-    let range : sporadic_in_range made ≡ true = and_from _ _ (and_from _ _ (and_from _ _ named p2) p3) p4 in
-    subst (λ (y : Sporadic × Unread). Takes input (spelled_sporadic layout_1 y.0) y.1 × (sporadic_in_range y.0 ≡ true)) same (takes, range)))))
+sporadic_whole : (layout : Layout) (s : ℕ) → ReadsWhole (sporadic_form layout s) (λ task. sporadic_in_range task ≡ true)
+sporadic_whole layout s = record {
+  of_read = λ input task rest h.
+      let place = SporadicPart s in
+      step ((name_form place).read input) h (λ name i1 r1 h.
+      step ((range_form layout place Wcet 1 SLOT_LIMIT).read i1) h (λ wcet i2 r2 h.
+      step ((range_form layout place Separation 1 SLOT_LIMIT).read i2) h (λ separation i3 r3 h.
+      step ((range_form layout place Deadline 1 separation).read i3) h (λ deadline i4 r4 h.
+      let made : Sporadic = record { name = name; wcet = wcet; separation = separation; deadline = deadline } in
+      let same = ok_same (made, i4) (task, rest) h in
+      let (t1, named) = (name_whole place).of_read input name i1 r1 in
+      let (t2, p2) = (range_whole layout place Wcet 1 SLOT_LIMIT).of_read i1 wcet i2 r2 in
+      let (t3, p3) = (range_whole layout place Separation 1 SLOT_LIMIT).of_read i2 separation i3 r3 in
+      let (t4, p4) = (range_whole layout place Deadline 1 separation).of_read i3 deadline i4 r4 in
+      let takes : Takes input ((sporadic_form layout s).written made) i4 = Takes-then t1 (Takes-then t2 (Takes-then t3 (Takes-then t4 (takes_nothing i4)))) in
+      let range : sporadic_in_range made ≡ true = and_from _ _ (and_from _ _ (and_from _ _ named p2.0) p3.0) p4.0 in
+      subst (λ (y : Sporadic × Unread). Takes input ((sporadic_form layout s).written y.0) y.1 × (sporadic_in_range y.0 ≡ true)) same (takes, range)))));
+}
 
-sporadic_again : (s whole : ℕ) (task : Sporadic) (tail : List ℕ) → sporadic_in_range task ≡ true → sporadic_at layout_1 s (at whole (spelled_sporadic layout_1 task ++ tail)) ≡ Ok (task, at whole tail)
-sporadic_again s whole task tail fits =
-    let (apart, p4) = and_parts _ _ fits in
-    let (needs, p3) = and_parts _ _ apart in
-    let (named, p2) = and_parts _ _ needs in
-    let high = (bounds 1 SLOT_LIMIT task.separation p3).1 in
-    let name = spelled_name task.name in
-    let wcet = to_le_bytes w16 task.wcet in
-    let separation = to_le_bytes w16 task.separation in
-    let deadline = to_le_bytes w16 task.deadline in
-    let text : spelled_sporadic layout_1 task ++ tail ≡ name ++ (wcet ++ (separation ++ (deadline ++ tail))) = simp append_assoc in
-    ap (λ left. sporadic_at layout_1 s (at whole left)) text ∙ rw (
-      name_again (SporadicPart s) whole task.name (wcet ++ (separation ++ (deadline ++ tail))) named,
-      within_again (SporadicPart s) Wcet 1 SLOT_LIMIT whole task.wcet (separation ++ (deadline ++ tail)) (omega arith) p2,
-      within_again (SporadicPart s) Separation 1 SLOT_LIMIT whole task.separation (deadline ++ tail) (omega arith) p3,
-      within_again (SporadicPart s) Deadline 1 task.separation whole task.deadline tail (omega (arith, high)) p4,
-    ) refl
+sporadic_back : (layout : Layout) (s : ℕ) (task : Sporadic) → sporadic_in_range task ≡ true → ReadsBack (sporadic_form layout s) task
+sporadic_back layout s task fits = record {
+  again = λ whole tail.
+      let (apart, p4) = and_parts _ _ fits in
+      let (needs, p3) = and_parts _ _ apart in
+      let (named, p2) = and_parts _ _ needs in
+      let high = (bounds 1 SLOT_LIMIT task.separation p3).1 in
+      let place = SporadicPart s in
+      let name = (name_form place).written task.name in
+      let wcet = (slots_form layout).written task.wcet in
+      let separation = (slots_form layout).written task.separation in
+      let deadline = (slots_form layout).written task.deadline in
+      let text : (sporadic_form layout s).written task ++ tail ≡ name ++ (wcet ++ (separation ++ (deadline ++ tail))) = simp append_assoc in
+      ap (λ left. (sporadic_form layout s).read (at whole left)) text ∙ rw (
+        (name_back place task.name named).again whole (wcet ++ (separation ++ (deadline ++ tail))),
+        (range_back layout place Wcet 1 SLOT_LIMIT task.wcet (omega arith) p2).again whole (separation ++ (deadline ++ tail)),
+        (range_back layout place Separation 1 SLOT_LIMIT task.separation (omega arith) p3).again whole (deadline ++ tail),
+        (range_back layout place Deadline 1 task.separation task.deadline (omega (arith, high)) p4).again whole tail,
+      ) refl;
+}
 
 -- ---- sets
 
--- the set without the head of a table
-abbrev pub spelled_numbers : TaskSet → List ℕ
-spelled_numbers set =
-    to_le_bytes w16 set.soft_limit
-    ++ spelled_count (length set.graphs)
-    ++ flat_map (spelled_graph layout_1) set.graphs
-    ++ spelled_count (length set.sporadics)
-    ++ flat_map (spelled_sporadic layout_1) set.sporadics
+graphs_whole : (layout : Layout) (n : ℕ) → ReadsWhole (each (graph_form layout) n) (λ graphs. (length graphs ≡ n) × (list_all graph_in_range graphs ≡ true))
+graphs_whole layout = each_whole (graph_form layout) graph_in_range (λ i x. refl) (graph_whole layout)
 
-pub set_takes : (input : Unread) (set : TaskSet) (rest : Unread) → set_at layout_1 input ≡ Ok (set, rest) → Takes input (spelled_numbers set) rest × (is_in_range set ≡ true)
-set_takes input set rest h =
-    step (within_at w16 Top Soft 1 SOFT_LIMIT input) h (λ soft i1 r1 h.
-    step (some_at Top GraphKey GRAPH_LIMIT i1) h (λ graph_count i2 r2 h.
-    step (each_at (graph_at layout_1) 0 graph_count i2) h (λ graphs i3 r3 h.
-    step (count_at Top SporadicKey SPORADIC_LIMIT i3) h (λ sporadic_count i4 r4 h.
-    step (each_at (sporadic_at layout_1) 0 sporadic_count i4) h (λ sporadics i5 r5 h.
-    let made : TaskSet = record { soft_limit = soft; graphs = graphs; sporadics = sporadics } in
-    let same = value_same {a = (made, i5)} {b = (set, rest)} h in
-    let (t1, p1) = within_takes Top Soft 1 SOFT_LIMIT input soft i1 r1 in
-    let (t2, p2) = some_takes Top GraphKey GRAPH_LIMIT i1 graph_count i2 r2 in
-    let (t3, len3, p3) = each_takes (graph_at layout_1) (spelled_graph layout_1) graph_in_range graph_takes 0 graph_count i2 graphs i3 r3 in
-    let (t4, p4) = count_takes Top SporadicKey SPORADIC_LIMIT i3 sporadic_count i4 r4 in
-    let (t5, len5, p5) = each_takes (sporadic_at layout_1) (spelled_sporadic layout_1) sporadic_in_range sporadic_takes 0 sporadic_count i4 sporadics i5 r5 in
-    let c2 : Takes i1 (spelled_count (length graphs)) i2 = subst (λ n. Takes i1 (spelled_count n) i2) (sym len3) t2 in
-    let c4 : Takes i3 (spelled_count (length sporadics)) i4 = subst (λ n. Takes i3 (spelled_count n) i4) (sym len5) t4 in
-    let some : is_between 1 GRAPH_LIMIT (length graphs) ≡ true = subst (λ n. is_between 1 GRAPH_LIMIT n ≡ true) (sym len3) p2 in
-    let few : nat_le (length sporadics) SPORADIC_LIMIT ≡ true = le-leb _ _ (omega (arith, len5, p4)) in
-    let takes : Takes input (spelled_numbers made) i5 = Takes-then (Takes-then (Takes-then (Takes-then t1 c2) t3) c4) t5 in
-    let range : is_in_range made ≡ true = and_from _ _ (and_from _ _ (and_from _ _ (and_from _ _ p1 some) p3) few) p5 in
-    subst (λ (y : TaskSet × Unread). Takes input (spelled_numbers y.0) y.1 × (is_in_range y.0 ≡ true)) same (takes, range))))))
+graphs_back : (layout : Layout) (graphs : List Graph) → AllByRecursion IsSpelledGraph graphs → ReadsBack (each (graph_form layout) (length graphs)) graphs
+graphs_back layout graphs fits = each_back (graph_form layout) (λ i x. refl) (λ i x. refl) graphs (each_graph graphs fits)
+  where
+    each_graph : (xs : List Graph) → AllByRecursion IsSpelledGraph xs → AllByRecursion (λ x. (j : ℕ) → ReadsBack (graph_form layout j) x) xs
+    each_graph [] all = tt
+    each_graph (x ∷ xs) all = ((λ j. graph_back layout j x all.0), each_graph xs all.1)
+
+sporadics_whole : (layout : Layout) (n : ℕ) → ReadsWhole (each (sporadic_form layout) n) (λ tasks. (length tasks ≡ n) × (list_all sporadic_in_range tasks ≡ true))
+sporadics_whole layout = each_whole (sporadic_form layout) sporadic_in_range (λ i x. refl) (sporadic_whole layout)
+
+sporadics_back : (layout : Layout) (tasks : List Sporadic) → list_all sporadic_in_range tasks ≡ true → ReadsBack (each (sporadic_form layout) (length tasks)) tasks
+sporadics_back layout tasks range = each_back (sporadic_form layout) (λ i x. refl) (λ i x. refl) tasks (each_sporadic tasks range)
+  where
+    each_sporadic : (xs : List Sporadic) → list_all sporadic_in_range xs ≡ true → AllByRecursion (λ x. (j : ℕ) → ReadsBack (sporadic_form layout j) x) xs
+    each_sporadic [] all = tt
+    each_sporadic (x ∷ xs) all =
+        let (first, rest) = and_parts (sporadic_in_range x) (list_all sporadic_in_range xs) all in
+        ((λ j. sporadic_back layout j x first), each_sporadic xs rest)
+
+pub set_whole : (layout : Layout) → ReadsWhole (set_form layout) (λ set. is_in_range set ≡ true)
+set_whole layout = record {
+  of_read = λ input set rest h.
+      step ((range_form layout Top Soft 1 SOFT_LIMIT).read input) h (λ soft i1 r1 h.
+      step ((one_up_to Top GraphKey GRAPH_LIMIT).read i1) h (λ graph_count i2 r2 h.
+      step ((each (graph_form layout) graph_count).read i2) h (λ graphs i3 r3 h.
+      step ((up_to Top SporadicKey SPORADIC_LIMIT).read i3) h (λ sporadic_count i4 r4 h.
+      step ((each (sporadic_form layout) sporadic_count).read i4) h (λ sporadics i5 r5 h.
+      let made : TaskSet = record { soft_limit = soft; graphs = graphs; sporadics = sporadics } in
+      let same = ok_same (made, i5) (set, rest) h in
+      let (t1, p1) = (range_whole layout Top Soft 1 SOFT_LIMIT).of_read input soft i1 r1 in
+      let (t2, p2) = (one_up_to_whole Top GraphKey GRAPH_LIMIT).of_read i1 graph_count i2 r2 in
+      let (t3, p3) = (graphs_whole layout graph_count).of_read i2 graphs i3 r3 in
+      let (t4, p4) = (up_to_whole Top SporadicKey SPORADIC_LIMIT).of_read i3 sporadic_count i4 r4 in
+      let (t5, p5) = (sporadics_whole layout sporadic_count).of_read i4 sporadics i5 r5 in
+      let t2 : Takes i1 (index_form.written (length graphs)) i2 = subst (λ n. Takes i1 (index_form.written n) i2) (sym p3.0) t2 in
+      let t4 : Takes i3 (index_form.written (length sporadics)) i4 = subst (λ n. Takes i3 (index_form.written n) i4) (sym p5.0) t4 in
+      let some : is_between 1 GRAPH_LIMIT (length graphs) ≡ true = counted (is_between 1 GRAPH_LIMIT) graph_count graphs p3.0 (and_from _ _ p2.0 p2.1.0) in
+      let few : nat_le (length sporadics) SPORADIC_LIMIT ≡ true = counted (λ n. nat_le n SPORADIC_LIMIT) sporadic_count sporadics p5.0 p4.0 in
+      let takes : Takes input ((set_form layout).written made) i5 = Takes-then t1 (Takes-then t2 (Takes-then t3 (Takes-then t4 (Takes-then t5 (takes_nothing i5))))) in
+      let range : is_in_range made ≡ true = and_from _ _ (and_from _ _ (and_from _ _ (and_from _ _ p1.0 some) p3.1) few) p5.1 in
+      subst (λ (y : TaskSet × Unread). Takes input ((set_form layout).written y.0) y.1 × (is_in_range y.0 ≡ true)) same (takes, range))))));
+}
 
 spelled_graphs : (graphs : List Graph) → list_all graph_in_range graphs ≡ true → AllByRecursion HasSmallIndexes graphs → AllByRecursion IsSpelledGraph graphs
 spelled_graphs [] range small = tt
@@ -220,28 +251,27 @@ spelled_graphs (graph ∷ graphs) range small =
     let (first, rest) = and_parts (graph_in_range graph) (list_all graph_in_range graphs) range in
     ((first, small.0), spelled_graphs graphs rest small.1)
 
-each_sporadic : (ss : List Sporadic) → list_all sporadic_in_range ss ≡ true → AllByRecursion (λ s. sporadic_in_range s ≡ true) ss
-each_sporadic [] range = tt
-each_sporadic (s ∷ ss) range =
-    let (first, rest) = and_parts (sporadic_in_range s) (list_all sporadic_in_range ss) range in
-    (first, each_sporadic ss rest)
-
-pub set_again : (whole : ℕ) (set : TaskSet) (tail : List ℕ) → is_in_range set ≡ true → AllByRecursion HasSmallIndexes set.graphs → set_at layout_1 (at whole (spelled_numbers set ++ tail)) ≡ Ok (set, at whole tail)
-set_again whole set tail range small =
-    let (front, p5) = and_parts _ _ range in
-    let (listed, p4) = and_parts _ _ front in
-    let (counted, p3) = and_parts _ _ listed in
-    let (p1, p2) = and_parts _ _ counted in
-    let soft = to_le_bytes w16 set.soft_limit in
-    let graph_count = spelled_count (length set.graphs) in
-    let graphs = flat_map (spelled_graph layout_1) set.graphs in
-    let sporadic_count = spelled_count (length set.sporadics) in
-    let sporadics = flat_map (spelled_sporadic layout_1) set.sporadics in
-    let text : spelled_numbers set ++ tail ≡ soft ++ (graph_count ++ (graphs ++ (sporadic_count ++ (sporadics ++ tail)))) = simp append_assoc in
-    ap (λ left. set_at layout_1 (at whole left)) text ∙ rw (
-      within_again Top Soft 1 SOFT_LIMIT whole set.soft_limit (graph_count ++ (graphs ++ (sporadic_count ++ (sporadics ++ tail)))) (omega arith) p1,
-      some_again Top GraphKey GRAPH_LIMIT whole (length set.graphs) (graphs ++ (sporadic_count ++ (sporadics ++ tail))) (omega arith) p2,
-      each_again (graph_at layout_1) (spelled_graph layout_1) IsSpelledGraph graph_again 0 whole set.graphs (sporadic_count ++ (sporadics ++ tail)) (spelled_graphs set.graphs p3 small),
-      count_again Top SporadicKey SPORADIC_LIMIT whole (length set.sporadics) (sporadics ++ tail) (omega arith) (leb-true _ _ p4),
-      each_again (sporadic_at layout_1) (spelled_sporadic layout_1) (λ s. sporadic_in_range s ≡ true) sporadic_again 0 whole set.sporadics tail (each_sporadic set.sporadics p5),
-    ) refl
+pub set_back : (layout : Layout) (set : TaskSet) → is_in_range set ≡ true → AllByRecursion HasSmallIndexes set.graphs → ReadsBack (set_form layout) set
+set_back layout set range small = record {
+  again = λ whole tail.
+      let (front, p5) = and_parts _ _ range in
+      let (listed, p4) = and_parts _ _ front in
+      let (counted, p3) = and_parts _ _ listed in
+      let (p1, p2) = and_parts _ _ counted in
+      let soft = (slots_form layout).written set.soft_limit in
+      let graph_count = index_form.written (length set.graphs) in
+      let graphs = flat_map (graph_form layout 0).written set.graphs in
+      let sporadic_count = index_form.written (length set.sporadics) in
+      let sporadics = flat_map (sporadic_form layout 0).written set.sporadics in
+      let text : (set_form layout).written set ++ tail ≡ soft ++ (graph_count ++ (graphs ++ (sporadic_count ++ (sporadics ++ tail)))) = regroup soft graph_count graphs sporadic_count sporadics tail in
+      ap (λ left. (set_form layout).read (at whole left)) text ∙ rw (
+        (range_back layout Top Soft 1 SOFT_LIMIT set.soft_limit (omega arith) p1).again whole (graph_count ++ (graphs ++ (sporadic_count ++ (sporadics ++ tail)))),
+        (one_up_to_back Top GraphKey GRAPH_LIMIT (length set.graphs) (omega arith) p2).again whole (graphs ++ (sporadic_count ++ (sporadics ++ tail))),
+        (graphs_back layout set.graphs (spelled_graphs set.graphs p3 small)).again whole (sporadic_count ++ (sporadics ++ tail)),
+        (up_to_back Top SporadicKey SPORADIC_LIMIT (length set.sporadics) (omega arith) p4).again whole (sporadics ++ tail),
+        (sporadics_back layout set.sporadics p5).again whole tail,
+      ) refl;
+}
+  where
+    regroup : (a b d e f tail : List ℕ) → (a ++ (b ++ (d ++ (e ++ (f ++ []))))) ++ tail ≡ a ++ (b ++ (d ++ (e ++ (f ++ tail))))
+    regroup a b d e f tail = simp append_assoc

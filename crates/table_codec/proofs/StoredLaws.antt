@@ -1,28 +1,27 @@
--- Stored jobs and spans: what is read was spelled so, and what is spelled so is read.
-use Rattle.std.proofs.Common.{◌≡◌, ℕ, ◌+◌, ◌^◌, ◌<◌, Bool, true, ℤ, pos, neg_ℤ, ◌≤ℤ◌, ◌<ℤ◌, List, [], ◌∷◌, ◌++◌, length, Ok, FitsSigned, refl, sym, ap, subst, ◌∙◌, append_assoc, arith, rules}
+-- Stored jobs and spans: what is read was written so, and what is written so is read.
+use Rattle.std.proofs.Common.{◌≡◌, ℕ, ◌^◌, ◌<◌, true, List, [], ◌∷◌, ◌++◌, length, Ok, refl, sym, ap, subst, ◌∙◌, append_assoc, arith}
 use Rattle.std.specs.Prelude.{flat_map, ◌==◌, ⊤}
-use Rattle.std.specs.Int.{w16, w32, to_le_bytes, cast_signed, cast_unsigned}
+use Rattle.std.specs.Int.{w32}
 use Rattle.std.specs.List.{AllByRecursion}
 use Rattle.std.specs.Ordering.{int_eq}
 use Rattle.std.proofs.lemmas.Bool.{and_from, and_parts, eqb-true}
 use Rattle.std.proofs.lemmas.Bool.Decides.{Decides-int_eq, nat_tests}
-use Rattle.std.proofs.lemmas.Int.{ints, to_z-of_z, of_z-to_z}
-use Rattle.std.proofs.lemmas.List.Concat.{flat_map-cons}
 use Rattle.std.proofs.lemmas.Slice.Eq.{bytes_eq-Decides}
 use Rattle.slot_core.specs.declared.jobs.Key.{Key}
 use Rattle.slot_core.specs.declared.jobs.Key.TheVariants.{Offline, Sporadic, Firm, Soft}
 use Rattle.slot_core.specs.declared.jobs.Job.{Job}
 use Rattle.slot_core.specs.declared.jobs.Span.{Span}
 use Rattle.slot_core.specs.Keys.{key_order}
-use Rattle.slot_core.specs.Spelling.{layout_1, spelled_many, spelled_job, spelled_span}
 use Rattle.slot_facts.proofs.Choice.Earliest.{same_from_order}
 use Rattle.table_codec.specs.declared.faults.TableFault.{TableFault}
 use Rattle.table_codec.specs.declared.faults.TableFault.TheVariants.{WrongJobCount, WrongJob, WrongSpanCount, WrongSpan}
-use Rattle.table_codec.specs.Readers.{Unread, Reader, done, number_at}
-use Rattle.table_codec.specs.Reading.{job_at, capacity_at, span_at, is_same_job, is_same_span, same_count, same_at, jobs_at, spans_at}
-use Rattle.table_codec.specs.Sizes.{IsSmallKey, IsSmallJob, IsSmallSpan}
-use Rattle.table_codec.proofs.FieldLaws.{Takes, Takes-then, at, step, passes, value_same, wide16, wide32, number_takes, number_again, number_below}
-use Rattle.table_codec.proofs.SetLaws.{takes_nothing}
+use Rattle.table_codec.specs.declared.layout.Layout.{Layout}
+use Rattle.table_codec.specs.Readers.{Unread}
+use Rattle.table_codec.specs.Forms.{number_form, same_count, stored}
+use Rattle.table_codec.specs.Grammar.{index_form, slots_form, spare_form, key_form, job_form, span_form, is_same_job, is_same_span, jobs_form, spans_form}
+use Rattle.table_codec.specs.Sizes.{FitsKey, FitsJob, FitsSpan}
+use Rattle.table_codec.proofs.FormLaws.{Takes, Takes-then, takes_nothing, at, step, ok_same, ReadsWhole, ReadsBack, stored_whole, stored_back}
+use Rattle.table_codec.proofs.FieldLaws.{index_whole, index_back, slots_whole, slots_back, spare_whole, spare_back, same_count_whole, same_count_back}
 
 -- ---- the same things
 
@@ -30,7 +29,7 @@ use Rattle.table_codec.proofs.SetLaws.{takes_nothing}
 same_numbers : (a b : ℕ) → (a == b) ≡ true → a ≡ b
 same_numbers a b h = eqb-true a b h
 
-pub same_job : (a b : Job) → is_same_job a b ≡ true → a ≡ b
+same_job : (a b : Job) → is_same_job a b ≡ true → a ≡ b
 same_job a b h =
     let (h, declared) = and_parts _ (a.declared == b.declared) h in
     let (h, left) = and_parts _ (a.left == b.left) h in
@@ -48,13 +47,13 @@ same_job a b h =
 itself : (n : ℕ) → (n == n) ≡ true
 itself n = grind (arith, nat_tests)
 
-pub same_job-itself : (a : Job) → is_same_job a a ≡ true
+same_job-itself : (a : Job) → is_same_job a a ≡ true
 same_job-itself a =
     let key = (bytes_eq-Decides (key_order a.key) (key_order a.key)).1 refl in
     and_from _ _ (and_from _ _ (and_from _ _ (and_from _ _ key (itself a.est)) (itself a.dl)) (itself a.left)) (itself a.declared)
 
 -- so are spans
-pub same_span : (a b : Span) → is_same_span a b ≡ true → a ≡ b
+same_span : (a b : Span) → is_same_span a b ≡ true → a ≡ b
 same_span a b h =
     let (h, spare) = and_parts _ (int_eq a.spare b.spare) h in
     let (h, work) = and_parts _ (a.work == b.work) h in
@@ -66,162 +65,185 @@ same_span a b h =
       spare = (Decides-int_eq a.spare b.spare).0 spare i;
     }
 
-pub same_span-itself : (a : Span) → is_same_span a a ≡ true
+same_span-itself : (a : Span) → is_same_span a a ≡ true
 same_span-itself a =
     and_from _ _ (and_from _ _ (and_from _ _ (itself a.start) (itself a.end)) (itself a.work)) ((Decides-int_eq a.spare a.spare).1 refl)
 
 -- ---- a job
 
-job_takes : (input : Unread) (job : Job) (rest : Unread) → job_at layout_1 input ≡ Ok (job, rest) → Takes input (spelled_job layout_1 job) rest
-job_takes input job rest h =
-    step (number_at w16 input) h (λ graph i1 r1 h.
-    step (number_at w16 i1) h (λ task i2 r2 h.
-    step (number_at w16 i2) h (λ instance i3 r3 h.
-    step (number_at w16 i3) h (λ est i4 r4 h.
-    step (number_at w16 i4) h (λ dl i5 r5 h.
-    step (number_at w16 i5) h (λ declared i6 r6 h.
-    let made : Job = record { key = Offline graph task instance; est = est; dl = dl; left = declared; declared = declared } in
-    let same = value_same {a = (made, i6)} {b = (job, rest)} h in
-    let number = number_takes w16 (2 ^ 16) wide16 in
-    let key = Takes-then (Takes-then (number input graph i1 r1) (number i1 task i2 r2)) (number i2 instance i3 r3) in
-    let takes : Takes input (spelled_job layout_1 made) i6 = Takes-then (Takes-then (Takes-then key (number i3 est i4 r4)) (number i4 dl i5 r5)) (number i5 declared i6 r6) in
-    subst (λ (y : Job × Unread). Takes input (spelled_job layout_1 y.0) y.1) same takes))))))
+key_whole : (layout : Layout) → ReadsWhole (key_form layout) (λ _. ⊤)
+key_whole layout = record {
+  of_read = λ input key rest h.
+      step (index_form.read input) h (λ graph i1 r1 h.
+      step (index_form.read i1) h (λ task i2 r2 h.
+      step ((slots_form layout).read i2) h (λ instance i3 r3 h.
+      let made = Offline graph task instance in
+      let same = ok_same (made, i3) (key, rest) h in
+      let (t1, _) = index_whole.of_read input graph i1 r1 in
+      let (t2, _) = index_whole.of_read i1 task i2 r2 in
+      let (t3, _) = (slots_whole layout).of_read i2 instance i3 r3 in
+      let takes : Takes input ((key_form layout).written made) i3 = Takes-then t1 (Takes-then t2 (Takes-then t3 (takes_nothing i3))) in
+      subst (λ (y : Key × Unread). Takes input ((key_form layout).written y.0) y.1 × ⊤) same (takes, tt))));
+}
 
--- a stored job, where it has all its slots left
-abbrev fresh : Key → ℕ → ℕ → ℕ → Job
-fresh key est dl declared = record { key = key; est = est; dl = dl; left = declared; declared = declared }
+key_back : (layout : Layout) (key : Key) → FitsKey layout key → ReadsBack (key_form layout) key
+key_back layout (Offline graph task instance) fits = record {
+  again = λ whole tail.
+      let a = (slots_form layout).written instance in
+      let b = index_form.written task in
+      let d = index_form.written graph in
+      let text : (key_form layout).written (Offline graph task instance) ++ tail ≡ d ++ (b ++ (a ++ tail)) = simp append_assoc in
+      ap (λ left. (key_form layout).read (at whole left)) text ∙ rw (
+        (index_back graph fits.0).again whole (b ++ (a ++ tail)),
+        (index_back task fits.1).again whole (a ++ tail),
+        (slots_back layout instance fits.2).again whole tail,
+      ) refl;
+}
+key_back layout (Sporadic index row) fits = absurd fits
+key_back layout (Firm row) fits = absurd fits
+key_back layout (Soft row) fits = absurd fits
 
-fresh_again : (whole : ℕ) (key : Key) (est dl declared : ℕ) (tail : List ℕ) → IsSmallKey key → est < 2 ^ 16 → dl < 2 ^ 16 → declared < 2 ^ 16 → job_at layout_1 (at whole (spelled_job layout_1 (fresh key est dl declared) ++ tail)) ≡ Ok (fresh key est dl declared, at whole tail)
-fresh_again whole (Offline g t k) est dl declared tail small lt_est lt_dl lt_declared =
-    let number = number_again w16 (2 ^ 16) wide16 whole in
-    let a = to_le_bytes w16 declared ++ tail in
-    let b = to_le_bytes w16 dl ++ a in
-    let d = to_le_bytes w16 est ++ b in
-    let e = to_le_bytes w16 k ++ d in
-    let f = to_le_bytes w16 t ++ e in
-    rw (
-      number g f small.0,
-      number t e small.1,
-      number k d small.2,
-      number est b lt_est,
-      number dl a lt_dl,
-      number declared tail lt_declared,
-    ) refl
-fresh_again whole (Sporadic index row) est dl declared tail small lt_est lt_dl lt_declared = absurd small
-fresh_again whole (Firm row) est dl declared tail small lt_est lt_dl lt_declared = absurd small
-fresh_again whole (Soft row) est dl declared tail small lt_est lt_dl lt_declared = absurd small
+told_key : (layout : Layout) (key : Key) → FitsKey layout key → (key_form layout).told key ≡ key
+told_key layout (Offline graph task instance) fits = refl
+told_key layout (Sporadic index row) fits = absurd fits
+told_key layout (Firm row) fits = absurd fits
+told_key layout (Soft row) fits = absurd fits
 
--- a job that is stored: small, with all its slots left
-pub record IsStoredJob (job : Job) : Type 0 where
-  pub small : IsSmallJob job
+job_whole : (layout : Layout) → ReadsWhole (job_form layout) (λ _. ⊤)
+job_whole layout = record {
+  of_read = λ input job rest h.
+      step ((key_form layout).read input) h (λ key i1 r1 h.
+      step ((slots_form layout).read i1) h (λ est i2 r2 h.
+      step ((slots_form layout).read i2) h (λ dl i3 r3 h.
+      step ((slots_form layout).read i3) h (λ declared i4 r4 h.
+      let made : Job = record { key = key; est = est; dl = dl; left = declared; declared = declared } in
+      let same = ok_same (made, i4) (job, rest) h in
+      let (t1, _) = (key_whole layout).of_read input key i1 r1 in
+      let (t2, _) = (slots_whole layout).of_read i1 est i2 r2 in
+      let (t3, _) = (slots_whole layout).of_read i2 dl i3 r3 in
+      let (t4, _) = (slots_whole layout).of_read i3 declared i4 r4 in
+      let takes : Takes input ((job_form layout).written made) i4 = Takes-then t1 (Takes-then t2 (Takes-then t3 (Takes-then t4 (takes_nothing i4)))) in
+      subst (λ (y : Job × Unread). Takes input ((job_form layout).written y.0) y.1 × ⊤) same (takes, tt)))));
+}
+
+-- a job that is stored: its numbers have room, and it has all its slots left
+pub record IsStoredJob (layout : Layout) (job : Job) : Type 0 where
+  pub fits : FitsJob layout job
   pub fresh : job.left ≡ job.declared
 
-job_again : (whole : ℕ) (job : Job) (tail : List ℕ) → IsStoredJob job → job_at layout_1 (at whole (spelled_job layout_1 job ++ tail)) ≡ Ok (job, at whole tail)
-job_again whole job tail stored =
-    let s = stored.small in
-    let same : fresh job.key job.est job.dl job.declared ≡ job = λ i. record job { left = sym stored.fresh i } in
-    subst (λ (j : Job). job_at layout_1 (at whole (spelled_job layout_1 j ++ tail)) ≡ Ok (j, at whole tail)) same (fresh_again whole job.key job.est job.dl job.declared tail s.key s.est s.dl s.declared)
+job_back : (layout : Layout) (job : Job) → FitsJob layout job → ReadsBack (job_form layout) job
+job_back layout job fits = record {
+  again = λ whole tail.
+      let key = (key_form layout).written job.key in
+      let est = (slots_form layout).written job.est in
+      let dl = (slots_form layout).written job.dl in
+      let declared = (slots_form layout).written job.declared in
+      let text : (job_form layout).written job ++ tail ≡ key ++ (est ++ (dl ++ (declared ++ tail))) = regroup key est dl declared tail in
+      ap (λ left. (job_form layout).read (at whole left)) text ∙ rw (
+        (key_back layout job.key fits.key).again whole (est ++ (dl ++ (declared ++ tail))),
+        (slots_back layout job.est fits.est).again whole (dl ++ (declared ++ tail)),
+        (slots_back layout job.dl fits.dl).again whole (declared ++ tail),
+        (slots_back layout job.declared fits.declared).again whole tail,
+      ) refl;
+}
+  where
+    regroup : (a b d e tail : List ℕ) → (a ++ (b ++ (d ++ (e ++ [])))) ++ tail ≡ a ++ (b ++ (d ++ (e ++ tail)))
+    regroup a b d e tail = simp append_assoc
+
+told_job : (layout : Layout) (job : Job) → IsStoredJob layout job → (job_form layout).told job ≡ job
+told_job layout job stored =
+    λ i. record job { key = told_key layout job.key stored.fits.key i; left = sym stored.fresh i }
 
 -- ---- a span
 
-capacity_takes : (input : Unread) (z : ℤ) (rest : Unread) → capacity_at layout_1 input ≡ Ok (z, rest) → Takes input (to_le_bytes w32 (cast_unsigned w32 z)) rest
-capacity_takes input z rest h =
-    step (number_at w32 input) h (λ bits after read h.
-    let same = value_same {a = (cast_signed w32 bits, after)} {b = (z, rest)} h in
-    let t = number_takes w32 (2 ^ 32) wide32 input bits after read in
-    let takes : Takes input (to_le_bytes w32 (cast_unsigned w32 (cast_signed w32 bits))) after = record {
-      parts = λ bytes. t.parts bytes ∙ ap (λ n. to_le_bytes w32 n ++ after.left) (sym (of_z-to_z w32 bits (number_below w32 (2 ^ 32) wide32 input bits after bytes read)));
-      whole = t.whole;
-      bytes = t.bytes;
-    } in
-    subst (λ (y : ℤ × Unread). Takes input (to_le_bytes w32 (cast_unsigned w32 y.0)) y.1) same takes)
+span_whole : (layout : Layout) → ReadsWhole (span_form layout) (λ _. ⊤)
+span_whole layout = record {
+  of_read = λ input span rest h.
+      step ((slots_form layout).read input) h (λ start i1 r1 h.
+      step ((slots_form layout).read i1) h (λ end i2 r2 h.
+      step ((slots_form layout).read i2) h (λ work i3 r3 h.
+      step ((spare_form layout).read i3) h (λ spare i4 r4 h.
+      let made : Span = record { start = start; end = end; work = work; spare = spare } in
+      let same = ok_same (made, i4) (span, rest) h in
+      let (t1, _) = (slots_whole layout).of_read input start i1 r1 in
+      let (t2, _) = (slots_whole layout).of_read i1 end i2 r2 in
+      let (t3, _) = (slots_whole layout).of_read i2 work i3 r3 in
+      let (t4, _) = (spare_whole layout).of_read i3 spare i4 r4 in
+      let takes : Takes input ((span_form layout).written made) i4 = Takes-then t1 (Takes-then t2 (Takes-then t3 (Takes-then t4 (takes_nothing i4)))) in
+      subst (λ (y : Span × Unread). Takes input ((span_form layout).written y.0) y.1 × ⊤) same (takes, tt)))));
+}
 
-bits-lt : (z : ℤ) → FitsSigned w32 z → cast_unsigned w32 z < 2 ^ 32
-bits-lt z fits = omega (arith, ints)
-
-capacity_again : (whole : ℕ) (z : ℤ) (tail : List ℕ) → FitsSigned w32 z → capacity_at layout_1 (at whole (to_le_bytes w32 (cast_unsigned w32 z) ++ tail)) ≡ Ok (z, at whole tail)
-capacity_again whole z tail fits =
-    rw (number_again w32 (2 ^ 32) wide32 whole (cast_unsigned w32 z) tail (bits-lt z fits), to_z-of_z w32 z fits) refl
-
-span_takes : (input : Unread) (span : Span) (rest : Unread) → span_at layout_1 input ≡ Ok (span, rest) → Takes input (spelled_span layout_1 span) rest
-span_takes input span rest h =
-    step (number_at w16 input) h (λ start i1 r1 h.
-    step (number_at w16 i1) h (λ end i2 r2 h.
-    step (number_at w16 i2) h (λ work i3 r3 h.
-    step (capacity_at layout_1 i3) h (λ spare i4 r4 h.
-    let made : Span = record { start = start; end = end; work = work; spare = spare } in
-    let same = value_same {a = (made, i4)} {b = (span, rest)} h in
-    let number = number_takes w16 (2 ^ 16) wide16 in
-    let takes : Takes input (spelled_span layout_1 made) i4 = Takes-then (Takes-then (Takes-then (number input start i1 r1) (number i1 end i2 r2)) (number i2 work i3 r3)) (capacity_takes i3 spare i4 r4) in
-    subst (λ (y : Span × Unread). Takes input (spelled_span layout_1 y.0) y.1) same takes))))
-
-fits-from_bounds : (z : ℤ) → neg_ℤ (pos (2 ^ 31)) ≤ℤ z → z <ℤ pos (2 ^ 31) → FitsSigned w32 z
-fits-from_bounds z low high = search rules
-
-span_again : (whole : ℕ) (span : Span) (tail : List ℕ) → IsSmallSpan span → span_at layout_1 (at whole (spelled_span layout_1 span ++ tail)) ≡ Ok (span, at whole tail)
-span_again whole span tail small =
-    let number = number_again w16 (2 ^ 16) wide16 whole in
-    let a = to_le_bytes w32 (cast_unsigned w32 span.spare) ++ tail in
-    let b = to_le_bytes w16 span.work ++ a in
-    let d = to_le_bytes w16 span.end ++ b in
-    rw (
-      number span.start d small.start,
-      number span.end b small.end,
-      number span.work a small.work,
-      capacity_again whole span.spare tail (fits-from_bounds span.spare small.low small.high),
-    ) refl
+span_back : (layout : Layout) (span : Span) → FitsSpan layout span → ReadsBack (span_form layout) span
+span_back layout span fits = record {
+  again = λ whole tail.
+      let start = (slots_form layout).written span.start in
+      let end = (slots_form layout).written span.end in
+      let work = (slots_form layout).written span.work in
+      let spare = (spare_form layout).written span.spare in
+      let text : (span_form layout).written span ++ tail ≡ start ++ (end ++ (work ++ (spare ++ tail))) = regroup start end work spare tail in
+      ap (λ left. (span_form layout).read (at whole left)) text ∙ rw (
+        (slots_back layout span.start fits.start).again whole (end ++ (work ++ (spare ++ tail))),
+        (slots_back layout span.end fits.end).again whole (work ++ (spare ++ tail)),
+        (slots_back layout span.work fits.work).again whole (spare ++ tail),
+        (spare_back layout span.spare fits.spare).again whole tail,
+      ) refl;
+}
+  where
+    regroup : (a b d e tail : List ℕ) → (a ++ (b ++ (d ++ (e ++ [])))) ++ tail ≡ a ++ (b ++ (d ++ (e ++ tail)))
+    regroup a b d e tail = simp append_assoc
 
 -- ---- lists
 
-count_same_takes : (wrong : ℕ → ℕ → TableFault) (n : ℕ) (input : Unread) (m : ℕ) (rest : Unread) → same_count wrong n input ≡ Ok (m, rest) → Takes input (spelled_many n) rest
-count_same_takes wrong n input m rest h =
-    step (number_at w32 input) h (λ stored after read h.
-    let (same, h) = passes (stored == n) (done stored) (wrong stored n) after (m, rest) h in
-    let values = value_same {a = (stored, after)} {b = (m, rest)} h in
-    let takes = number_takes w32 (2 ^ 32) wide32 input stored after read in
-    let one : Takes input (spelled_many n) after = subst (λ k. Takes input (spelled_many k) after) (same_numbers stored n same) takes in
-    subst (λ (y : ℕ × Unread). Takes input (spelled_many n) y.1) values one)
-
-count_same_again : (wrong : ℕ → ℕ → TableFault) (n whole : ℕ) (tail : List ℕ) → n < 2 ^ 32 → same_count wrong n (at whole (spelled_many n ++ tail)) ≡ Ok (n, at whole tail)
-count_same_again wrong n whole tail lt =
-    rw (number_again w32 (2 ^ 32) wide32 whole n tail lt, itself n) refl
-
-same_takes : {X : Type 0} (read : Reader X) (spelled : X → List ℕ) (is_same : X → X → Bool) (wrong : ℕ → X → X → TableFault) → ((input : Unread) (x : X) (rest : Unread) → read input ≡ Ok (x, rest) → Takes input (spelled x) rest) → ((a b : X) → is_same a b ≡ true → a ≡ b) → (i : ℕ) (xs : List X) (input : Unread) (u : ⊤) (rest : Unread) → same_at read is_same wrong i xs input ≡ Ok (u, rest) → Takes input (flat_map spelled xs) rest
-same_takes read spelled is_same wrong takes exact i [] input u rest h =
-    let same = value_same {a = (tt, input)} {b = (u, rest)} h in
-    subst (λ (y : ⊤ × Unread). Takes input [] y.1) same (takes_nothing input)
-same_takes read spelled is_same wrong takes exact i (x ∷ xs) input u rest h =
-    step (read input) h (λ stored after here h.
-    let (same, h) = passes (is_same stored x) (same_at read is_same wrong (i + 1) xs) (wrong i stored x) after (u, rest) h in
-    let first : Takes input (spelled x) after = subst (λ y. Takes input (spelled y) after) (exact stored x same) (takes input stored after here) in
-    let others = same_takes read spelled is_same wrong takes exact (i + 1) xs after u rest h in
-    let both : Takes input (spelled x ++ flat_map spelled xs) rest = Takes-then first others in
-    subst (λ text. Takes input text rest) (sym (flat_map-cons spelled x xs)) both)
-
-same_again : {X : Type 0} (read : Reader X) (spelled : X → List ℕ) (is_same : X → X → Bool) (wrong : ℕ → X → X → TableFault) (P : X → Type 0) → ((whole : ℕ) (x : X) (tail : List ℕ) → P x → read (at whole (spelled x ++ tail)) ≡ Ok (x, at whole tail)) → ((x : X) → is_same x x ≡ true) → (i whole : ℕ) (xs : List X) (tail : List ℕ) → AllByRecursion P xs → same_at read is_same wrong i xs (at whole (flat_map spelled xs ++ tail)) ≡ Ok (tt, at whole tail)
-same_again read spelled is_same wrong P again reflexive i whole [] tail all = refl
-same_again read spelled is_same wrong P again reflexive i whole (x ∷ xs) tail all =
-    let text : flat_map spelled (x ∷ xs) ++ tail ≡ spelled x ++ (flat_map spelled xs ++ tail) = ap (λ t. t ++ tail) (flat_map-cons spelled x xs) ∙ append_assoc (spelled x) (flat_map spelled xs) tail in
-    rw (text, again whole x (flat_map spelled xs ++ tail) all.0, reflexive x) (same_again read spelled is_same wrong P again reflexive (i + 1) whole xs tail all.1)
+-- a count that is the computed one
+count_takes : (wrong : ℕ → ℕ → TableFault) (n : ℕ) (input : Unread) (m : ℕ) (rest : Unread) → (same_count wrong n).read input ≡ Ok (m, rest) → Takes input ((number_form w32).written n) rest
+count_takes wrong n input m rest h =
+    let (takes, same) = (same_count_whole wrong n).of_read input m rest h in
+    subst (λ k. Takes input ((number_form w32).written k) rest) (same_numbers m n same.0) takes
 
 -- the jobs of a table
-pub jobs_takes : (jobs : List Job) (input : Unread) (u : ⊤) (rest : Unread) → jobs_at layout_1 jobs input ≡ Ok (u, rest) → Takes input (spelled_many (length jobs) ++ flat_map (spelled_job layout_1) jobs) rest
-jobs_takes jobs input u rest h =
-    step (same_count WrongJobCount (length jobs) input) h (λ m after counted h.
-    Takes-then (count_same_takes WrongJobCount (length jobs) input m after counted) (same_takes (job_at layout_1) (spelled_job layout_1) is_same_job WrongJob job_takes same_job 0 jobs after u rest h))
+pub jobs_whole : (layout : Layout) (computed : List Job) → ReadsWhole (jobs_form layout computed) (λ jobs. computed ≡ jobs)
+jobs_whole layout computed = record {
+  of_read = λ input jobs rest h.
+      step ((same_count WrongJobCount (length computed)).read input) {f = λ _. (stored (job_form layout) is_same_job WrongJob computed).read} h (λ n after r1 h.
+      let first = count_takes WrongJobCount (length computed) input n after r1 in
+      let (second, same) = (stored_whole is_same_job WrongJob (job_whole layout) same_job computed).of_read after jobs rest h in
+      let first : Takes input ((number_form w32).written (length jobs)) after = subst (λ (js : List Job). Takes input ((number_form w32).written (length js)) after) same first in
+      (Takes-then first second, same));
+}
 
-pub jobs_again : (jobs : List Job) (whole : ℕ) (tail : List ℕ) → length jobs < 2 ^ 32 → AllByRecursion IsStoredJob jobs → jobs_at layout_1 jobs (at whole ((spelled_many (length jobs) ++ flat_map (spelled_job layout_1) jobs) ++ tail)) ≡ Ok (tt, at whole tail)
-jobs_again jobs whole tail few all =
-    let listed = flat_map (spelled_job layout_1) jobs in
-    ap (λ left. jobs_at layout_1 jobs (at whole left)) (append_assoc (spelled_many (length jobs)) listed tail) ∙ rw (count_same_again WrongJobCount (length jobs) whole (listed ++ tail) few) (same_again (job_at layout_1) (spelled_job layout_1) is_same_job WrongJob IsStoredJob job_again same_job-itself 0 whole jobs tail all)
+pub jobs_back : (layout : Layout) (jobs : List Job) → length jobs < 2 ^ 32 → AllByRecursion (IsStoredJob layout) jobs → ReadsBack (jobs_form layout jobs) jobs
+jobs_back layout jobs few all = record {
+  again = λ whole tail.
+      let count = (number_form w32).written (length jobs) in
+      let listed = flat_map (job_form layout).written jobs in
+      ap (λ left. (jobs_form layout jobs).read (at whole left)) (append_assoc count listed tail)
+      ∙ rw ((same_count_back WrongJobCount (length jobs) few).again whole (listed ++ tail)) ((stored_back (job_form layout) is_same_job WrongJob same_job-itself jobs (each_job jobs all)).again whole tail);
+}
+  where
+    each_job : (js : List Job) → AllByRecursion (IsStoredJob layout) js → AllByRecursion (λ j. ReadsBack (job_form layout) j × ((job_form layout).told j ≡ j)) js
+    each_job [] all = tt
+    each_job (j ∷ js) all = ((job_back layout j all.0.fits, told_job layout j all.0), each_job js all.1)
 
 -- and the spans
-pub spans_takes : (spans : List Span) (input : Unread) (u : ⊤) (rest : Unread) → spans_at layout_1 spans input ≡ Ok (u, rest) → Takes input (spelled_many (length spans) ++ flat_map (spelled_span layout_1) spans) rest
-spans_takes spans input u rest h =
-    step (same_count WrongSpanCount (length spans) input) h (λ m after counted h.
-    Takes-then (count_same_takes WrongSpanCount (length spans) input m after counted) (same_takes (span_at layout_1) (spelled_span layout_1) is_same_span WrongSpan span_takes same_span 0 spans after u rest h))
+pub spans_whole : (layout : Layout) (computed : List Span) → ReadsWhole (spans_form layout computed) (λ spans. computed ≡ spans)
+spans_whole layout computed = record {
+  of_read = λ input spans rest h.
+      step ((same_count WrongSpanCount (length computed)).read input) {f = λ _. (stored (span_form layout) is_same_span WrongSpan computed).read} h (λ n after r1 h.
+      let first = count_takes WrongSpanCount (length computed) input n after r1 in
+      let (second, same) = (stored_whole is_same_span WrongSpan (span_whole layout) same_span computed).of_read after spans rest h in
+      let first : Takes input ((number_form w32).written (length spans)) after = subst (λ (ss : List Span). Takes input ((number_form w32).written (length ss)) after) same first in
+      (Takes-then first second, same));
+}
 
-pub spans_again : (spans : List Span) (whole : ℕ) (tail : List ℕ) → length spans < 2 ^ 32 → AllByRecursion IsSmallSpan spans → spans_at layout_1 spans (at whole ((spelled_many (length spans) ++ flat_map (spelled_span layout_1) spans) ++ tail)) ≡ Ok (tt, at whole tail)
-spans_again spans whole tail few all =
-    let listed = flat_map (spelled_span layout_1) spans in
-    ap (λ left. spans_at layout_1 spans (at whole left)) (append_assoc (spelled_many (length spans)) listed tail) ∙ rw (count_same_again WrongSpanCount (length spans) whole (listed ++ tail) few) (same_again (span_at layout_1) (spelled_span layout_1) is_same_span WrongSpan IsSmallSpan span_again same_span-itself 0 whole spans tail all)
+pub spans_back : (layout : Layout) (spans : List Span) → length spans < 2 ^ 32 → AllByRecursion (FitsSpan layout) spans → ReadsBack (spans_form layout spans) spans
+spans_back layout spans few all = record {
+  again = λ whole tail.
+      let count = (number_form w32).written (length spans) in
+      let listed = flat_map (span_form layout).written spans in
+      ap (λ left. (spans_form layout spans).read (at whole left)) (append_assoc count listed tail)
+      ∙ rw ((same_count_back WrongSpanCount (length spans) few).again whole (listed ++ tail)) ((stored_back (span_form layout) is_same_span WrongSpan same_span-itself spans (each_span spans all)).again whole tail);
+}
+  where
+    each_span : (ss : List Span) → AllByRecursion (FitsSpan layout) ss → AllByRecursion (λ s. ReadsBack (span_form layout) s × ((span_form layout).told s ≡ s)) ss
+    each_span [] all = tt
+    each_span (s ∷ ss) all = ((span_back layout s all.0, refl), each_span ss all.1)

@@ -1,6 +1,7 @@
 pub mod FaultNumbers
 pub mod FaultTexts
 pub mod Faults
+pub mod Forms
+pub mod Grammar
 pub mod Readers
-pub mod Reading
 pub mod Sizes

@@ -1,15 +1,7 @@
 -- Reading bytes from left to right.
-use Rattle.std.specs.Prelude.{◌≡◌, ◌≢◌, MatchResult, ℕ, zero, suc, ◌+◌, ◌==◌, nat_lt, pos, slice_index, List, [], ◌∷◌, length, take, drop, if◌then◌else◌, Result, Ok, Err}
-use Rattle.std.specs.Int.{Width, w16, byte_len, from_le_bytes}
-use Rattle.slot_core.specs.declared.TheConstants.{NAME_LIMIT}
-use Rattle.slot_core.specs.declared.faults.Part.{Part}
-use Rattle.slot_core.specs.declared.faults.Field.{Field}
-use Rattle.slot_core.specs.declared.faults.Field.TheVariants.{Name}
-use Rattle.slot_core.specs.declared.faults.TaskFault.TheVariants.{Missing, OutOfRange, BadName, TooMany}
-use Rattle.slot_core.specs.Names.{is_name}
-use Rattle.slot_core.specs.Ranges.{is_between}
+use Rattle.std.specs.Prelude.{◌≡◌, ◌≢◌, MatchResult, ℕ, zero, suc, ◌+◌, ◌-◌, ◌==◌, nat_lt, Bool, List, [], ◌∷◌, length, take, drop, if◌then◌else◌, Result, Ok, Err, ⊤}
 use Rattle.table_codec.specs.declared.faults.TableFault.{TableFault}
-use Rattle.table_codec.specs.declared.faults.TableFault.TheVariants.{Memory, Short, BadSource}
+use Rattle.table_codec.specs.declared.faults.TableFault.TheVariants.{Memory, Short, Trailing}
 
 -- the bytes of a table that are not read yet, and the number of all its bytes
 pub record Unread : Type 0 where
@@ -29,18 +21,10 @@ abbrev pub go_on : {X Y : Type 0} → Read X → (X → Reader Y) → Read Y
 go_on (Ok x) f = f x.0 x.1
 go_on (Err fault) f = Err fault
 
-infixl 10 ◌>>=◌
--- one reader after the other
-abbrev pub ◌>>=◌ : {X Y : Type 0} → Reader X → (X → Reader Y) → Reader Y
-(r >>= f) input = go_on (r input) f
-
--- a value that takes no bytes
-abbrev pub done : {X : Type 0} → X → Reader X
-done x input = Ok (x, input)
-
--- a fault at this place
-abbrev pub refuse : {X : Type 0} → TableFault → Reader X
-refuse fault input = Err fault
+-- a result that takes no bytes
+abbrev pub settled : {X : Type 0} → Result X TableFault → Reader X
+settled (Ok x) input = Ok (x, input)
+settled (Err fault) input = Err fault
 
 -- the next n bytes
 abbrev pub bytes_at : ℕ → Reader (List ℕ)
@@ -48,58 +32,31 @@ bytes_at n input =
     if nat_lt (length input.left) n then Err (Short input.whole)
     else Ok (take n input.left, record input { left = drop n input.left })
 
--- the next byte
-abbrev pub byte_at : Reader ℕ
-byte_at = do
-  bytes ← bytes_at 1
-  done (slice_index bytes 0)
-
--- a number of this width
-abbrev pub number_at : Width → Reader ℕ
-number_at w = do
-  bytes ← bytes_at (byte_len w)
-  done (from_le_bytes w bytes)
-
--- a number of the set, from low to high
-abbrev pub within_at : Width → Part → Field → ℕ → ℕ → Reader ℕ
-within_at w part field low high = do
-  n ← number_at w
-  if is_between low high n then done n
-      else refuse (BadSource (OutOfRange (record { part = part; field = field }) (pos n)))
-
--- a count, no more than the limit
-abbrev pub count_at : Part → Field → ℕ → Reader ℕ
-count_at part field limit = do
-  n ← number_at w16
-  if nat_lt limit n then refuse (BadSource (TooMany (record { part = part; field = field }) n))
-      else done n
-
--- a count of one or more, no more than the limit
-abbrev pub some_at : Part → Field → ℕ → Reader ℕ
-some_at part field limit = do
-  n ← count_at part field limit
-  if n == 0 then refuse (BadSource (Missing (record { part = part; field = field }))) else done n
-
--- the fault of a name that is none
-abbrev pub bad_name : Part → TableFault
-bad_name part = BadSource (BadName (record { part = part; field = Name }))
-
--- the text of a name of this length
-abbrev pub text_at : TableFault → ℕ → Reader (List ℕ)
-text_at bad n = do
-  text ← bytes_at n
-  if is_name text then done text else refuse bad
-
--- a name: its length and its bytes
-abbrev pub name_at : Part → Reader (List ℕ)
-name_at part = do
-  n ← byte_at
-  if is_between 1 NAME_LIMIT n then text_at (bad_name part) n else refuse (bad_name part)
+-- the end of the bytes
+abbrev pub end_at : Reader ⊤
+end_at input =
+    if length input.left == 0 then Ok (tt, input)
+    else Err (Trailing (input.whole - length input.left))
 
 -- n things, each by its place, counted from i
 abbrev pub each_at : {X : Type 0} → (ℕ → Reader X) → ℕ → ℕ → Reader (List X)
-each_at f i zero = done []
-each_at f i (suc n) = f i >>= (λ x. each_at f (i + 1) n >>= (λ xs. done (x ∷ xs)))
+each_at f i zero input = Ok ([], input)
+each_at f i (suc n) input =
+    go_on (f i input) (λ x rest. go_on (each_at f (i + 1) n rest) (λ xs last. Ok (x ∷ xs, last)))
+
+-- stored things, each the same as the computed one at its place, counted from i
+abbrev pub same_at :
+    {X : Type 0} → Reader X → (X → X → Bool) → (ℕ → X → X → TableFault) → ℕ → List X → Reader ⊤
+same_at read is_same wrong i [] input = Ok (tt, input)
+same_at read is_same wrong i (x ∷ xs) input =
+    go_on (read input) (λ stored rest.
+    if is_same stored x then same_at read is_same wrong (i + 1) xs rest
+    else Err (wrong i stored x))
+
+-- the value that is read
+abbrev pub value_of : {X : Type 0} → Read X → Result X TableFault
+value_of (Ok x) = Ok x.0
+value_of (Err fault) = Err fault
 
 -- the code's answer is what is read of `old`, as `seen` sees it, and it has left `new` unread; but
 -- memory may run out

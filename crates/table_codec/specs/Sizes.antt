@@ -1,27 +1,39 @@
--- Numbers that have room in the fields of a table of the first version.
-use Rattle.std.specs.Prelude.{◌<◌, ◌^◌, pos, neg_ℤ, ◌≤ℤ◌, ◌<ℤ◌}
+-- Numbers that have room in the fields of a table.
+use Rattle.std.specs.Prelude.{ℕ, ◌<◌, ◌^◌, FitsSigned}
 use Rattle.slot_core.specs.declared.jobs.Key.{Key}
 use Rattle.slot_core.specs.declared.jobs.Key.TheVariants.{Offline}
 use Rattle.slot_core.specs.declared.jobs.Job.{Job}
 use Rattle.slot_core.specs.declared.jobs.Span.{Span}
+use Rattle.table_codec.specs.declared.layout.Layout.{Layout}
+use Rattle.table_codec.specs.declared.layout.NumberWidth.{NumberWidth}
+use Rattle.table_codec.specs.declared.layout.NumberWidth.TheVariants.{Two, Four}
+use Rattle.table_codec.specs.Grammar.{spare_width}
 
--- an offline job's key, with numbers of 16 bits
-abbrev pub IsSmallKey : Key → Type 0
-IsSmallKey (Offline graph task instance) =
-    (graph < 2 ^ 16) × (task < 2 ^ 16) × (instance < 2 ^ 16)
-IsSmallKey _ = ⊥
+-- the first number that has no room in the field of a length or time
+abbrev pub room : NumberWidth → ℕ
+room Two = 2 ^ 16
+room Four = 2 ^ 32
 
--- an offline job, with numbers of 16 bits
-pub record IsSmallJob (job : Job) : Type 0 where
-  pub key : IsSmallKey job.key
-  pub est : job.est < 2 ^ 16
-  pub dl : job.dl < 2 ^ 16
-  pub declared : job.declared < 2 ^ 16
+-- the number has room in the field of a length or time
+abbrev pub Fits : Layout → ℕ → Type 0
+Fits layout n = n < room layout.number
 
--- a span with numbers of 16 bits, and a capacity of 32
-pub record IsSmallSpan (span : Span) : Type 0 where
-  pub start : span.start < 2 ^ 16
-  pub end : span.end < 2 ^ 16
-  pub work : span.work < 2 ^ 16
-  pub low : neg_ℤ (pos (2 ^ 31)) ≤ℤ span.spare
-  pub high : span.spare <ℤ pos (2 ^ 31)
+-- an offline key, whose numbers have room
+abbrev pub FitsKey : Layout → Key → Type 0
+FitsKey layout (Offline graph task instance) =
+    (graph < 2 ^ 16) × (task < 2 ^ 16) × Fits layout instance
+FitsKey layout _ = ⊥
+
+-- an offline job, whose numbers have room
+pub record FitsJob (layout : Layout) (job : Job) : Type 0 where
+  pub key : FitsKey layout job.key
+  pub est : Fits layout job.est
+  pub dl : Fits layout job.dl
+  pub declared : Fits layout job.declared
+
+-- a span, whose numbers and capacity have room
+pub record FitsSpan (layout : Layout) (span : Span) : Type 0 where
+  pub start : Fits layout span.start
+  pub end : Fits layout span.end
+  pub work : Fits layout span.work
+  pub spare : FitsSigned (spare_width layout.spare) span.spare

@@ -4,11 +4,11 @@
 ghost use Rattle.std.specs.Prelude.{◌≡◌, ◌≢◌, ◌++◌, ℕ, List, [], Ok, Err, IfOk, MatchResult};
 ghost use Rattle.slot_core.specs.declared.faults.TaskFault.{TaskFault};
 ghost use Rattle.slot_core.specs.Plans.{IsPlan, PlanParts};
-ghost use Rattle.slot_core.specs.Spelling.{spelling};
 ghost use Rattle.table_codec.specs.Faults.{IsOfSet};
-ghost use Rattle.table_codec.specs.Reading.{AnswersAs, reading_of_table};
+ghost use Rattle.table_codec.specs.Grammar.{AnswersAs, reading_of_table, spelling};
 
 pub mod faults;
+mod layout;
 mod reader;
 mod source;
 mod stored;
@@ -19,20 +19,19 @@ mod writer;
 
 use cycle_plan::Plan;
 pub use faults::TableFault;
+use layout::Layout;
 use reader::Input;
 use slot_core::Memory;
 use std::alloc::Global;
 use table::read_table;
-use writer::{put_jobs, put_set, put_spans};
+use writer::put_table;
 
 /// The bytes of the plan: its one spelling.
 pub fn encode(alloc: Global, plan: &Plan) -> Result<Vec<u8>, Memory>
     ensures { IfOk result (λ bytes. bytes.items ≡ spelling plan.now) }
 {
     let mut out = Vec::new(alloc);
-    put_set(&mut out, plan.tasks())?;
-    put_jobs(&mut out, plan.jobs())?;
-    put_spans(&mut out, plan.spans())?;
+    put_table(&mut out, Layout::first(), plan)?;
     Ok(out)
 }
 

@@ -1,12 +1,13 @@
 //! The fields of a table, from left to right.
 
 ghost use Rattle.std.specs.Prelude.{◌≡◌, ◌≤◌, ◌<◌, IfOk, length};
-ghost use Rattle.std.specs.Int.{w16, w32};
-ghost use Rattle.slot_core.specs.Spelling.{layout_1};
-ghost use Rattle.table_codec.specs.Readers.{Reads, ReadsAs, bad_name, bytes_at, byte_at, count_at, name_at, number_at, some_at, text_at, within_at};
-ghost use Rattle.table_codec.specs.Reading.{capacity_at, end_at};
+ghost use Rattle.std.specs.Int.{w16, w32, w64};
+ghost use Rattle.table_codec.specs.Readers.{Reads, ReadsAs, bytes_at, end_at};
+ghost use Rattle.table_codec.specs.Forms.{bad_name, byte_form, name_form, number_form, one_up_to, signed_form, text_form, up_to};
+ghost use Rattle.table_codec.specs.Grammar.{index_form, range_form, slots_form, spare_form};
 
 use crate::TableFault;
+use crate::layout::{Layout, NumberWidth, SpareWidth};
 use slot_core::{Field, NAME_LIMIT, Name, Part, Place, TaskFault};
 use std::marker::Model;
 
@@ -54,35 +55,65 @@ impl<'a> Input<'a> {
 
     /// The next byte.
     fn byte(&mut self) -> Result<u8, TableFault>
-        ensures { Reads byte_at result self.old self.new }
+        ensures { Reads byte_form.read result self.old self.new }
     {
         let bytes = self.bytes(1)?;
         Ok(bytes[0])
     }
 
-    /// A number of two bytes: an index, a count or the version.
-    pub fn number(&mut self) -> Result<u16, TableFault>
-        ensures { Reads (number_at w16) result self.old self.new }
+    /// An index, a count or the version: a number of two bytes.
+    pub fn index(&mut self) -> Result<u16, TableFault>
+        ensures { Reads index_form.read result self.old self.new }
     {
         let bytes = self.bytes(2)?;
         Ok(u16::from_le_bytes([bytes[0], bytes[1]]))
     }
 
-    /// A length or a time, in slots.
-    pub fn slots(&mut self) -> Result<u32, TableFault>
-        ensures { Reads (number_at layout_1.number) result self.old self.new }
+    /// A number of four bytes, as the count of jobs or spans.
+    pub fn many(&mut self) -> Result<u32, TableFault>
+        ensures { Reads (number_form w32).read result self.old self.new }
     {
-        let number = self.number()?;
-        Ok(u32::from(number))
+        let bytes = self.bytes(4)?;
+        Ok(u32::from_le_bytes([bytes[0], bytes[1], bytes[2], bytes[3]]))
     }
 
-    /// A spare capacity, in slots.
-    pub fn capacity(&mut self) -> Result<i64, TableFault>
-        ensures { Reads (capacity_at layout_1) result self.old self.new }
+    /// A length or a time, in slots.
+    pub fn slots(&mut self, layout: Layout) -> Result<u32, TableFault>
+        ensures { Reads (slots_form layout).read result self.old self.new }
+    {
+        match layout.number {
+            NumberWidth::Two => Ok(u32::from(self.index()?)),
+            NumberWidth::Four => self.many(),
+        }
+    }
+
+    /// A capacity of four bytes.
+    fn short_capacity(&mut self) -> Result<i64, TableFault>
+        ensures { Reads (signed_form w32).read result self.old self.new }
     {
         let bytes = self.bytes(4)?;
         let spare = i32::from_le_bytes([bytes[0], bytes[1], bytes[2], bytes[3]]);
         Ok(i64::from(spare))
+    }
+
+    /// A capacity of eight bytes.
+    fn long_capacity(&mut self) -> Result<i64, TableFault>
+        ensures { Reads (signed_form w64).read result self.old self.new }
+    {
+        let bytes = self.bytes(8)?;
+        Ok(i64::from_le_bytes([
+            bytes[0], bytes[1], bytes[2], bytes[3], bytes[4], bytes[5], bytes[6], bytes[7],
+        ]))
+    }
+
+    /// A spare capacity, in slots.
+    pub fn capacity(&mut self, layout: Layout) -> Result<i64, TableFault>
+        ensures { Reads (spare_form layout).read result self.old self.new }
+    {
+        match layout.spare {
+            SpareWidth::Four => self.short_capacity(),
+            SpareWidth::Eight => self.long_capacity(),
+        }
     }
 
     /// Refuses bytes that follow.
@@ -95,27 +126,20 @@ impl<'a> Input<'a> {
         Ok(())
     }
 
-    /// A count of jobs or spans.
-    pub fn many(&mut self) -> Result<u32, TableFault>
-        ensures { Reads (number_at w32) result self.old self.new }
-    {
-        let bytes = self.bytes(4)?;
-        Ok(u32::from_le_bytes([bytes[0], bytes[1], bytes[2], bytes[3]]))
-    }
-
-    /// A number of the task set, from `low` to `high`.
+    /// A length or a time of the task set, from `low` to `high`.
     pub fn within(
         &mut self,
+        layout: Layout,
         part: Part,
         field: Field,
         low: u32,
         high: u32,
     ) -> Result<u32, TableFault>
-        ensures reading { Reads (within_at layout_1.number part field low high)
+        ensures reading { Reads (range_form layout part field low high).read
             result self.old self.new }
         ensures range { IfOk result (λ n. (low ≤ n) × (n ≤ high)) }
     {
-        let number = u32::from(self.number()?);
+        let number = self.slots(layout)?;
         if number < low || number > high {
             let place = Place { part, field };
             return Err(TableFault::BadSource(TaskFault::OutOfRange(place, i64::from(number))));
@@ -125,10 +149,10 @@ impl<'a> Input<'a> {
 
     /// A count of no more than `limit`.
     pub fn count(&mut self, part: Part, field: Field, limit: usize) -> Result<u16, TableFault>
-        ensures reading { Reads (count_at part field limit) result self.old self.new }
+        ensures reading { Reads (up_to part field limit).read result self.old self.new }
         ensures few { IfOk result (λ n. n ≤ limit) }
     {
-        let count = self.number()?;
+        let count = self.index()?;
         if usize::from(count) > limit {
             let place = Place { part, field };
             return Err(TableFault::BadSource(TaskFault::TooMany(place, u32::from(count))));
@@ -138,7 +162,7 @@ impl<'a> Input<'a> {
 
     /// A count of one or more, and no more than `limit`.
     pub fn some(&mut self, part: Part, field: Field, limit: usize) -> Result<u16, TableFault>
-        ensures { Reads (some_at part field limit) result self.old self.new }
+        ensures { Reads (one_up_to part field limit).read result self.old self.new }
     {
         let count = self.count(part, field, limit)?;
         if count == 0 {
@@ -150,7 +174,7 @@ impl<'a> Input<'a> {
 
     /// A name.
     pub fn name(&mut self, part: Part) -> Result<Name, TableFault>
-        ensures { Reads (name_at part) result self.old self.new }
+        ensures { Reads (name_form part).read result self.old self.new }
     {
         let length = usize::from(self.byte()?);
         if length < 1 || length > NAME_LIMIT {
@@ -161,7 +185,7 @@ impl<'a> Input<'a> {
 
     /// The text of a name of this length.
     fn text(&mut self, part: Part, length: usize) -> Result<Name, TableFault>
-        ensures { Reads (text_at (bad_name part) length) result self.old self.new }
+        ensures { Reads (text_form part length).read result self.old self.new }
     {
         let text = self.bytes(length)?;
         Name::of(text).ok_or(bad_name(part))

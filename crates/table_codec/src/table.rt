@@ -3,11 +3,11 @@
 ghost use Rattle.std.specs.Prelude.{◌≡◌, true, IfOk};
 ghost use Rattle.slot_core.specs.Plans.{IsPlan};
 ghost use Rattle.slot_core.specs.Ranges.{is_in_range, is_sound};
-ghost use Rattle.slot_core.specs.Spelling.{layout_1};
-ghost use Rattle.table_codec.specs.Readers.{Reads, ReadsAs, Unread};
-ghost use Rattle.table_codec.specs.Reading.{head_at, plan_at, plan_of, set_at, sound_set, source_at, stored_at, whole_plan};
+ghost use Rattle.table_codec.specs.Readers.{Reads, ReadsAs, Unread, settled};
+ghost use Rattle.table_codec.specs.Grammar.{head_form, layout_1, plan_form, plan_of, set_form, sound_set, source_form, stored_form, table_form};
 
 use crate::TableFault;
+use crate::layout::Layout;
 use crate::reader::Input;
 use crate::source::read_set;
 use crate::stored::{check_jobs, check_spans};
@@ -16,28 +16,22 @@ use slot_core::TaskSet;
 use source_check::check;
 use std::alloc::Global;
 
-/// The version of a table.
-const VERSION: u16 = 1;
-
-/// Refuses what does not begin as a table of the first version.
-fn check_head(input: &mut Input) -> Result<(), TableFault>
-    ensures { ReadsAs (λ _. layout_1) head_at result input.old input.new }
+/// The layout of a table, by its head.
+fn read_head(input: &mut Input) -> Result<Layout, TableFault>
+    ensures { Reads head_form.read result input.old input.new }
 {
     let magic = input.bytes(4)?;
     if magic != b"SLOT".as_slice() {
         return Err(TableFault::BadMagic);
     }
-    let version = input.number()?;
-    if version != VERSION {
-        return Err(TableFault::BadVersion(version));
-    }
-    Ok(())
+    let version = input.index()?;
+    Layout::of(version)
 }
 
 /// Refuses a set that is not sound.
 fn check_set(alloc: Global, set: &TaskSet) -> Result<(), TableFault>
     requires { is_in_range set.now ≡ true }
-    ensures { (input : Unread) → ReadsAs (λ _. set.now) (sound_set set.now) result input input }
+    ensures { (input : Unread) → ReadsAs (λ _. set.now) (settled (sound_set set.now)) result input input }
 {
     check(alloc, set)?;
     Ok(())
@@ -46,7 +40,7 @@ fn check_set(alloc: Global, set: &TaskSet) -> Result<(), TableFault>
 /// The plan of a sound set.
 fn plan_of(alloc: Global, set: TaskSet) -> Result<Plan, TableFault>
     requires { is_sound set ≡ true }
-    ensures reading { (input : Unread) → Reads (plan_of set) result input input }
+    ensures reading { (input : Unread) → Reads (settled (plan_of set)) result input input }
     ensures plan { IfOk result IsPlan }
 {
     let plan = make_plan(alloc, set)?;
@@ -54,42 +48,42 @@ fn plan_of(alloc: Global, set: TaskSet) -> Result<Plan, TableFault>
 }
 
 /// A sound set.
-fn read_source(alloc: Global, input: &mut Input) -> Result<TaskSet, TableFault>
-    ensures reading { Reads (source_at layout_1) result input.old input.new }
+fn read_source(alloc: Global, input: &mut Input, layout: Layout) -> Result<TaskSet, TableFault>
+    ensures reading { Reads (source_form layout).read result input.old input.new }
     ensures sound { IfOk result (λ set. is_sound set ≡ true) }
 {
-    let set = read_set(alloc, input)?;
+    let set = read_set(alloc, input, layout)?;
     check_set(alloc, &set)?;
     Ok(set)
 }
 
 /// Refuses stored jobs and spans that are not those of the plan.
-fn check_stored(input: &mut Input, plan: &Plan) -> Result<(), TableFault>
-    ensures { ReadsAs (λ _. plan.now) (stored_at layout_1 plan.now) result input.old input.new }
+fn check_stored(input: &mut Input, layout: Layout, plan: &Plan) -> Result<(), TableFault>
+    ensures { ReadsAs (λ _. plan.now) (stored_form layout plan.now).read result input.old input.new }
 {
-    check_jobs(input, plan.jobs())?;
-    check_spans(input, plan.spans())?;
+    check_jobs(input, layout, plan.jobs())?;
+    check_spans(input, layout, plan.spans())?;
     Ok(())
 }
 
 /// The plan of the set, where it is the stored one.
-fn read_plan(alloc: Global, input: &mut Input) -> Result<Plan, TableFault>
-    ensures reading { Reads (plan_at layout_1) result input.old input.new }
+fn read_plan(alloc: Global, input: &mut Input, layout: Layout) -> Result<Plan, TableFault>
+    ensures reading { Reads (plan_form layout).read result input.old input.new }
     ensures plan { IfOk result IsPlan }
 {
-    let set = read_source(alloc, input)?;
+    let set = read_source(alloc, input, layout)?;
     let plan = plan_of(alloc, set)?;
-    check_stored(input, &plan)?;
+    check_stored(input, layout, &plan)?;
     Ok(plan)
 }
 
 /// The plan of a whole table.
 pub fn read_table(alloc: Global, input: &mut Input) -> Result<Plan, TableFault>
-    ensures reading { Reads whole_plan result input.old input.new }
+    ensures reading { Reads (table_form layout_1).read result input.old input.new }
     ensures plan { IfOk result IsPlan }
 {
-    check_head(input)?;
-    let plan = read_plan(alloc, input)?;
+    let layout = read_head(input)?;
+    let plan = read_plan(alloc, input, layout)?;
     input.end()?;
     Ok(plan)
 }

@@ -1,5 +1,5 @@
 use Rattle.std.proofs.Common.{arith}
-use Rattle.table_codec.proofs.SourceFaults.{source-of_set}
+use Rattle.table_codec.proofs.Refusals.{source-of_set}
 use Rattle.table_codec.proofs.TableLaws.{spelled-from_answer, every-from_answer, source-from_answer}
 use Rattle.table_codec.proofs.decode.Goals as goal
 

@@ -1,12 +1,12 @@
 use Rattle.std.proofs.lemmas.Result.{err_from_is_err_and}
-use Rattle.slot_core.specs.Spelling.{layout_1}
 use Rattle.table_codec.specs.declared.faults.TableFault.TheVariants.{WrongSpan}
-use Rattle.table_codec.specs.Reading.{is_same_span, span_at, same_at}
+use Rattle.table_codec.specs.Grammar.{is_same_span, span_form}
+use Rattle.table_codec.specs.Readers.{same_at}
 use Rattle.table_codec.proofs.SameSteps.{ends}
 use Rattle.table_codec.proofs.stored.check_each_span.Goals as goal
 
 pub returns-in_err-stored : goal.returns-in_err-stored
 returns-in_err-stored c =
-    let all = same_at (span_at layout_1) is_same_span WrongSpan 0 c.args.spans.now c.args.input.now in
+    let all = same_at (span_form c.args.layout).read is_same_span WrongSpan 0 c.args.spans.now c.args.input.now in
     let p = err_from_is_err_and c.from_residual.result c.from_residual.ensures.1 in
-    rw (p.1, p.2) (ends (span_at layout_1) is_same_span WrongSpan c.args.spans.now c.loop-place.place c.in_err-stored.field-0.0 c.loop-place.input all c.loop-place-test.true c.in_err-stored.ensures c.loop-place.invariant)
+    rw (p.1, p.2) (ends (span_form c.args.layout).read is_same_span WrongSpan c.args.spans.now c.loop-place.place c.in_err-stored.field-0.0 c.loop-place.input all c.loop-place-test.true c.in_err-stored.ensures c.loop-place.invariant)

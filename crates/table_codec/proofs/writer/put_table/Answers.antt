@@ -1,9 +1,9 @@
 -- The numbers of a plan have room in their fields.
 use Rattle.std.proofs.Common.{◌<◌, ◌^◌, length, sym, subst, arith}
 use Rattle.std.specs.Prelude.{All}
-use Rattle.table_codec.specs.Sizes.{IsSmallJob, IsSmallSpan}
-use Rattle.table_codec.proofs.PlanSizes.{few_jobs, all_small_jobs, few_spans, all_small_spans}
-use Rattle.table_codec.proofs.encode.Goals as goal
+use Rattle.table_codec.specs.Sizes.{FitsJob, FitsSpan}
+use Rattle.table_codec.proofs.PlanSizes.{few_jobs, all_fitting_jobs, few_spans, all_fitting_spans}
+use Rattle.table_codec.proofs.writer.put_table.Goals as goal
 
 pub put_jobs-requires-clause-few : goal.put_jobs-requires-clause-few
 put_jobs-requires-clause-few c =
@@ -12,7 +12,7 @@ put_jobs-requires-clause-few c =
 
 pub put_jobs-requires-clause-small : goal.put_jobs-requires-clause-small
 put_jobs-requires-clause-small c =
-    subst (All IsSmallJob) (sym c.jobs.ensures.jobs) (all_small_jobs c.args.plan.now c.jobs.ensures.plan)
+    subst (All (FitsJob c.args.layout)) (sym c.jobs.ensures.jobs) (all_fitting_jobs c.args.layout c.args.plan.now c.jobs.ensures.plan)
 
 pub put_spans-requires-clause-few : goal.put_spans-requires-clause-few
 put_spans-requires-clause-few c =
@@ -21,4 +21,4 @@ put_spans-requires-clause-few c =
 
 pub put_spans-requires-clause-small : goal.put_spans-requires-clause-small
 put_spans-requires-clause-small c =
-    subst (All IsSmallSpan) (sym c.spans.ensures.spans) (all_small_spans c.args.plan.now c.spans.ensures.plan)
+    subst (All (FitsSpan c.args.layout)) (sym c.spans.ensures.spans) (all_fitting_spans c.args.layout c.args.plan.now c.spans.ensures.plan)
