@@ -61,8 +61,11 @@ impl Chart {
         Ok(Chart { slots, tracks })
     }
 
-    /// Writes the chart of the set that it was made with, one put a line. It ends at the first line
-    /// that is not written, and takes no memory.
+    /// Writes the first line and a line for each row, labelled by a set that has the rows of the
+    /// chart, as the set that it was made for has. After an error a part of that text is written,
+    /// from its front, and the sink has counted a fault.
+    ///
+    /// It is done by one put a line, up to the first that fails.
     pub fn print<K: Sink>(&self, tasks: &TaskSet, out: &mut K) -> Result<(), Failed>
         requires { IsChartOf tasks.now self.now }
         ensures text { OnOk result

@@ -63,7 +63,8 @@ impl fmt::Display for Refusal {
         match self {
             Refusal::Usage => write!(
                 f,
-                "usage: slotshift check T, table T, show B, replay T A N, replay-table B A N, gantt T A N, selfrun N"
+                "usage: slotshift check T, table T, show B, replay T A N, \
+                 replay-table B A N, gantt T A N, selfrun N"
             ),
             Refusal::Unreadable(file) => write!(f, "cannot read {file}"),
             Refusal::TooLarge(file) => write!(f, "too large {file} {}", file.limit()),

@@ -57,7 +57,8 @@ fn fixed_line(refusal: Refusal) -> Option<&'static [u8]>
 {
     match refusal {
         Refusal::Usage => Some(
-            b"usage: slotshift check T, table T, show B, replay T A N, replay-table B A N, gantt T A N, selfrun N\n",
+            b"usage: slotshift check T, table T, show B, replay T A N, \
+              replay-table B A N, gantt T A N, selfrun N\n",
         ),
         Refusal::WriteFault => Some(b"cannot write\n"),
         Refusal::Memory => Some(OUT_OF_MEMORY),

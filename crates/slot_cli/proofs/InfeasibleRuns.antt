@@ -1,30 +1,34 @@
--- The set of a run that is refused as infeasible.
-use Rattle.std.proofs.Common.{◌≡◌, ℕ, ◌≤◌, Bool, true, false, List, length, Option, None, Some, Result, Ok, Err, refl, ap, arith}
+-- The set of a run that is refused since it is infeasible.
+use Rattle.std.proofs.Common.{◌≡◌, ℕ, ◌≤◌, Bool, true, false, List, length, Option, None, Some, Result, Ok, Err, refl, sym, ap, subst, ◌∙◌, arith}
 use Rattle.std.specs.Prelude.{nat_lt, if◌then◌else◌}
 use Rattle.std.specs.Option.{option_map_or}
 use Rattle.std.specs.Result.{result_map_both}
 use Rattle.slot_core.specs.Results.{◌>>=◌}
-use Rattle.slot_core.specs.declared.faults.TaskFault.{TaskFault}
 use Rattle.slot_core.specs.declared.jobs.Window.{Window}
 use Rattle.slot_core.specs.declared.tasks.TaskSet.{TaskSet}
 use Rattle.slot_core.specs.Cycles.{cycle_of}
 use Rattle.slot_core.specs.Feasible.{counterexample}
-use Rattle.slot_core.specs.Plans.{PlanParts}
+use Rattle.slot_core.specs.Plans.{PlanParts, planned}
+use Rattle.slot_core.specs.Ranges.{is_sound}
 use Rattle.slot_io.specs.Files.{Held, first_bytes}
 use Rattle.table_codec.specs.declared.faults.TableFault.{TableFault}
-use Rattle.table_codec.specs.Reading.{planned, reading_of_table}
+use Rattle.table_codec.specs.declared.faults.TableFault.TheVariants.{Infeasible as NoPlan}
+use Rattle.table_codec.specs.Grammar.{reading_of_table}
+use Rattle.table_codec.proofs.Refusals.{IsTableSet-refused}
 use Rattle.task_toml.specs.Reading.{reading_of_tasks}
 use Rattle.run_outcome.specs.declared.file.File.{File}
 use Rattle.run_outcome.specs.declared.file.File.TheVariants.{Tasks as TaskFile, Table as TableFile}
 use Rattle.run_outcome.specs.declared.refusal.Refusal.{Refusal}
-use Rattle.run_outcome.specs.declared.refusal.Refusal.TheVariants.{Unreadable, TooLarge, BadTasks, BadTable, Infeasible}
+use Rattle.run_outcome.specs.declared.refusal.Refusal.TheVariants.{Usage, Unreadable, TooLarge, BadTasks, BadTable, Infeasible}
 use Rattle.run_outcome.specs.Refusals.{Outcome, name_of, limit_of}
 use Rattle.slot_cli.specs.declared.command.Command.{Command}
 use Rattle.slot_cli.specs.declared.command.Source.{Source}
 use Rattle.slot_cli.specs.declared.command.Source.TheVariants.{Tasks, Spelled, Load}
 use Rattle.slot_cli.specs.Commands.{command_of, source_of}
 use Rattle.slot_cli.specs.Due.{limited_bytes, bytes_of, sound_set, feasible_plan, planned_plan, spelled_plan, plan_from, due_of, expected}
-use Rattle.slot_cli.specs.Runs.{stage_due}
+use Rattle.slot_cli.specs.Runs.{stage_of, stage_due}
+use Rattle.slot_cli.specs.Verdicts.{set_of_table, spelled_set, set_from, set_of_run}
+use Rattle.slot_cli.proofs.RunPlans.{is_sound-from_bytes}
 use Rattle.slot_cli.proofs.StageLemmas.{stage-after, text_after}
 
 -- a refusal that the first of two steps does not give is that of the second
@@ -32,66 +36,123 @@ second_refuses : {X Y : Type 0} (first : Outcome X) (next : X → Outcome Y) (e 
 second_refuses (Ok x) next e apart is = (x, refl, is)
 second_refuses (Err other) next e apart is = let same : other ≡ e = cc in absurd (apart (ap Err same))
 
--- a file that is read is not refused as infeasible, nor is the reading of a set or a table
-limited_bytes-not_infeasible : (file : File) (bytes : List ℕ) (large : Bool) (window : Window) → (let o : Outcome (List ℕ) = if large then Err (TooLarge file) else Ok bytes in o) ≡ Err (Infeasible window) → ⊥
-limited_bytes-not_infeasible file bytes true window is = cc
-limited_bytes-not_infeasible file bytes false window is = cc
+-- a step after one that gives a value
+step_after : {X Y : Type 0} (first : Outcome X) (next : X → Outcome Y) (x : X) (y : Outcome Y) → first ≡ Ok x → next x ≡ y → (first >>= next) ≡ y
+step_after (Ok given) next x y is after = let same : given ≡ x = cc in ap next same ∙ after
+step_after (Err e) next x y is after = cc
 
-read-not_infeasible : (file : File) (o : Option (List ℕ)) (window : Window) → option_map_or (limited_bytes file) o (Err (Unreadable file)) ≡ Err (Infeasible window) → ⊥
-read-not_infeasible file None window is = cc
-read-not_infeasible file (Some bytes) window is = limited_bytes-not_infeasible file bytes (nat_lt (limit_of file) (length bytes)) window is
+-- the refusal of a file that is read, where it is none of the two that a reading gives
+limited_bytes-apart : (file : File) (bytes : List ℕ) (large : Bool) (e : Refusal) → (TooLarge file ≡ e → ⊥) → (let o : Outcome (List ℕ) = if large then Err (TooLarge file) else Ok bytes in o) ≡ Err e → ⊥
+limited_bytes-apart file bytes true e apart is = let same : TooLarge file ≡ e = cc in apart same
+limited_bytes-apart file bytes false e apart is = cc
 
-bytes-not_infeasible : (held : Held) (words : List (List ℕ)) (file : File) (window : Window) → bytes_of held words file ≡ Err (Infeasible window) → ⊥
-bytes-not_infeasible held words file window is = read-not_infeasible file (first_bytes held (name_of words file) (limit_of file)) window is
+read-apart : (file : File) (o : Option (List ℕ)) (e : Refusal) → (Unreadable file ≡ e → ⊥) → (TooLarge file ≡ e → ⊥) → option_map_or (limited_bytes file) o (Err (Unreadable file)) ≡ Err e → ⊥
+read-apart file None e unread large is = let same : Unreadable file ≡ e = cc in unread same
+read-apart file (Some bytes) e unread large is =
+    limited_bytes-apart file bytes (nat_lt (limit_of file) (length bytes)) e large is
 
-set-not_infeasible : (r : Result TaskSet TaskFault) (window : Window) → (let o : Outcome TaskSet = result_map_both (λ (set : TaskSet). set) BadTasks r in o) ≡ Err (Infeasible window) → ⊥
-set-not_infeasible (Ok set) window is = cc
-set-not_infeasible (Err fault) window is = cc
+bytes-apart : (held : Held) (words : List (List ℕ)) (file : File) (e : Refusal) → (Unreadable file ≡ e → ⊥) → (TooLarge file ≡ e → ⊥) → bytes_of held words file ≡ Err e → ⊥
+bytes-apart held words file e unread large is =
+    read-apart file (first_bytes held (name_of words file) (limit_of file)) e unread large is
 
-table-not_infeasible : (r : Result PlanParts TableFault) (window : Window) → (let o : Outcome PlanParts = result_map_both (λ (plan : PlanParts). plan) BadTable r in o) ≡ Err (Infeasible window) → ⊥
-table-not_infeasible (Ok plan) window is = cc
-table-not_infeasible (Err fault) window is = cc
+-- a value that is read, or a fault that is refused so, gives no other refusal
+kept-apart : {X F : Type 0} (r : Result X F) (refuse : F → Refusal) (e : Refusal) → ((fault : F) → refuse fault ≡ e → ⊥) → (let o : Outcome X = result_map_both (λ x. x) refuse r in o) ≡ Err e → ⊥
+kept-apart (Ok x) refuse e apart is = cc
+kept-apart (Err fault) refuse e apart is = let same : refuse fault ≡ e = cc in apart fault same
 
 -- what the cycle test refuses a set for is the counterexample
 tested-found : (plan : PlanParts) (o : Option Window) (window : Window) → (let s : Outcome PlanParts = option_map_or (λ w. Err (Infeasible w)) o (Ok plan) in s) ≡ Err (Infeasible window) → o ≡ Some window
 tested-found plan None window is = cc
 tested-found plan (Some found) window is = let same : found ≡ window = cc in ap Some same
 
--- what comes after the plan is not refused as infeasible
-plan-refuses : (made : Outcome PlanParts) (next : PlanParts → Outcome (List ℕ)) (window : Window) → ((plan : PlanParts) → 5 ≤ stage_due (next plan)) → (made >>= next) ≡ Err (Infeasible window) → made ≡ Err (Infeasible window)
-plan-refuses (Ok plan) next window later is =
-    let stage : stage_due (next plan) ≡ 4 = ap stage_due is in absurd (omega (arith, later plan, stage))
-plan-refuses (Err e) next window later is = let same : e ≡ Infeasible window = cc in ap Err same
+tested-apart : (plan : PlanParts) (o : Option Window) (fault : TableFault) → (let s : Outcome PlanParts = option_map_or (λ w. Err (Infeasible w)) o (Ok plan) in s) ≡ Err (BadTable fault) → ⊥
+tested-apart plan None fault is = cc
+tested-apart plan (Some found) fault is = cc
 
-plan-due : (held : Held) (words : List (List ℕ)) (o : Option Command) (window : Window) → due_of held words o ≡ Err (Infeasible window) → (command : Command) × (plan_from held words (source_of command) ≡ Err (Infeasible window))
-plan-due held words None window is = cc
-plan-due held words (Some command) window is = (
+-- the fault of a table is that of its reading
+table-fault : (r : Result PlanParts TableFault) (fault : TableFault) → (let o : Outcome PlanParts = result_map_both (λ (plan : PlanParts). plan) BadTable r in o) ≡ Err (BadTable fault) → r ≡ Err fault
+table-fault (Ok plan) fault is = cc
+table-fault (Err other) fault is = let same : other ≡ fault = cc in ap Err same
+
+-- the set of a table is that of its reading
+spelled-set : (bytes : List ℕ) (r : Result TaskSet TableFault) (set : TaskSet) → set_of_table bytes ≡ r → r ≡ Ok set → spelled_set bytes ≡ Ok set
+spelled-set bytes r set is given =
+    let all : (x : Result TaskSet TableFault) → x ≡ Ok set → (let o : Outcome TaskSet = result_map_both (λ (s : TaskSet). s) BadTable x in o) ≡ Ok set = λ x same. rw same refl in
+    all (set_of_table bytes) (is ∙ given)
+
+-- what comes after the plan gives no refusal of an earlier stage
+plan-refuses : (made : Outcome PlanParts) (next : PlanParts → Outcome (List ℕ)) (e : Refusal) → stage_of e ≤ 4 → ((plan : PlanParts) → 5 ≤ stage_due (next plan)) → (made >>= next) ≡ Err e → made ≡ Err e
+plan-refuses (Ok plan) next e early later is =
+    let stage : stage_due (next plan) ≡ stage_of e = ap stage_due is in absurd (omega (arith, later plan, stage, early))
+plan-refuses (Err other) next e early later is = let same : other ≡ e = cc in ap Err same
+
+plan-due : (held : Held) (words : List (List ℕ)) (o : Option Command) (e : Refusal) → command_of words ≡ o → (Usage ≡ e → ⊥) → stage_of e ≤ 4 → due_of held words o ≡ Err e → (command : Command) × (command_of words ≡ Some command) × (plan_from held words (source_of command) ≡ Err e)
+plan-due held words None e writes apart early is = let same : Usage ≡ e = cc in absurd (apart same)
+plan-due held words (Some command) e writes apart early is = (
   command,
-  plan-refuses (plan_from held words (source_of command)) (text_after held words command) window (stage-after held words command) is,
+  writes,
+  plan-refuses (plan_from held words (source_of command)) (text_after held words command) e early (stage-after held words command) is,
 )
 
--- what is refused as infeasible
-record IsRefusedSet (held : Held) (words : List (List ℕ)) (window : Window) : Type 0 where
-  bytes : List ℕ
-  set : TaskSet
-  read : bytes_of held words TaskFile ≡ Ok bytes
-  writes : sound_set bytes ≡ Ok set
-  found : counterexample set (cycle_of set) ≡ Some window
+-- a sound set that is refused for this window
+pub record IsRefused (made : Outcome TaskSet) (window : Window) : Type 0 where
+  pub set : TaskSet
+  pub writes : made ≡ Ok set
+  pub sound : is_sound set ≡ true
+  pub found : counterexample set (cycle_of set) ≡ Some window
 
-refused-from : (held : Held) (words : List (List ℕ)) (source : Source) (window : Window) → plan_from held words source ≡ Err (Infeasible window) → IsRefusedSet held words window
-refused-from held words Tasks window is =
+-- a plan that is refused as infeasible is that of the task file, whose set has this counterexample
+refused-tasks : (held : Held) (words : List (List ℕ)) (source : Source) (window : Window) → plan_from held words source ≡ Err (Infeasible window) → IsRefused (set_from held words source) window
+refused-tasks held words Tasks window is =
     let e = Infeasible window in
-    let (bytes, read, refused) = second_refuses (bytes_of held words TaskFile) planned_plan e (bytes-not_infeasible held words TaskFile window) is in
-    let (set, writes, found) = second_refuses (sound_set bytes) feasible_plan e (set-not_infeasible (reading_of_tasks bytes) window) refused in
-    record { bytes = bytes; set = set; read = read; writes = writes; found = tested-found (planned set) (counterexample set (cycle_of set)) window found }
-refused-from held words Spelled window is =
-    let (bytes, read, refused) = second_refuses (bytes_of held words TableFile) spelled_plan (Infeasible window) (bytes-not_infeasible held words TableFile window) is in
-    absurd (table-not_infeasible (reading_of_table bytes) window refused)
-refused-from held words (Load n) window is = cc
+    let (bytes, read, refused) = second_refuses (bytes_of held words TaskFile) planned_plan e (bytes-apart held words TaskFile e (λ same. cc) (λ same. cc)) is in
+    let (set, writes, found) = second_refuses (sound_set bytes) feasible_plan e (kept-apart (reading_of_tasks bytes) BadTasks e (λ fault same. cc)) refused in
+    record {
+      set = set;
+      writes = step_after (bytes_of held words TaskFile) sound_set bytes (Ok set) read writes;
+      sound = is_sound-from_bytes bytes set writes;
+      found = tested-found (planned set) (counterexample set (cycle_of set)) window found;
+    }
+refused-tasks held words Spelled window is =
+    let e = Infeasible window in
+    let (bytes, read, refused) = second_refuses (bytes_of held words TableFile) spelled_plan e (bytes-apart held words TableFile e (λ same. cc) (λ same. cc)) is in
+    absurd (kept-apart (reading_of_table bytes) BadTable e (λ fault same. cc) refused)
+refused-tasks held words (Load n) window is = cc
 
--- where a run is due to be refused as infeasible, the task file writes a set with this counterexample
-pub infeasible-expected : (held : Held) (words : List (List ℕ)) (window : Window) → expected held words ≡ Err (Infeasible window) → (bytes : List ℕ) × (set : TaskSet) × (bytes_of held words TaskFile ≡ Ok bytes) × (sound_set bytes ≡ Ok set) × (counterexample set (cycle_of set) ≡ Some window)
-infeasible-expected held words window is =
-    let (command, refused) = plan-due held words (command_of words) window is in
-    let r = refused-from held words (source_of command) window refused in
-    (r.bytes, r.set, r.read, r.writes, r.found)
+-- one that is refused for a table that is infeasible is that of the table file
+refused-table : (held : Held) (words : List (List ℕ)) (source : Source) (window : Window) → plan_from held words source ≡ Err (BadTable (NoPlan window)) → IsRefused (set_from held words source) window
+refused-table held words Tasks window is =
+    let e = BadTable (NoPlan window) in
+    let (bytes, read, refused) = second_refuses (bytes_of held words TaskFile) planned_plan e (bytes-apart held words TaskFile e (λ same. cc) (λ same. cc)) is in
+    let (set, writes, found) = second_refuses (sound_set bytes) feasible_plan e (kept-apart (reading_of_tasks bytes) BadTasks e (λ fault same. cc)) refused in
+    absurd (tested-apart (planned set) (counterexample set (cycle_of set)) (NoPlan window) found)
+refused-table held words Spelled window is =
+    let e = BadTable (NoPlan window) in
+    let (bytes, read, refused) = second_refuses (bytes_of held words TableFile) spelled_plan e (bytes-apart held words TableFile e (λ same. cc) (λ same. cc)) is in
+    let t = IsTableSet-refused bytes window (table-fault (reading_of_table bytes) (NoPlan window) refused) in
+    record {
+      set = t.set;
+      writes = step_after (bytes_of held words TableFile) spelled_set bytes (Ok t.set) read (spelled-set bytes (Ok t.set) t.set t.spelled refl);
+      sound = t.sound;
+      found = t.found;
+    }
+refused-table held words (Load n) window is = cc
+
+-- the set of the command is that of the run
+set-of_run : (held : Held) (words : List (List ℕ)) (command : Command) → command_of words ≡ Some command → set_of_run held words ≡ set_from held words (source_of command)
+set-of_run held words command writes = rw writes refl
+
+refused-run : (held : Held) (words : List (List ℕ)) (command : Command) (window : Window) → command_of words ≡ Some command → IsRefused (set_from held words (source_of command)) window → IsRefused (set_of_run held words) window
+refused-run held words command window writes refused =
+    subst (λ (made : Outcome TaskSet). IsRefused made window) (sym (set-of_run held words command writes)) refused
+
+-- a run that is due to be refused as infeasible, or for a table that is infeasible, has such a set
+pub refused-infeasible : (held : Held) (words : List (List ℕ)) (window : Window) → expected held words ≡ Err (Infeasible window) → IsRefused (set_of_run held words) window
+refused-infeasible held words window is =
+    let (command, writes, refused) = plan-due held words (command_of words) (Infeasible window) refl (λ same. cc) (omega arith) is in
+    refused-run held words command window writes (refused-tasks held words (source_of command) window refused)
+
+pub refused-bad_table : (held : Held) (words : List (List ℕ)) (window : Window) → expected held words ≡ Err (BadTable (NoPlan window)) → IsRefused (set_of_run held words) window
+refused-bad_table held words window is =
+    let (command, writes, refused) = plan-due held words (command_of words) (BadTable (NoPlan window)) refl (λ same. cc) (omega arith) is in
+    refused-run held words command window writes (refused-table held words (source_of command) window refused)

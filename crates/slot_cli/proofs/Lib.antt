@@ -2,7 +2,6 @@ pub mod CommandLemmas
 pub mod InfeasibleRuns
 pub mod NumberLemmas
 pub mod PlanLines
-pub mod PlannedJobs
 pub mod PlannedSets
 pub mod PrintedRuns
 pub mod RecordedArrivals
@@ -12,7 +11,6 @@ pub mod StageLemmas
 pub mod StatusLemmas
 pub mod StepLemmas
 pub mod TableReplays
-pub mod TableSizes
 pub mod VerdictLemmas
 pub mod WorkLemmas
 pub mod TraceLines

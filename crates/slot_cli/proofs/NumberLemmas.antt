@@ -1,5 +1,5 @@
 -- What `parse` gives of a number on the command line.
-use Rattle.std.proofs.Common.{◌≡◌, ◌≢◌, ℕ, ◌+◌, ◌<◌, ◌≤◌, ◌^◌, true, not, ◌&&◌, ◌==◌, nat_le, List, [], ◌∷◌, length, Result, Ok, arith, rules}
+use Rattle.std.proofs.Common.{◌≡◌, ◌≢◌, ℕ, ◌+◌, ◌<◌, ◌≤◌, ◌^◌, true, not, ◌&&◌, ◌==◌, nat_le, List, [], ◌∷◌, length, Result, Ok, arith}
 use Rattle.std.specs.Char.{is_ascii_digit, digit_value}
 use Rattle.std.specs.Int.{IsInRange}
 use Rattle.std.specs.List.{list_all}
@@ -7,12 +7,9 @@ use Rattle.std.specs.Str.Parse.{digits_value, ParsesUnsigned}
 use Rattle.std.proofs.lemmas.Bool.{and_parts}
 use Rattle.std.proofs.lemmas.Bool.Decides.{nat_tests}
 use Rattle.std.proofs.lemmas.Str.{digit_value_digit}
-use Rattle.std.proofs.lemmas.Str.Parse.{IsNumeralModel, numerals_by_value, parse_gives, digits_value_short, digits_value-take-le}
+use Rattle.std.proofs.lemmas.Str.Parse.{parse_gives, digits_value_short, digits_value-take-le}
+use Rattle.arrival_csv.proofs.DigitLemmas.{digits}
 use Rattle.slot_cli.specs.Commands.{is_number}
-
--- digits are read as `digits_value` reads them
-digits : IsNumeralModel (λ ds. list_all is_ascii_digit ds ≡ true) (digits_value 10)
-digits = numerals_by_value _ (search rules)
 
 -- a number of at most 6 digits is read whole
 pub parse_number : {E : Type 0} (bs : List ℕ) (r : Result ℕ E) → is_number bs ≡ true → ParsesUnsigned 32 10 bs r → r ≡ Ok (digits_value 10 bs)

@@ -1,49 +1,32 @@
 -- The plan of a sound set that passes the cycle test.
-use Rattle.std.proofs.Common.{◌≡◌, ℕ, true, List, length, Option, Some, None, Ok, refl, sym, ap, subst, ◌∙◌}
+use Rattle.std.proofs.Common.{◌≡◌, ℕ, ◌<◌, true, List, length, None, Ok, refl, sym, ap, subst, ◌∙◌, arith}
 use Rattle.std.proofs.lemmas.List.Sorted.{length_permutation}
 use Rattle.slot_core.specs.Reports.{check_line, counts_line}
 use Rattle.slot_core.specs.declared.jobs.Job.{Job}
 use Rattle.slot_core.specs.declared.jobs.Span.{Span}
-use Rattle.slot_core.specs.declared.jobs.Window.{Window}
 use Rattle.slot_core.specs.declared.tasks.TaskSet.{TaskSet}
 use Rattle.slot_core.specs.Cycles.{cycle_of}
 use Rattle.slot_core.specs.Feasible.{IsFeasible, counterexample}
 use Rattle.slot_core.specs.OfflineJobs.{cycle_jobs}
-use Rattle.slot_core.specs.Plans.{PlanParts, IsPlan, plan_spans}
+use Rattle.slot_core.specs.Plans.{PlanParts, IsPlan, plan_spans, planned}
 use Rattle.slot_core.specs.Ranges.{is_sound}
-use Rattle.slot_facts.proofs.Demand.Feasible.{IsFeasible-from_none}
-use Rattle.demand_test.proofs.Schedules.{infeasible-from_some}
-use Rattle.table_codec.specs.Reading.{planned}
-use Rattle.table_codec.proofs.Planned.{planned-from_plan}
+use Rattle.slot_facts.proofs.Demand.Feasible.{none-from_feasible}
+use Rattle.slot_facts.proofs.Offline.Jobs.{cycle-positive}
+use Rattle.slot_facts.proofs.Plans.Planned.{planned-from_plan}
 use Rattle.slot_cli.specs.Due.{feasible_plan}
-use Rattle.slot_cli.proofs.PlannedJobs.{first-ordered, permuted-in_order}
 
--- a sound set without a counterexample has its plan
-pub IsPlan-planned : (set : TaskSet) → is_sound set ≡ true → counterexample set (cycle_of set) ≡ None → IsPlan (planned set)
-IsPlan-planned set sound none =
-    record {
-      sound = sound;
-      cycle = refl;
-      feasible = IsFeasible-from_none set (cycle_of set) none;
-      jobs = permuted-in_order (cycle_jobs set (cycle_of set) 0);
-      ordered = first-ordered set;
-      spans = refl;
-    }
-
--- a feasible set has no counterexample
-no_counterexample : (set : TaskSet) (o : Option Window) → is_sound set ≡ true → counterexample set (cycle_of set) ≡ o → IsFeasible set (cycle_of set) → o ≡ None
-no_counterexample set None sound found feasible = refl
-no_counterexample set (Some w) sound found feasible = absurd (infeasible-from_some set w sound found feasible)
-
-pub none-from_feasible : (set : TaskSet) → is_sound set ≡ true → IsFeasible set (cycle_of set) → counterexample set (cycle_of set) ≡ None
-none-from_feasible set sound feasible = no_counterexample set (counterexample set (cycle_of set)) sound refl feasible
+-- a sound and feasible set has no counterexample
+none-from_sound : (set : TaskSet) → is_sound set ≡ true → IsFeasible set (cycle_of set) → counterexample set (cycle_of set) ≡ None
+none-from_sound set sound feasible =
+    let positive : 0 < cycle_of set = omega (arith, cycle-positive set sound) in
+    none-from_feasible set (cycle_of set) positive feasible
 
 feasible_plan-from_none : (set : TaskSet) → counterexample set (cycle_of set) ≡ None → feasible_plan set ≡ Ok (planned set)
 feasible_plan-from_none set none = rw none refl
 
 -- so it passes the cycle test with the plan that is made of it
 pub feasible_plan-from_feasible : (set : TaskSet) → is_sound set ≡ true → IsFeasible set (cycle_of set) → feasible_plan set ≡ Ok (planned set)
-feasible_plan-from_feasible set sound feasible = feasible_plan-from_none set (none-from_feasible set sound feasible)
+feasible_plan-from_feasible set sound feasible = feasible_plan-from_none set (none-from_sound set sound feasible)
 
 -- the set of a plan passes the cycle test with that plan
 pub feasible_plan-from_plan : (plan : PlanParts) (set : TaskSet) → plan.tasks ≡ set → IsPlan plan → feasible_plan set ≡ Ok plan

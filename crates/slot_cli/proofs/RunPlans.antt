@@ -1,5 +1,5 @@
 -- The plan of a run is a plan.
-use Rattle.std.proofs.Common.{◌≡◌, ℕ, ◌≤◌, true, List, [], length, Option, None, Some, Result, Ok, Err, refl, sym, ap, subst}
+use Rattle.std.proofs.Common.{◌≡◌, ℕ, ◌≤◌, true, List, Option, None, Some, Result, Ok, Err, refl, ap, subst}
 use Rattle.std.specs.Option.{option_map_or}
 use Rattle.std.specs.Result.{result_map_both}
 use Rattle.slot_core.specs.Results.{◌>>=◌}
@@ -8,9 +8,8 @@ use Rattle.slot_core.specs.declared.jobs.Window.{Window}
 use Rattle.slot_core.specs.declared.tasks.TaskSet.{TaskSet}
 use Rattle.slot_core.specs.Cycles.{cycle_of}
 use Rattle.slot_core.specs.Feasible.{counterexample}
-use Rattle.slot_core.specs.Plans.{PlanParts, IsPlan}
+use Rattle.slot_core.specs.Plans.{PlanParts, IsPlan, planned}
 use Rattle.slot_core.specs.Ranges.{is_sound}
-use Rattle.slot_core.specs.Spelling.{Layout, layout_1}
 use Rattle.slot_io.specs.Files.{Held}
 use Rattle.load_gen.specs.Loads.{load_set}
 use Rattle.load_gen.proofs.Sound.{load_set-sound}
@@ -18,12 +17,11 @@ use Rattle.load_gen.proofs.Feasible.{load_set-feasible}
 use Rattle.task_toml.specs.Reading.{reading_of_tasks}
 use Rattle.task_toml.specs.TomlFields.{Read as TomlRead}
 use Rattle.task_toml.proofs.SoundReadings.{is_sound-reading}
+use Rattle.slot_facts.proofs.Demand.Feasible.{IsFeasible-from_none}
+use Rattle.slot_facts.proofs.Plans.Planned.{IsPlan-planned}
 use Rattle.table_codec.specs.declared.faults.TableFault.{TableFault}
-use Rattle.table_codec.specs.declared.faults.TableFault.TheVariants.{Infeasible as NoPlan}
-use Rattle.table_codec.specs.Readers.{Unread, Read, refuse, done}
-use Rattle.table_codec.specs.Reading.{planned, plan_of, source_at, stored_at, jobs_at, spans_at, plan_at, head_at, end_at, whole_plan, value_of, reading_of_table}
-use Rattle.table_codec.proofs.FieldLaws.{at, step, value_same}
-use Rattle.table_codec.proofs.TableLaws.{source_takes, head_takes}
+use Rattle.table_codec.specs.Grammar.{reading_of_table}
+use Rattle.table_codec.proofs.TableLaws.{settled-from_reading}
 use Rattle.run_outcome.specs.declared.file.File.TheVariants.{Tasks as TaskFile, Table as TableFile}
 use Rattle.run_outcome.specs.declared.refusal.Refusal.TheVariants.{BadTasks, BadTable, Infeasible, Usage}
 use Rattle.run_outcome.specs.Refusals.{Outcome}
@@ -32,7 +30,6 @@ use Rattle.slot_cli.specs.declared.command.Command.TheVariants.{Check, Table, Sh
 use Rattle.slot_cli.specs.Commands.{IsInRange, command_of, source_of}
 use Rattle.slot_cli.specs.Due.{bytes_of, sound_set, feasible_plan, planned_plan, spelled_plan, plan_from, plan_of_run}
 use Rattle.slot_cli.proofs.CommandLemmas.{in_range-command}
-use Rattle.slot_cli.proofs.PlannedSets.{IsPlan-planned, none-from_feasible}
 
 -- ---- the task file
 
@@ -51,7 +48,7 @@ feasible-Ok made plan (Some window) is = cc
 IsPlan-tested : (set : TaskSet) (plan : PlanParts) → is_sound set ≡ true → feasible_plan set ≡ Ok plan → IsPlan plan
 IsPlan-tested set plan sound is =
     let (same, none) = feasible-Ok (planned set) plan (counterexample set (cycle_of set)) is in
-    subst IsPlan same (IsPlan-planned set sound none)
+    subst IsPlan same (IsPlan-planned set sound (IsFeasible-from_none set (cycle_of set) none))
 
 IsPlan-loaded : (bytes : List ℕ) (loaded : Outcome TaskSet) (plan : PlanParts) → sound_set bytes ≡ loaded → (loaded >>= feasible_plan) ≡ Ok plan → IsPlan plan
 IsPlan-loaded bytes (Ok set) plan read is = IsPlan-tested set plan (is_sound-from_bytes bytes set read) is
@@ -63,43 +60,11 @@ IsPlan-tasks (Err refusal) plan is = cc
 
 -- ---- the table file
 
--- a set that has a plan passes the cycle test
-planned-passes : (set : TaskSet) (o : Option Window) (input : Unread) (y : PlanParts × Unread) → option_map_or (λ (w : Window). refuse (NoPlan w)) o (done (planned set)) input ≡ Ok y → (o ≡ None) × ((planned set, input) ≡ y)
-planned-passes set None input y h = (refl, value_same {a = (planned set, input)} {b = y} h)
-planned-passes set (Some w) input y h = cc
-
--- what is stored is compared with the plan
-stored-same : (plan : PlanParts) (input : Unread) (same : PlanParts) (rest : Unread) → stored_at layout_1 plan input ≡ Ok (same, rest) → plan ≡ same
-stored-same plan input same rest h =
-    step (jobs_at layout_1 plan.jobs input) h (λ u i1 r1 h.
-    step (spans_at layout_1 plan.spans i1) h (λ v i2 r2 h.
-    ap (λ (y : PlanParts × Unread). y.0) (value_same {a = (plan, i2)} {b = (same, rest)} h)))
-
-IsPlan-stored : (input : Unread) (plan : PlanParts) (rest : Unread) → plan_at layout_1 input ≡ Ok (plan, rest) → IsPlan plan
-IsPlan-stored input plan rest h =
-    step (source_at layout_1 input) h (λ set i1 r1 h.
-    step (plan_of set i1) h (λ made i2 r2 h.
-    let (none, values) = planned-passes set (counterexample set (cycle_of set)) i1 (made, i2) r2 in
-    let made_same : planned set ≡ made = ap (λ (y : PlanParts × Unread). y.0) values in
-    let is_plan = IsPlan-planned set (source_takes input set i1 r1).1 none in
-    subst IsPlan (stored-same made i2 plan rest h) (subst IsPlan made_same is_plan)))
-
-value-cases : {X : Type 0} (r : Read X) (x : X) → value_of r ≡ Ok x → (rest : Unread) × (r ≡ Ok (x, rest))
-value-cases (Ok y) x h = let same : y.0 ≡ x = cc in (y.1, λ i. Ok (same i, y.1))
-value-cases (Err fault) x h = cc
-
--- a table is the spelling of a plan
+-- a table gives the plan of a sound and feasible set
 pub IsPlan-reading : (bytes : List ℕ) (plan : PlanParts) → reading_of_table bytes ≡ Ok plan → IsPlan plan
 IsPlan-reading bytes plan h =
-    let input = at (length bytes) bytes in
-    let (rest, read) = value-cases (whole_plan input) plan h in
-    step (head_at input) read (λ layout i1 r1 h.
-    step (plan_at layout i1) h (λ p i2 r2 h.
-    step (end_at i2) h (λ u i3 r3 h.
-    let same : p ≡ plan = ap (λ (y : PlanParts × Unread). y.0) (value_same {a = (p, i3)} {b = (plan, rest)} h) in
-    let (t1, one) = head_takes input layout i1 r1 in
-    let is_plan = IsPlan-stored i1 p i2 (subst (λ (l : Layout). plan_at l i1 ≡ Ok (p, i2)) (sym one) r2) in
-    subst IsPlan same is_plan)))
+    let settled = settled-from_reading bytes plan h in
+    subst IsPlan settled.made (IsPlan-planned plan.tasks settled.sound (IsFeasible-from_none plan.tasks (cycle_of plan.tasks) settled.none))
 
 IsPlan-spelled_read : (r : Result PlanParts TableFault) (plan : PlanParts) → ((p : PlanParts) → r ≡ Ok p → IsPlan p) → (let s : Outcome PlanParts = result_map_both (λ (p : PlanParts). p) BadTable r in s) ≡ Ok plan → IsPlan plan
 IsPlan-spelled_read (Ok p) plan each is = let same : p ≡ plan = cc in subst IsPlan same (each p refl)
@@ -116,7 +81,7 @@ pub IsPlan-load : (n : ℕ) → 1 ≤ n → n ≤ LOAD_LIMIT → IsPlan (planned
 IsPlan-load n some few =
     let set = load_set n in
     let sound = load_set-sound n some few in
-    IsPlan-planned set sound (none-from_feasible set sound (load_set-feasible n some few))
+    IsPlan-planned set sound (load_set-feasible n some few)
 
 same_plan : (made plan : PlanParts) → (let s : Outcome PlanParts = Ok made in s) ≡ Ok plan → made ≡ plan
 same_plan made plan is = cc

@@ -12,9 +12,9 @@ use Rattle.slot_core.specs.declared.jobs.Window.{Window}
 use Rattle.slot_core.specs.declared.tasks.TaskSet.{TaskSet}
 use Rattle.slot_core.specs.Cycles.{cycle_of}
 use Rattle.slot_core.specs.Feasible.{counterexample}
-use Rattle.slot_core.specs.Plans.{PlanParts}
+use Rattle.slot_core.specs.Plans.{PlanParts, planned}
 use Rattle.slot_io.specs.Files.{Held, first_bytes}
-use Rattle.table_codec.specs.Reading.{planned, reading_of_table}
+use Rattle.table_codec.specs.Grammar.{reading_of_table}
 use Rattle.table_codec.specs.declared.faults.TableFault.{TableFault}
 use Rattle.task_toml.specs.Reading.{reading_of_tasks}
 use Rattle.run_outcome.specs.declared.file.File.{File}

@@ -1,5 +1,6 @@
 -- What a status says of the files.
 use Rattle.std.proofs.Common.{◌≡◌, ◌⊎◌, ℕ, true, false, List, Option, None, Some, IfSome, Err, refl, sym, ap, subst, ◌∙◌, inl, inr}
+use Rattle.std.proofs.lemmas.Option.{IfSome_then}
 use Rattle.arrival_csv.specs.declared.faults.ArrivalFault.{ArrivalFault}
 use Rattle.slot_core.specs.declared.faults.TaskFault.{TaskFault}
 use Rattle.slot_core.specs.declared.jobs.Window.{Window}
@@ -90,6 +91,11 @@ reported-due held command due e reported found kept answers =
     let same = reported-same e reported reported (not_memory reported found) kept refl in
     let P : Refusal → Type 0 = λ r. is_found r ≡ true in
     IfSome-from_each held (λ files. due files ≡ Err reported) (λ files told. found-due command (due files) e (subst P (sym same) found) (answers files told) ∙ ap Err same)
+
+-- so what a status tells of it is due
+pub told-due : {X : Type 0} (refusal : X → Refusal) (x : X) (held : Option Held) (command : Option Command) (due : Held → Outcome (List ℕ)) (e reported : Refusal) → is_found (refusal x) ≡ true → reported ≡ refusal x → IsKept e reported → ((files : Held) → held ≡ Some files → IsAnswerTo {X = Unit {0}} command (due files) (Err e)) → IfSome held (λ files. (y : X) × (due files ≡ Err (refusal y)))
+told-due refusal x held command due e reported found is kept answers =
+    IfSome_then held (reported-due held command due e reported (ap is_found is ∙ found) kept answers) (λ files same. (x, same ∙ ap Err is))
 
 -- what is reported answers as what is refused does
 pub reported-answers : (command : Option Command) (due : Outcome (List ℕ)) (e reported : Refusal) → IsKept e reported → IsAnswerTo {X = Unit {0}} command due (Err e) → IsAnswerTo {X = Unit {0}} command due (Err reported)

@@ -11,9 +11,9 @@ use Rattle.slot_core.specs.declared.TheConstants.{REPLAY_LIMIT, TABLE_FILE_LIMIT
 use Rattle.slot_core.specs.declared.events.Arrival.{Arrival}
 use Rattle.slot_core.specs.declared.tasks.TaskSet.{TaskSet}
 use Rattle.slot_core.specs.Plans.{PlanParts, IsPlan}
-use Rattle.slot_core.specs.Spelling.{spelling}
 use Rattle.slot_io.specs.Files.{Held}
-use Rattle.table_codec.specs.Reading.{reading_of_table}
+use Rattle.table_codec.specs.Grammar.{reading_of_table, spelling}
+use Rattle.table_codec.proofs.Lengths.{length-spelling}
 use Rattle.table_codec.proofs.TableLaws.{reading-from_spelled}
 use Rattle.run_outcome.specs.declared.file.File.TheVariants.{Tasks as TaskFile, Table as TableFile, Arrivals as ArrivalsFile}
 use Rattle.run_outcome.specs.declared.refusal.Refusal.TheVariants.{Usage, Unreadable, TooLarge, BadTable}
@@ -26,7 +26,6 @@ use Rattle.slot_cli.specs.Tables.{AWrittenTableReplaysTheSame}
 use Rattle.slot_cli.proofs.RunPlans.{IsPlan-from}
 use Rattle.slot_cli.proofs.StageLemmas.{text_after, text_with}
 use Rattle.slot_cli.proofs.StepLemmas.{bind_Ok}
-use Rattle.slot_cli.proofs.TableSizes.{length-spelling}
 
 abbrev words_of_table : List ℕ → List (List ℕ)
 words_of_table t = codes "table" ∷ t ∷ []

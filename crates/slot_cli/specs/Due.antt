@@ -9,16 +9,15 @@ use Rattle.slot_core.specs.declared.tasks.TaskSet.{TaskSet}
 use Rattle.slot_core.specs.Charts.{chart_text, tally_text}
 use Rattle.slot_core.specs.Cycles.{cycle_of}
 use Rattle.slot_core.specs.Feasible.{counterexample}
-use Rattle.slot_core.specs.Plans.{PlanParts}
+use Rattle.slot_core.specs.Plans.{PlanParts, planned}
 use Rattle.slot_core.specs.Reports.{check_line, show_text}
-use Rattle.slot_core.specs.Spelling.{spelling}
 use Rattle.slot_core.specs.Texts.{trace_text}
 use Rattle.slot_core.specs.Traces.{trace}
 use Rattle.slot_io.specs.Files.{Held, first_bytes}
 use Rattle.arrival_csv.specs.Reading.{reading_of_arrivals}
 use Rattle.load_gen.specs.LoadArrivals.{load_arrivals}
 use Rattle.load_gen.specs.Loads.{load_set}
-use Rattle.table_codec.specs.Reading.{planned, reading_of_table}
+use Rattle.table_codec.specs.Grammar.{reading_of_table, spelling}
 use Rattle.task_toml.specs.Reading.{reading_of_tasks}
 use Rattle.run_outcome.specs.declared.file.File.{File}
 use Rattle.run_outcome.specs.declared.file.File.TheVariants.{Tasks as TaskFile, Table as TableFile, Arrivals as ArrivalsFile}

@@ -1,5 +1,5 @@
-//! Arrivals files over the pair of tasks for four slots. In a file `/` ends a line, and `~` is a byte
-//! of no UTF-8.
+//! Arrivals files over the pair of tasks for four slots. In a file `/` ends a line, and `~` is a
+//! byte of no UTF-8.
 
 /// Files with a fault. A case a line: the file, an arrow, the line on standard error.
 pub const ARRIVAL_LINES: &str = "4,soft,1 => arrivals past end 1 4

@@ -30,6 +30,8 @@ pub mod command;
 mod fault_lines;
 pub mod laws;
 mod reports;
+#[cfg(test)]
+mod sample_texts;
 mod steps;
 #[cfg(test)]
 mod tests;

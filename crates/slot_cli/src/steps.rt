@@ -3,10 +3,9 @@
 ghost use Rattle.std.specs.Prelude.{◌≡◌, ◌≤◌, ℕ, true, IfOk, Ok};
 ghost use Rattle.slot_core.specs.declared.TheConstants.{LOAD_LIMIT, REPLAY_LIMIT};
 ghost use Rattle.slot_core.specs.Arrivals.{are_fitting};
-ghost use Rattle.slot_core.specs.Plans.{IsPlan};
+ghost use Rattle.slot_core.specs.Plans.{IsPlan, planned};
 ghost use Rattle.slot_core.specs.Ranges.{is_sound};
 ghost use Rattle.load_gen.specs.Loads.{load_set};
-ghost use Rattle.table_codec.specs.Reading.{planned};
 ghost use Rattle.run_outcome.specs.Refusals.{same_file};
 ghost use Rattle.slot_cli.specs.declared.command.Command.{Command};
 ghost use Rattle.slot_cli.specs.Commands.{is_file_of, is_recorded_in, recorded_for, slots_of, source_of, IsInRange};

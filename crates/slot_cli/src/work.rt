@@ -4,7 +4,7 @@ ghost use Rattle.std.specs.Prelude.{◌≡◌, ◌≤◌, true, Some};
 ghost use Rattle.slot_core.specs.declared.TheConstants.{CHART_LIMIT, LOAD_LIMIT, REPLAY_LIMIT};
 ghost use Rattle.slot_core.specs.Arrivals.{are_fitting};
 ghost use Rattle.slot_core.specs.Charts.{chart_text, tally_text};
-ghost use Rattle.slot_core.specs.Spelling.{spelling};
+ghost use Rattle.table_codec.specs.Grammar.{spelling};
 ghost use Rattle.slot_core.specs.Texts.{trace_text};
 ghost use Rattle.slot_core.specs.Traces.{trace};
 ghost use Rattle.slot_cli.specs.declared.command.TheConstants.{LOAD_SLOTS};

@@ -1,14 +1,16 @@
-use Rattle.std.proofs.Common.{Some, Err, ap, ◌∙◌}
-use Rattle.std.proofs.lemmas.Option.{IfSome_then}
+use Rattle.std.proofs.Common.{Some, Err, refl, ap, ◌∙◌}
+use Rattle.table_codec.specs.declared.faults.TableFault.TheVariants.{Infeasible as NoPlan}
+use Rattle.run_outcome.specs.declared.refusal.Refusal.TheVariants.{TooLarge, BadTasks, Infeasible, BadTable, BadArrivals}
 use Rattle.run_outcome.specs.declared.status.Status.{Status}
 use Rattle.run_outcome.specs.Refusals.{is_found}
 use Rattle.slot_cli.specs.Commands.{command_of}
 use Rattle.slot_cli.specs.Due.{expected}
-use Rattle.slot_cli.proofs.StatusLemmas.{status-tells, reported-due, reported-answers, reported-unreadable, IfSome-from_each}
+use Rattle.slot_cli.proofs.StatusLemmas.{status-tells, told-due, reported-due, reported-answers, reported-unreadable, IfSome-from_each}
 use Rattle.slot_cli.proofs.ServedRuns.{cycles-run, offers-run, served-run}
 use Rattle.slot_cli.proofs.PrintedRuns.{IsPrinted-due}
 use Rattle.slot_cli.proofs.RecordedArrivals.{fitting-run}
-use Rattle.slot_cli.proofs.VerdictLemmas.{IsInfeasibleRun-expected}
+use Rattle.slot_cli.proofs.InfeasibleRuns.{refused-infeasible, refused-bad_table}
+use Rattle.slot_cli.proofs.VerdictLemmas.{IsInfeasibleRun-refused, same_refusal}
 use Rattle.slot_cli.proofs.run.Goals as goal
 
 pub returns-in-Ok-clause-done : goal.returns-in-Ok-clause-done
@@ -57,41 +59,31 @@ pub returns-in-Err-clause-too_large : goal.returns-in-Err-clause-too_large
 returns-in-Err-clause-too_large g c =
     λ status.
     let (file, is) = status-tells _ Status.TooLarge c.report.result c.status.ensures status in
-    let held = g.F.Files.held c.args.files.now in
-    let due = reported-due held (command_of c.args.words.now) (λ files. expected files c.args.words.now) c.in-Err.refusal c.report.result (ap is_found is) c.report.ensures.kept c.in-Err.ensures.answers in
-    IfSome_then held due (λ files e. (file, e ∙ ap Err is))
+    told-due TooLarge file (g.F.Files.held c.args.files.now) (command_of c.args.words.now) (λ files. expected files c.args.words.now) c.in-Err.refusal c.report.result refl is c.report.ensures.kept c.in-Err.ensures.answers
 
 pub returns-in-Err-clause-bad_tasks : goal.returns-in-Err-clause-bad_tasks
 returns-in-Err-clause-bad_tasks g c =
     λ status.
     let (fault, is) = status-tells _ Status.BadTasks c.report.result c.status.ensures status in
-    let held = g.F.Files.held c.args.files.now in
-    let due = reported-due held (command_of c.args.words.now) (λ files. expected files c.args.words.now) c.in-Err.refusal c.report.result (ap is_found is) c.report.ensures.kept c.in-Err.ensures.answers in
-    IfSome_then held due (λ files e. (fault, e ∙ ap Err is))
+    told-due BadTasks fault (g.F.Files.held c.args.files.now) (command_of c.args.words.now) (λ files. expected files c.args.words.now) c.in-Err.refusal c.report.result refl is c.report.ensures.kept c.in-Err.ensures.answers
 
 pub returns-in-Err-clause-infeasible : goal.returns-in-Err-clause-infeasible
 returns-in-Err-clause-infeasible g c =
     λ status.
     let (window, is) = status-tells _ Status.Infeasible c.report.result c.status.ensures status in
-    let held = g.F.Files.held c.args.files.now in
-    let due = reported-due held (command_of c.args.words.now) (λ files. expected files c.args.words.now) c.in-Err.refusal c.report.result (ap is_found is) c.report.ensures.kept c.in-Err.ensures.answers in
-    IfSome_then held due (λ files e. (window, e ∙ ap Err is))
+    told-due Infeasible window (g.F.Files.held c.args.files.now) (command_of c.args.words.now) (λ files. expected files c.args.words.now) c.in-Err.refusal c.report.result refl is c.report.ensures.kept c.in-Err.ensures.answers
 
 pub returns-in-Err-clause-bad_table : goal.returns-in-Err-clause-bad_table
 returns-in-Err-clause-bad_table g c =
     λ status.
     let (fault, is) = status-tells _ Status.BadTable c.report.result c.status.ensures status in
-    let held = g.F.Files.held c.args.files.now in
-    let due = reported-due held (command_of c.args.words.now) (λ files. expected files c.args.words.now) c.in-Err.refusal c.report.result (ap is_found is) c.report.ensures.kept c.in-Err.ensures.answers in
-    IfSome_then held due (λ files e. (fault, e ∙ ap Err is))
+    told-due BadTable fault (g.F.Files.held c.args.files.now) (command_of c.args.words.now) (λ files. expected files c.args.words.now) c.in-Err.refusal c.report.result refl is c.report.ensures.kept c.in-Err.ensures.answers
 
 pub returns-in-Err-clause-bad_arrivals : goal.returns-in-Err-clause-bad_arrivals
 returns-in-Err-clause-bad_arrivals g c =
     λ status.
     let (fault, is) = status-tells _ Status.BadArrivals c.report.result c.status.ensures status in
-    let held = g.F.Files.held c.args.files.now in
-    let due = reported-due held (command_of c.args.words.now) (λ files. expected files c.args.words.now) c.in-Err.refusal c.report.result (ap is_found is) c.report.ensures.kept c.in-Err.ensures.answers in
-    IfSome_then held due (λ files e. (fault, e ∙ ap Err is))
+    told-due BadArrivals fault (g.F.Files.held c.args.files.now) (command_of c.args.words.now) (λ files. expected files c.args.words.now) c.in-Err.refusal c.report.result refl is c.report.ensures.kept c.in-Err.ensures.answers
 
 pub returns-in-Err-clause-served : goal.returns-in-Err-clause-served
 returns-in-Err-clause-served g c =
@@ -100,7 +92,11 @@ returns-in-Err-clause-served g c =
 -- what the run says of the set means slot schedules
 pub returns-in-Ok-clause-verdict : goal.returns-in-Ok-clause-verdict
 returns-in-Ok-clause-verdict g c =
-    IfSome-from_each (g.F.Files.held c.args.files.now) _ (λ held told. record { fits = cycles-run held c.args.words.now; fails = λ status. cc })
+    IfSome-from_each (g.F.Files.held c.args.files.now) _ (λ held told. record {
+      fits = cycles-run held c.args.words.now;
+      fails = λ status. cc;
+      table_fails = λ status. cc;
+    })
 
 pub returns-in-Err-clause-verdict : goal.returns-in-Err-clause-verdict
 returns-in-Err-clause-verdict g c =
@@ -112,6 +108,11 @@ returns-in-Err-clause-verdict g c =
       fits = cycles-run held words;
       fails = λ status.
           let (window, is) = status-tells _ Status.Infeasible c.report.result c.status.ensures status in
-          let due = reported-due (Some held) (command_of words) (λ files. expected files words) c.in-Err.refusal c.report.result (ap is_found is) c.report.ensures.kept (λ files same. c.in-Err.ensures.answers files (told ∙ same)) in
-          IsInfeasibleRun-expected words held _ _ _ _ window (due ∙ ap Err is) (rw is at c.report.ensures.told);
+          let due = reported-due (Some held) (command_of words) (λ files. expected files words) c.in-Err.refusal c.report.result (ap is_found is) c.report.ensures.kept (λ files same. c.in-Err.ensures.answers files (told ∙ same)) ∙ ap Err is in
+          (window, IsInfeasibleRun-refused words held (Infeasible window) window _ _ _ _ (refused-infeasible held words window due) due (rw is at c.report.ensures.told));
+      table_fails = λ status window due.
+          let (fault, is) = status-tells _ Status.BadTable c.report.result c.status.ensures status in
+          let reported = reported-due (Some held) (command_of words) (λ files. expected files words) c.in-Err.refusal c.report.result (ap is_found is) c.report.ensures.kept (λ files same. c.in-Err.ensures.answers files (told ∙ same)) in
+          let same = same_refusal (expected held words) c.report.result (BadTable (NoPlan window)) reported due in
+          IsInfeasibleRun-refused words held (BadTable (NoPlan window)) window _ _ _ _ (refused-bad_table held words window due) due (rw same at c.report.ensures.told);
     })

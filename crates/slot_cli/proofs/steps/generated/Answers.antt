@@ -1,8 +1,7 @@
 use Rattle.std.proofs.Common.{◌≡◌, Ok, ap, ◌∙◌}
 use Rattle.load_gen.specs.Loads.{load_set}
-use Rattle.table_codec.specs.Reading.{planned}
+use Rattle.slot_core.specs.Plans.{planned, PlanParts}
 use Rattle.run_outcome.specs.Refusals.{Outcome}
-use Rattle.slot_core.specs.Plans.{PlanParts}
 use Rattle.slot_core.specs.declared.tasks.TaskSet.{TaskSet}
 use Rattle.slot_cli.specs.Due.{feasible_plan}
 use Rattle.slot_cli.proofs.PlannedSets.{feasible_plan-from_feasible}
