@@ -91,21 +91,22 @@ pub fn run<F: Files, K: Sink, E: Sink>(
         (E.written err.old) (E.written err.new) (E.faults err.old) (E.faults err.new) result) }
 
     // What is printed where it is done: the text of a plan and of arrivals that fit it. In their
-    // trace every admitted job gets its slots, after its predecessors, and each firm offer is
-    // answered exactly.
+    // trace jobs run inside their windows and after their predecessors, an admitted one that is due
+    // by the end has ended, and each firm offer in reach is answered exactly.
     ensures printed { result ≡ Status.Done → IfSome (F.held files.old) (λ held.
         IsPrinted words.now held (K.written out.old) (K.written out.new)) }
 
-    // Every trace of the plan serves every job, whatever arrivals fit it.
+    // Every trace of the plan is served and ordered, whatever arrivals fit it.
     ensures served { IfSome (F.held files.old) (λ held.
         (plan : PlanParts) (slots : ℕ) (arrivals : List Arrival)
         → plan_of_run held words.now ≡ Ok plan → are_fitting plan.tasks slots arrivals ≡ true
         → IsServed plan.tasks plan.cycle (history_of (trace plan.tasks arrivals slots))
         × IsOrdered plan.tasks plan.cycle (history_of (trace plan.tasks arrivals slots))) }
 
-    // Each firm offer in it is answered exactly: accepted where it can be served with the remaining
-    // jobs whatever legal arrivals follow, and refused for want of room where some leave no slot
-    // schedule; without sporadic tasks, exactly where no slot schedule serves it with them.
+    // Each firm offer in it that is due later, at most a cycle ahead, is answered exactly: accepted
+    // where it can be served with the remaining jobs whatever legal arrivals follow, refused for
+    // want of room where some leave no slot schedule; without sporadic tasks, exactly where no slot
+    // schedule serves it with them.
     ensures offers { IfSome (F.held files.old) (λ held.
         (plan : PlanParts) (slots : ℕ) (arrivals : List Arrival)
         → plan_of_run held words.now ≡ Ok plan → are_fitting plan.tasks slots arrivals ≡ true
