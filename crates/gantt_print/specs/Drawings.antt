@@ -42,10 +42,11 @@ marks_with runs row u [] = []
 marks_with runs row u (mark ∷ marks) =
     (if has_run runs row u then 35 else mark) ∷ marks_with runs row (u + 1) marks
 
--- a row, and a chart, with the marks that it has and one for each of the runs in its slots
+-- a row with the marks that it has, and one for each of the runs in its slots
 abbrev pub with_runs : List (ℕ × Key) → MarkedRow → MarkedRow
 with_runs runs r = record r { marks = marks_with runs r.row 0 r.marks }
 
+-- a chart with marks for these runs, each in its row
 abbrev pub drawing_with : List (ℕ × Key) → Drawing → Drawing
 drawing_with runs drawing = record drawing { rows = map (with_runs runs) drawing.rows }
 
@@ -59,11 +60,12 @@ row_line set width r =
 abbrev pub head_line : ℕ → List ℕ
 head_line n = worded (codes "gantt") n ++ 10 ∷ []
 
--- the length of the longest label of these rows, and their lines in this width
+-- the length of the longest label of these rows
 abbrev pub rows_width : TaskSet → List MarkedRow → ℕ
 rows_width set rows =
     fold max 0 (map (λ (r : MarkedRow). length (row_label set r.row)) rows)
 
+-- their lines in this width
 abbrev pub rows_text : TaskSet → List MarkedRow → List ℕ
 rows_text set rows = flat_map (row_line set (rows_width set rows)) rows
 

@@ -6,9 +6,11 @@ use Rattle.slot_core.specs.declared.tasks.Graph.{Graph}
 use Rattle.slot_core.specs.declared.tasks.Sporadic.{Sporadic}
 use Rattle.slot_core.specs.Cycles.{least_common_multiple}
 
+-- the periods of graphs
 abbrev pub periods_of : List Graph → List ℕ
 periods_of graphs = map (λ (g : Graph). g.period) graphs
 
+-- the separations of sporadic tasks
 abbrev pub separations_of : List Sporadic → List ℕ
 separations_of sporadics = map (λ (s : Sporadic). s.separation) sporadics
 

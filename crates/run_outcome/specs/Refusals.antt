@@ -32,31 +32,34 @@ same_file Table Table = true
 same_file Arrivals Arrivals = true
 same_file _ _ = false
 
--- the name of a file among the words, and the most bytes that it may have
+-- the name of a file among the words
 abbrev pub name_of : List (List ℕ) → File → List ℕ
 name_of words Tasks = word_at words 1
 name_of words Table = word_at words 1
 name_of words Arrivals = word_at words 2
 
+-- the most bytes that it may have
 abbrev pub limit_of : File → ℕ
 limit_of Tasks = TASK_FILE_LIMIT
 limit_of Table = TABLE_FILE_LIMIT
 limit_of Arrivals = ARRIVALS_FILE_LIMIT
 
--- the refusal of a fault of the task file, of the table file, and of the arrivals file
+-- the refusal of a fault of the task file
 abbrev pub refusal_of_task_fault : TaskFault → Refusal
 refusal_of_task_fault TasksMemory = Memory
 refusal_of_task_fault fault = BadTasks fault
 
+-- of the table file
 abbrev pub refusal_of_table_fault : TableFault → Refusal
 refusal_of_table_fault TableMemory = Memory
 refusal_of_table_fault fault = BadTable fault
 
+-- of the arrivals file
 abbrev pub refusal_of_arrival_fault : ArrivalFault → Refusal
 refusal_of_arrival_fault ArrivalsMemory = Memory
 refusal_of_arrival_fault fault = BadArrivals fault
 
--- the status of a refusal, and of a run
+-- the status of a refusal
 abbrev pub refusal_status : Refusal → Status
 refusal_status Usage = Status.Usage
 refusal_status (Unreadable file) = Status.FileFault
@@ -68,6 +71,7 @@ refusal_status (BadArrivals fault) = Status.BadArrivals
 refusal_status WriteFault = Status.WriteFault
 refusal_status Memory = Status.Memory
 
+-- the status of a run
 abbrev pub status_of : {X : Type 0} → Outcome X → Status
 status_of (Ok value) = Status.Done
 status_of (Err refusal) = refusal_status refusal
@@ -86,12 +90,13 @@ reason_of words (BadArrivals fault) = codes "arrivals " ++ arrival_fault_text fa
 reason_of words WriteFault = codes "cannot write"
 reason_of words Memory = codes "out of memory"
 
--- the same where the words are not known: a file is told by what it is
+-- what a file is
 abbrev pub file_text : File → List ℕ
 file_text Tasks = codes "task file"
 file_text Table = codes "table file"
 file_text Arrivals = codes "arrivals file"
 
+-- the reason where the words are not known: a file is told by what it is
 abbrev pub refusal_text : Refusal → List ℕ
 refusal_text (Unreadable file) = codes "cannot read " ++ file_text file
 refusal_text (TooLarge file) = codes "too large " ++ worded (file_text file) (limit_of file)

@@ -30,14 +30,16 @@ abbrev pub sporadic : List ℕ → ℕ → ℕ → ℕ → Sporadic
 sporadic name wcet separation deadline =
     record { name = name; wcet = wcet; separation = separation; deadline = deadline }
 
+-- a task set
 abbrev pub set_of : ℕ → List Graph → List Sporadic → TaskSet
 set_of soft graphs sporadics =
     record { soft_limit = soft; graphs = graphs; sporadics = sporadics }
 
--- two tasks in a row, period 8
+-- a graph of two tasks in a row, period 8
 abbrev pub pair_graph : Graph
 pair_graph = plain_graph (codes "g") 8 (task (codes "a") 2 [] ∷ task (codes "b") 1 (0 ∷ []) ∷ [])
 
+-- the set of that graph
 abbrev pub pair_set : TaskSet
 pair_set = set_of 64 (pair_graph ∷ []) []
 
@@ -63,13 +65,15 @@ abbrev pub row_of_three : List ℕ → ℕ → List ℕ → ℕ → List ℕ →
 row_of_three name period first a second b third c =
     plain_graph name period (task first a [] ∷ task second b (0 ∷ []) ∷ task third c (1 ∷ []) ∷ [])
 
--- the graphs of a flight controller: its inertial unit, its receiver of positions, its radio link
+-- the graphs of a flight controller: its inertial unit
 abbrev pub imu_graph : Graph
 imu_graph = row_of_three (codes "imu") 10 (codes "read") 1 (codes "fuse") 1 (codes "ctl") 1
 
+-- its receiver of positions
 abbrev pub gps_graph : Graph
 gps_graph = row_of_three (codes "gps") 20 (codes "read") 1 (codes "fix") 2 (codes "nav") 1
 
+-- its radio link
 abbrev pub link_graph : Graph
 link_graph = row_of_three (codes "link") 40 (codes "recv") 2 (codes "plan") 3 (codes "send") 1
 

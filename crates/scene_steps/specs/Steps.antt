@@ -37,6 +37,7 @@ soft_after_run key soft =
     (λ (s : SoftJob). if same_key (SoftKey s.row) key then record s { left = s.left - 1 } else s)
     soft)
 
+-- the soft jobs after a slot in which this ran
 abbrev pub soft_after_slot : Ran → List SoftJob → List SoftJob
 soft_after_slot RanIdle soft = soft
 soft_after_slot (RanKey key) soft = soft_after_run key soft

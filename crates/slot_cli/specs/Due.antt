@@ -35,6 +35,7 @@ abbrev pub limited_bytes : File → List ℕ → Outcome (List ℕ)
 limited_bytes file bytes =
     if nat_lt (limit_of file) (length bytes) then Err (TooLarge file) else Ok bytes
 
+-- the bytes of a file that the words name, where it can be read and is within its limit
 abbrev pub bytes_of : Held → List (List ℕ) → File → Outcome (List ℕ)
 bytes_of held words file =
     option_map_or (limited_bytes file) (first_bytes held (name_of words file) (limit_of file))
@@ -115,6 +116,7 @@ text_of held words command = do
 abbrev pub due_of : Held → List (List ℕ) → Option Command → Outcome (List ℕ)
 due_of held words command = option_map_or (text_of held words) command (Err Usage)
 
+-- what the words call for: the text that they are due, or the refusal before it
 abbrev pub expected : Held → List (List ℕ) → Outcome (List ℕ)
 expected held words = due_of held words (command_of words)
 

@@ -31,6 +31,7 @@ stage_of (BadArrivals fault) = 7
 stage_of WriteFault = 8
 stage_of Memory = 9
 
+-- the stage at which what is due comes: a text is due where it is written
 abbrev pub stage_due : Outcome (List ℕ) → ℕ
 stage_due (Ok text) = 8
 stage_due (Err refusal) = stage_of refusal

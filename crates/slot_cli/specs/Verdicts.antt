@@ -31,6 +31,7 @@ set_of_table bytes =
     (go_on (head_form.read (record { whole = length bytes; left = bytes })) (λ layout.
     (source_form layout).read))
 
+-- the same, with its fault as a refusal
 abbrev pub spelled_set : List ℕ → Outcome TaskSet
 spelled_set bytes = result_map_both (λ set. set) BadTable (set_of_table bytes)
 
@@ -45,6 +46,7 @@ set_from held words Spelled = do
   spelled_set bytes
 set_from held words (Load n) = Ok (load_set n)
 
+-- the sound set of the words' command, if they write one
 abbrev pub set_of_run : Held → List (List ℕ) → Outcome TaskSet
 set_of_run held words =
     option_map_or

@@ -30,11 +30,12 @@ is_in_row firm_row (FirmKey row) = true
 is_in_row soft_row (SoftKey row) = true
 is_in_row _ _ = false
 
--- the rows of a chart: the tasks of each graph and the sporadic tasks in the order of the file,
--- then firm and soft jobs
+-- the rows of a graph: its tasks in the order of the file
 abbrev pub graph_rows : ℕ × Graph → List ChartRow
 graph_rows (g, graph) = map (λ (t : ℕ × Task). task_row g t.0) (enumerate_from 0 graph.tasks)
 
+-- the rows of a chart: the tasks of each graph and the sporadic tasks in the order of the file,
+-- then firm and soft jobs
 abbrev pub chart_rows : TaskSet → List ChartRow
 chart_rows set =
     flat_map graph_rows (enumerate_from 0 set.graphs)
@@ -52,11 +53,12 @@ row_label set soft_row = codes "soft"
 abbrev pub label_width : TaskSet → ℕ
 label_width set = fold max 0 (map (λ row. length (row_label set row)) (chart_rows set))
 
--- the runs of a trace: at which time a job of which key ran
+-- the run that an entry tells, with its time, or none
 abbrev pub run_at : ℕ → What → List (ℕ × Key)
 run_at time (Run key) = (time, key) ∷ []
 run_at time _ = []
 
+-- the runs of a trace: at which time a job of which key ran
 abbrev pub runs_of : List Entry → List (ℕ × Key)
 runs_of trace = flat_map (λ (e : Entry). run_at e.time e.what) trace
 
@@ -74,11 +76,12 @@ chart_line set n runs row =
     ++ 32 ∷ map (mark_at runs row) (range_with_len 0 n)
     ++ 10 ∷ []
 
--- the chart of n slots of these runs, and of a trace
+-- the chart of n slots of these runs
 abbrev pub chart_of : TaskSet → ℕ → List (ℕ × Key) → List ℕ
 chart_of set n runs =
     worded (codes "gantt") n ++ 10 ∷ flat_map (chart_line set n runs) (chart_rows set)
 
+-- the chart of n slots of a trace
 abbrev pub chart_text : TaskSet → ℕ → List Entry → List ℕ
 chart_text set n trace = chart_of set n (runs_of trace)
 
@@ -134,5 +137,6 @@ tally_line n slots number =
     ++ worded (codes " idle") (number idle)
     ++ 10 ∷ []
 
+-- the line of the counts of a trace
 abbrev pub tally_text : ℕ → ℕ → List Entry → List ℕ
 tally_text n slots trace = tally_line n slots (number_of trace)

@@ -24,6 +24,7 @@ window_demand jobs sporadics cycle a b =
     + (if nat_lt cycle b then declared_within jobs cycle a b else 0)
     + sporadic_demand sporadics [] a b
 
+-- the demand of a window of a set
 abbrev pub demand : TaskSet → ℕ → ℕ → ℕ → ℕ
 demand set cycle a b = window_demand (cycle_jobs set cycle 0) set.sporadics cycle a b
 
@@ -55,5 +56,6 @@ counterexample_in jobs sporadics cycle =
     (failing_window jobs sporadics cycle 0 cycle)
     (first_some (first_failing_from jobs sporadics cycle) (range_with_len 0 cycle))
 
+-- the counterexample to the feasibility of a set
 abbrev pub counterexample : TaskSet → ℕ → Option Window
 counterexample set cycle = counterexample_in (cycle_jobs set cycle 0) set.sporadics cycle

@@ -117,7 +117,8 @@ pub record OfferIsExact
         (time_of h)
         (horizon cycle (time_of h))))
 
--- each firm offer of a history was answered exactly, at the history before it
+-- the answer to each firm offer of a history is exact, at the history before it; of one that is
+-- late or due more than a cycle ahead it asks no more than that none is accepted wrongly
 abbrev pub OffersAreExact : TaskSet → ℕ → History → Type 0
 OffersAreExact set cycle h =
     (row slots within : ℕ) (answer : FirmAnswer) (earlier : History)

@@ -15,6 +15,7 @@ use Rattle.slot_core.specs.declared.events.Done.TheVariants.{Freed}
 use Rattle.slot_core.specs.declared.events.Gone.TheVariants.{Freed as GoneFreed}
 use Rattle.slot_core.specs.Keys.{same_key}
 
+-- what has happened so far, newest first
 abbrev pub History : Type 0
 History = List What
 

@@ -16,10 +16,11 @@ use Rattle.slot_core.specs.Precedence.{longest_before, longest_after}
 abbrev pub tasks_of : TaskSet → ℕ → List Task
 tasks_of set g = option_map_or (λ (graph : Graph). graph.tasks) (slice_get set.graphs g) []
 
--- when an instance is released, and when all of it is due
+-- when an instance is released
 abbrev pub release_of : Graph → ℕ → ℕ
 release_of graph instance = instance * graph.period + graph.offset
 
+-- when all of it is due
 abbrev pub deadline_of : Graph → ℕ → ℕ
 deadline_of graph instance = release_of graph instance + graph.deadline
 
@@ -48,11 +49,12 @@ graph_jobs cycle n (g, graph) =
 abbrev pub raw_jobs : TaskSet → ℕ → ℕ → List RawJob
 raw_jobs set cycle n = flat_map (graph_jobs cycle n) (enumerate_from 0 set.graphs)
 
--- the longest chain of predecessors and of successors of an offline job, in slots
+-- the longest chain of predecessors of an offline job, in slots
 abbrev pub chain_before : TaskSet → Key → ℕ
 chain_before set (Offline graph task instance) = longest_before (tasks_of set graph) task
 chain_before set _ = 0
 
+-- its longest chain of successors, in slots
 abbrev pub chain_after : TaskSet → Key → ℕ
 chain_after set (Offline graph task instance) = longest_after (tasks_of set graph) task
 chain_after set _ = 0

@@ -16,10 +16,11 @@ wcet_of tasks t = option_map_or (λ (task : Task). task.wcet) (slice_get tasks t
 abbrev pub comes_after : List Task → ℕ → ℕ → Bool
 comes_after tasks t p = list_any (λ a. a == p) (after_of tasks t)
 
--- the direct predecessors and the direct successors of a task
+-- the direct predecessors of a task
 abbrev pub predecessors : List Task → ℕ → List ℕ
 predecessors tasks t = filter (λ p. comes_after tasks t p) (range_with_len 0 (length tasks))
 
+-- its direct successors
 abbrev pub successors : List Task → ℕ → List ℕ
 successors tasks t = filter (λ s. comes_after tasks s t) (range_with_len 0 (length tasks))
 
@@ -28,11 +29,12 @@ abbrev pub chains : (ℕ → List ℕ) → ℕ → ℕ → List (List ℕ)
 chains step zero t = [] ∷ []
 chains step (suc n) t = [] ∷ flat_map (λ s. map (λ chain. s ∷ chain) (chains step n s)) (step t)
 
--- the greatest sum of declared slots of a chain before task t, and of one after it
+-- the greatest sum of declared slots of a chain before task t
 abbrev pub longest_before : List Task → ℕ → ℕ
 longest_before tasks t =
     fold max 0 (map (sum_by (wcet_of tasks)) (chains (predecessors tasks) (length tasks) t))
 
+-- the greatest sum of a chain after it
 abbrev pub longest_after : List Task → ℕ → ℕ
 longest_after tasks t =
     fold max 0 (map (sum_by (wcet_of tasks)) (chains (successors tasks) (length tasks) t))

@@ -13,12 +13,14 @@ use Rattle.slot_core.specs.Faults.{set_fault}
 abbrev pub is_between : ℕ → ℕ → ℕ → Bool
 is_between low high n = nat_le low n && nat_le n high
 
+-- the numbers of a task are in their ranges, and its name is well formed
 abbrev pub task_in_range : Task → Bool
 task_in_range task =
     is_name task.name
     && is_between 1 SLOT_LIMIT task.wcet
     && nat_le (length task.after) AFTER_LIMIT
 
+-- so are those of a graph and of its tasks
 abbrev pub graph_in_range : Graph → Bool
 graph_in_range graph =
     is_name graph.name
@@ -28,6 +30,7 @@ graph_in_range graph =
     && is_between 1 TASK_LIMIT (length graph.tasks)
     && list_all task_in_range graph.tasks
 
+-- so are those of a sporadic task
 abbrev pub sporadic_in_range : Sporadic → Bool
 sporadic_in_range s =
     is_name s.name

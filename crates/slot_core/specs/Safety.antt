@@ -16,6 +16,7 @@ after_run key jobs =
     (λ (j : Job). nat_lt 0 j.left)
     (map (λ (j : Job). if same_key j.key key then record j { left = j.left - 1 } else j) jobs)
 
+-- the jobs after a slot in which this ran
 abbrev pub after_slot : Ran → List Job → List Job
 after_slot Idle jobs = jobs
 after_slot (KeyRan key) jobs = after_run key jobs

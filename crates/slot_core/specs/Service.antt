@@ -29,8 +29,8 @@ IsInside set u job =
 abbrev pub Concerns : What → Key → Type 0
 Concerns what key = (what ≡ Run key) ⊎ ((n : ℕ) × (freed_by what ≡ Some (key, n)))
 
--- served: every guaranteed job runs inside its window and has ended by its deadline, and no job,
--- guaranteed or soft, runs after its end or more than it declared
+-- served: every guaranteed job runs inside its window, and has ended by its deadline once the
+-- history reaches that; no job, guaranteed or soft, runs after its end or more than it declared
 pub record IsServed (set : TaskSet) (cycle : ℕ) (h : History) : Type 0 where
   -- every run of a guaranteed job lies inside its derived window, which lies in its raw one
   pub inside :

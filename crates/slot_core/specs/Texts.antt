@@ -30,12 +30,15 @@ use Rattle.slot_core.specs.OfflineJobs.{tasks_of}
 abbrev pub worded : List ℕ → ℕ → List ℕ
 worded word n = word ++ 32 ∷ decimal n
 
+-- the name of a graph of the set
 abbrev pub graph_name : TaskSet → ℕ → List ℕ
 graph_name set g = option_map_or (λ (graph : Graph). graph.name) (slice_get set.graphs g) []
 
+-- the name of a task of a graph
 abbrev pub task_name : TaskSet → ℕ → ℕ → List ℕ
 task_name set g t = option_map_or (λ (task : Task). task.name) (slice_get (tasks_of set g) t) []
 
+-- the name of a sporadic task
 abbrev pub sporadic_name : TaskSet → ℕ → List ℕ
 sporadic_name set s = option_map_or (λ (task : Sporadic). task.name) (slice_get set.sporadics s) []
 
@@ -47,24 +50,29 @@ key_text set (SporadicKey index row) = sporadic_name set index ++ codes "@" ++ d
 key_text set (FirmKey row) = codes "firm:" ++ decimal row
 key_text set (SoftKey row) = codes "soft:" ++ decimal row
 
+-- the words of an answer to soft work
 abbrev pub soft_text : SoftAnswer → List ℕ
 soft_text SoftTaken = codes "taken"
 soft_text (Full n) = worded (codes "full") n
 
+-- to a firm offer: a refusal for want of room tells the time, the need and the room
 abbrev pub firm_text : FirmAnswer → List ℕ
 firm_text Accepted = codes "accepted"
 firm_text Late = codes "late"
 firm_text Far = codes "far"
 firm_text (NoRoom e) = worded (worded (worded (codes "noroom") e.until) e.need) e.room
 
+-- to a sporadic arrival: its deadline, or the next slot in which it may come
 abbrev pub sporadic_text : Spo → List ℕ
 sporadic_text (SporadicTaken due) = worded (codes "taken") due
 sporadic_text (Soon next) = worded (codes "soon") next
 
+-- to an early end
 abbrev pub done_text : DoneAnswer → List ℕ
 done_text (Freed n) = worded (codes "freed") n
 done_text NotRunning = codes "notrunning"
 
+-- to a withdrawal
 abbrev pub gone_text : Gone → List ℕ
 gone_text (GoneFreed n) = worded (codes "freed") n
 gone_text NoJob = codes "nojob"
@@ -102,7 +110,7 @@ abbrev pub spans_text : What → ShownSpans → List ℕ
 spans_text End shown = []
 spans_text _ shown = codes " |" ++ shown_text shown
 
--- the line of an entry, and the text of a trace
+-- the line of an entry
 abbrev pub entry_line : TaskSet → Entry → List ℕ
 entry_line set entry =
     decimal entry.time
@@ -110,5 +118,6 @@ entry_line set entry =
     ++ spans_text entry.what entry.shown
     ++ 10 ∷ []
 
+-- the text of a trace: its lines
 abbrev pub trace_text : TaskSet → List Entry → List ℕ
 trace_text set trace = flat_map (entry_line set) trace

@@ -76,6 +76,7 @@ trace_in set cycle arrivals n =
     shown_entry set cycle 0 Start started
     ∷ (entries set cycle started (occurrences_of arrivals n) ++ end_entry n ∷ [])
 
+-- the trace of a set over n slots
 abbrev pub trace : TaskSet → List Arrival → ℕ → List Entry
 trace set arrivals n = trace_in set (cycle_of set) arrivals n
 

@@ -21,10 +21,11 @@ deadline_or set (Offline graph task instance) other =
     option_map_or (λ (g : Graph). deadline_of g instance) (slice_get set.graphs graph) other
 deadline_or set _ other = other
 
--- the raw window of a job: of a firm or sporadic one it is the derived window
+-- the start of the raw window of a job: of a firm or sporadic one that of the derived window
 abbrev pub raw_release : TaskSet → Job → ℕ
 raw_release set job = release_or set job.key job.est
 
+-- its end, likewise
 abbrev pub raw_deadline : TaskSet → Job → ℕ
 raw_deadline set job = deadline_or set job.key job.dl
 

@@ -23,7 +23,9 @@ pub enum Event {
 pub struct Arrival {
     /// Row in the file, from 1.
     pub row: u32,
+    /// The slot in which it arrives.
     pub slot: u64,
+    /// What arrives.
     pub event: Event,
 }
 
@@ -100,7 +102,10 @@ pub enum What {
 /// One line of a trace, with the first spans after it.
 #[derive(Drop)]
 pub struct Entry {
+    /// The slot in which it happens.
     pub time: u64,
+    /// What it tells.
     pub what: What,
+    /// The first spans after it.
     pub shown: Shown,
 }

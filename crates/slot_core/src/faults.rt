@@ -166,7 +166,9 @@ impl fmt::Display for Field {
 /// A key in one table of the task file.
 #[derive(Clone, Copy, PartialEq, Eq, Debug)]
 pub struct Place {
+    /// The table.
     pub part: Part,
+    /// The key.
     pub field: Field,
 }
 

@@ -25,6 +25,7 @@ pub type Spans = List<Span>;
 /// A task of a graph.
 #[derive(Drop)]
 pub struct Task {
+    /// Its name, which no other task of the graph has.
     pub name: Name,
     /// Worst-case execution time: 1 to `SLOT_LIMIT`.
     pub wcet: u32,
@@ -35,6 +36,7 @@ pub struct Task {
 /// A periodic task graph. Instance k is released at `k * period + offset` and due `deadline` later.
 #[derive(Drop)]
 pub struct Graph {
+    /// Its name, which no other graph has.
     pub name: Name,
     /// 1 to `SLOT_LIMIT`.
     pub period: u32,
@@ -42,12 +44,14 @@ pub struct Graph {
     pub offset: u32,
     /// 1 to `period - offset`.
     pub deadline: u32,
+    /// Its tasks: 1 to `TASK_LIMIT`.
     pub tasks: Tasks,
 }
 
 /// A task whose jobs arrive at run time, at least `separation` apart.
 #[derive(Drop)]
 pub struct Sporadic {
+    /// Its name, which no other sporadic task has.
     pub name: Name,
     /// Worst-case execution time: 1 to `SLOT_LIMIT`.
     pub wcet: u32,
@@ -62,6 +66,8 @@ pub struct Sporadic {
 pub struct TaskSet {
     /// Most soft jobs that wait at one time: 1 to `SOFT_LIMIT`.
     pub soft_limit: u32,
+    /// Its graphs: 1 to `GRAPH_LIMIT`.
     pub graphs: Graphs,
+    /// Its sporadic tasks: at most `SPORADIC_LIMIT`.
     pub sporadics: Sporadics,
 }

@@ -9,6 +9,7 @@ use Rattle.slot_core.specs.Cycles.{cycle_of}
 use Rattle.slot_core.specs.Texts.{entry_line, key_text}
 use Rattle.slot_core.specs.Traces.{trace, started, occurrences_of, history_after}
 
+-- a row of the arrivals
 abbrev pub arrival : ℕ → ℕ → Event → Arrival
 arrival row slot event = record { row = row; slot = slot; event = event }
 

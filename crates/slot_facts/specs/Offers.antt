@@ -77,8 +77,8 @@ RoomGivesASchedule =
     (row + 1)
     (offered_job row scene.time slots within ∷ [])
 
--- so the offers of every legal history are answered exactly: each that was accepted could be served,
--- and for each that was refused for want of room, some legal pattern left no slot schedule
+-- so the offers of every legal history are answered exactly: each that was accepted could be
+-- served, and for each that was refused for want of room, some legal pattern left no slot schedule
 abbrev pub OffersAreAlwaysExact : Type 0
 OffersAreAlwaysExact =
     (set : TaskSet) (h : History)

@@ -4,6 +4,7 @@ use Rattle.slot_core.specs.declared.jobs.Span.{Span}
 use Rattle.spare_capacity.specs.Recurrence.{filled}
 use Rattle.spare_capacity.specs.Available.{available}
 
+-- a span
 abbrev pub span : ℕ → ℕ → ℕ → ℤ → Span
 span start end work spare = record { start = start; end = end; work = work; spare = spare }
 

@@ -67,7 +67,8 @@ bytes_form n = record { told = λ text. text; written = λ text. text; read = by
 abbrev pub end_form : {X : Type 0} → Form X ⊤
 end_form = record { told = λ _. tt; written = λ _. []; read = end_at }
 
--- so many things, each by its place
+-- so many things; their places matter to the faults of their reading alone, so all are written as
+-- the first would be
 abbrev pub each : {X : Type 0} → (ℕ → Form X X) → ℕ → Form (List X) (List X)
 each f count = record {
   told = λ xs. xs;

@@ -112,7 +112,9 @@ abbrev pub sporadic_form : Layout → ℕ → Form SporadicTask SporadicTask
 sporadic_form layout s = do
   name ← part (λ (task : SporadicTask). task.name) (name_form (SporadicPart s))
   wcet ←
-      part (λ (task : SporadicTask). task.wcet) (range_form layout (SporadicPart s) Wcet 1 SLOT_LIMIT)
+      part
+      (λ (task : SporadicTask). task.wcet)
+      (range_form layout (SporadicPart s) Wcet 1 SLOT_LIMIT)
   separation ←
       part
       (λ (task : SporadicTask). task.separation)
@@ -129,7 +131,8 @@ set_form layout = do
   soft ← part (λ (set : TaskSet). set.soft_limit) (range_form layout Top Soft 1 SOFT_LIMIT)
   graph_count ← part (λ (set : TaskSet). length set.graphs) (one_up_to Top GraphKey GRAPH_LIMIT)
   graphs ← part (λ (set : TaskSet). set.graphs) (each (graph_form layout) graph_count)
-  sporadic_count ← part (λ (set : TaskSet). length set.sporadics) (up_to Top Sporadic SPORADIC_LIMIT)
+  sporadic_count ←
+      part (λ (set : TaskSet). length set.sporadics) (up_to Top Sporadic SPORADIC_LIMIT)
   sporadics ← part (λ (set : TaskSet). set.sporadics) (each (sporadic_form layout) sporadic_count)
   done (record { soft_limit = soft; graphs = graphs; sporadics = sporadics })
 
@@ -151,13 +154,15 @@ plan_of set =
     (counterexample set (cycle_of set))
     (Ok (planned set))
 
--- a number of an offline key: its graph, its task, its instance
+-- the graph of an offline key
 abbrev pub graph_of : Key → ℕ
 graph_of key = slice_index (key_order key) 1
 
+-- its task
 abbrev pub task_of : Key → ℕ
 task_of key = slice_index (key_order key) 2
 
+-- its instance
 abbrev pub instance_of : Key → ℕ
 instance_of key = slice_index (key_order key) 3
 

@@ -65,5 +65,6 @@ abbrev pub ReadsAs :
 ReadsAs seen read answer old new =
     MatchResult answer (λ a. read old ≡ Ok (seen a, new)) (λ e. e ≢ Memory → read old ≡ Err e)
 
+-- the same where the code's value is the one that is read
 abbrev pub Reads : {X : Type 0} → Reader X → Result X TableFault → Unread → Unread → Type 0
 Reads = ReadsAs (λ x. x)

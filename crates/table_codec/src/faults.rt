@@ -17,7 +17,7 @@ use std::fmt;
 pub enum TableFault {
     /// Memory ran out.
     Memory,
-    /// The bytes, of which there are so many, end inside a field.
+    /// The bytes, of which there are so many, end before a field that is due, or inside it.
     Short(u64),
     /// The first four bytes are not `SLOT`.
     BadMagic,

@@ -114,7 +114,8 @@ fn check_each_span(input: &mut Input, layout: Layout, spans: &[Span]) -> Result<
 /// Refuses stored spans that are not the computed ones.
 pub fn check_spans(input: &mut Input, layout: Layout, spans: &[Span]) -> Result<(), TableFault>
     requires { length spans.now < 2 ^ 32 }
-    ensures { ReadsAs (λ _. spans.now) (spans_form layout spans.now).read result input.old input.new }
+    ensures { ReadsAs (λ _. spans.now)
+        (spans_form layout spans.now).read result input.old input.new }
 {
     let computed = spans.len() as u32;
     let stored = input.many()?;

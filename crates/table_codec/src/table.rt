@@ -31,7 +31,8 @@ fn read_head(input: &mut Input) -> Result<Layout, TableFault>
 /// Refuses a set that is not sound.
 fn check_set(alloc: Global, set: &TaskSet) -> Result<(), TableFault>
     requires { is_in_range set.now ≡ true }
-    ensures { (input : Unread) → ReadsAs (λ _. set.now) (settled (sound_set set.now)) result input input }
+    ensures { (input : Unread)
+        → ReadsAs (λ _. set.now) (settled (sound_set set.now)) result input input }
 {
     check(alloc, set)?;
     Ok(())
@@ -59,7 +60,8 @@ fn read_source(alloc: Global, input: &mut Input, layout: Layout) -> Result<TaskS
 
 /// Refuses stored jobs and spans that are not those of the plan.
 fn check_stored(input: &mut Input, layout: Layout, plan: &Plan) -> Result<(), TableFault>
-    ensures { ReadsAs (λ _. plan.now) (stored_form layout plan.now).read result input.old input.new }
+    ensures { ReadsAs (λ _. plan.now)
+        (stored_form layout plan.now).read result input.old input.new }
 {
     check_jobs(input, layout, plan.jobs())?;
     check_spans(input, layout, plan.spans())?;

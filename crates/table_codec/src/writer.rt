@@ -108,7 +108,8 @@ fn put_after(out: &mut Vec<u8>, after: &[u16]) -> Result<(), Memory>
 /// A task of a graph.
 fn put_task(out: &mut Vec<u8>, layout: Layout, task: &Task) -> Result<(), Memory>
     requires { task_in_range task.now ≡ true }
-    ensures { OnOk result (out.new.items ≡ out.old.items ++ (task_form layout 0 0).written task.now) }
+    ensures { OnOk result
+        (out.new.items ≡ out.old.items ++ (task_form layout 0 0).written task.now) }
 {
     put_name(out, &task.name)?;
     put_range(out, layout, task.wcet)?;
@@ -131,7 +132,8 @@ fn put_tasks(out: &mut Vec<u8>, layout: Layout, tasks: &[Task]) -> Result<(), Me
 /// A graph.
 fn put_graph(out: &mut Vec<u8>, layout: Layout, graph: &Graph) -> Result<(), Memory>
     requires { graph_in_range graph.now ≡ true }
-    ensures { OnOk result (out.new.items ≡ out.old.items ++ (graph_form layout 0).written graph.now) }
+    ensures { OnOk result
+        (out.new.items ≡ out.old.items ++ (graph_form layout 0).written graph.now) }
 {
     put_name(out, &graph.name)?;
     put_range(out, layout, graph.period)?;

@@ -19,12 +19,13 @@ use Rattle.std.specs.Str.{bytes_eq}
 use Rattle.slot_core.specs.Faults.{set_fault}
 use Rattle.task_toml.specs.TomlFields.{Read, or_fault, known_keys, at_key, number_at, name_at}
 
--- the tables of an array, and the texts of one; none where an item is of another kind
+-- the tables of an array; none where an item is of another kind
 abbrev pub all_tables : Items → Option (List Members)
 all_tables no_items = Some []
 all_tables (item (table members) rest) = option_map (λ ts. members ∷ ts) (all_tables rest)
 all_tables (item _ rest) = None
 
+-- the texts of an array; none where an item is of another kind
 abbrev pub all_texts : Items → Option (List (List ℕ))
 all_texts no_items = Some []
 all_texts (item (string text) rest) = option_map (λ ts. text ∷ ts) (all_texts rest)
@@ -43,14 +44,14 @@ items_at place None = Ok no_items
 items_at place (Some (array items)) = Ok items
 items_at place (Some _) = Err (WrongKind place)
 
--- an array of at most `limit` tables, and one of at most `limit` texts; empty where the key is not
--- there
+-- an array of at most `limit` tables, empty where the key is not there
 abbrev pub tables_at : Place → ℕ → Option Data → Read (List Members)
 tables_at place limit found = do
   items ← items_at place found
   tables ← or_fault (WrongKind place) (all_tables items)
   at_most place limit tables
 
+-- an array of at most `limit` texts, empty where the key is not there
 abbrev pub texts_at : Place → ℕ → Option Data → Read (List (List ℕ))
 texts_at place limit found = do
   items ← items_at place found
@@ -74,6 +75,7 @@ pub record NamedTask : Type 0 where
   pub wcet : ℕ
   pub after : List (List ℕ)
 
+-- a task of a graph: its name, its slots, and the names that it comes after
 abbrev pub task_of : ℕ → ℕ → Members → Read NamedTask
 task_of g t members = do
   known ← known_keys (TaskPart g t) members
@@ -88,10 +90,12 @@ task_of g t members = do
 abbrev pub place_of_name : List NamedTask → List ℕ → ℕ
 place_of_name tasks name = position_or_len (λ (t : NamedTask). bytes_eq t.name name) tasks
 
+-- the task with the places of these names among the graph's tasks
 abbrev pub with_indexes : List NamedTask → NamedTask → Task
 with_indexes tasks t =
     record { name = t.name; wcet = t.wcet; after = map (place_of_name tasks) t.after }
 
+-- a graph: its name, its numbers, and its tasks
 abbrev pub graph_of : ℕ → Members → Read Graph
 graph_of g members = do
   known ← known_keys (GraphPart g) members
@@ -118,6 +122,7 @@ graph_of g members = do
     tasks = map (with_indexes tasks) tasks;
   })
 
+-- a sporadic task: its name and its numbers
 abbrev pub sporadic_of : ℕ → Members → Read SporadicTask
 sporadic_of s members = do
   known ← known_keys (SporadicPart s) members

@@ -21,6 +21,7 @@ abbrev pub AnswersAs : {A X : Type 0} → (A → X) → Result A TaskFault → R
 AnswersAs seen answer read =
     MatchResult answer (λ a. read ≡ Ok (seen a)) (λ e. e ≢ Memory → read ≡ Err e)
 
+-- the same where the code's value is the one that is read
 abbrev pub Answers : {X : Type 0} → Result X TaskFault → Read X → Type 0
 Answers = AnswersAs (λ x. x)
 

@@ -21,12 +21,13 @@ pub record AreChainsOf (tasks : List Task) (chains : Chains) : Type 0 where
 abbrev pub AreChainsOfGraphs : List Graph → List Chains → Type 0
 AreChainsOfGraphs graphs chains = AllZip (λ (g : Graph) c. AreChainsOf g.tasks c) graphs chains
 
--- the longest chain before the task of a key, and after it
+-- the longest chain before the task of a key
 abbrev pub before_in : List Chains → Key → ℕ
 before_in chains (Offline g t k) =
     option_map_or (λ (c : Chains). slice_index c.before t) (slice_get chains g) 0
 before_in chains _ = 0
 
+-- the longest chain after it
 abbrev pub after_in : List Chains → Key → ℕ
 after_in chains (Offline g t k) =
     option_map_or (λ (c : Chains). slice_index c.after t) (slice_get chains g) 0

@@ -16,12 +16,13 @@ use Rattle.slot_facts.proofs.Lists.Permuted.{Has-permuted, AllByRecursion-permut
 use Rattle.slot_facts.proofs.Offline.DistinctKeys.{IsApart}
 use Rattle.slot_facts.proofs.Plans.SortedJobs.{same_job, key-from_same, is_earlier-from_neither}
 
--- a job that goes before one that goes before a third goes before the third
+-- what is less is told as Less
 Less-from_is_lt : (o : Ordering) → is_lt o ≡ true → o ≡ Less
 Less-from_is_lt Less e = refl
 Less-from_is_lt Equal e = cc
 Less-from_is_lt Greater e = cc
 
+-- a job that goes before one that goes before a third goes before the third
 pub is_earlier-trans : (a b d : Job) → is_earlier a b ≡ true → is_earlier b d ≡ true → is_earlier a d ≡ true
 is_earlier-trans a b d first second =
     ap is_lt (job_cmp_total.trans a b d (Less-from_is_lt (job_cmp a b) first) (Less-from_is_lt (job_cmp b d) second))
@@ -30,10 +31,11 @@ is_earlier-trans a b d first second =
 pub is_earlier-one_way : (a b : Job) → is_earlier a b ≡ true → is_earlier b a ≡ false
 is_earlier-one_way a b first = (ranks_by nat_list_cmp_total deadline_order).one_way a b first
 
--- of two jobs with distinct keys one goes before the other
+-- the keys of two jobs are distinct
 abbrev pub HaveOtherKeys : Job → Job → Type 0
 HaveOtherKeys a b = a.key ≡ b.key → ⊥
 
+-- of two such jobs one goes before the other
 pub is_earlier-other_way : (a b : Job) → is_earlier b a ≡ false → HaveOtherKeys a b → is_earlier a b ≡ true
 is_earlier-other_way a b after apart =
     is_earlier-from_neither a b after (false_from_ne_true (same_job a b) (λ same. apart (key-from_same a b same)))
