@@ -1,4 +1,5 @@
 pub mod CycleTotals
 pub mod EndCounts
+pub mod QuietStarts
 pub mod Schedules
 pub mod WindowSums

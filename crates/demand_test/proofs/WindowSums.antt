@@ -1,6 +1,6 @@
 -- The sums of the table of ends are the offline demand of the windows from a start.
-use Rattle.std.proofs.Common.{◌≡◌, ℕ, zero, suc, ◌+◌, ◌-◌, ◌*◌, ◌<◌, ◌≤◌, max, Bool, true, false, List, [], length, map, take, drop, get_or, sum, Some, None, sym, ap, ◌∙◌, inl, inr, arith}
-use Rattle.std.specs.Prelude.{sum_by, nat_le, nat_lt, ◌==◌, ◌&&◌, if◌then◌else◌}
+use Rattle.std.proofs.Common.{◌≡◌, ℕ, zero, suc, ◌+◌, ◌-◌, ◌*◌, ◌<◌, ◌≤◌, ◌≢◌, max, Bool, true, false, List, [], length, map, take, drop, get_or, sum, Some, None, sym, ap, ◌∙◌, inl, inr, arith}
+use Rattle.std.specs.Prelude.{All, sum_by, nat_le, nat_lt, ◌==◌, ◌&&◌, if◌then◌else◌}
 use Rattle.std.specs.List.{AllWithin, prefix_len, range_with_len}
 use Rattle.std.specs.List.Sorted.{IsNonDecreasingBy}
 use Rattle.std.proofs.lemmas.Bool.{cases_lt, le-ltb, lt-ltb, leb-true, leb-false}
@@ -69,6 +69,20 @@ pub record IsStart (jobs rest : List Job) (a : ℕ) : Type 0 where
   pub before : AllWithin (λ (j : Job). j.est < a) jobs 0 started
   pub later : AllWithin (λ (j : Job). a ≤ j.est) jobs started (length jobs)
 
+-- past the jobs at the front of the rest that start by a, all start later
+pub later-IsStart : (jobs rest : List Job) (a n : ℕ) → IsNonDecreasingBy (λ (j : Job). j.est) jobs → (h : IsStart jobs rest a) → n ≡ prefix_len (λ (j : Job). nat_le j.est a) rest → AllWithin (λ (j : Job). a + 1 ≤ j.est) jobs (h.started + n) (length jobs)
+later-IsStart jobs rest a n ordered start count = λ k d from upto.
+    let starts = λ (j : Job). nat_le j.est a in
+    let p = start.started in
+    let left = ap length start.rest_is in
+    let len = length-drop p jobs in
+    let stops : nat_le (get_or rest n d).est a ≡ false = rw count (prefix_len_stops starts rest d (omega arith)) in
+    let late = leb-false (get_or rest n d).est a stops in
+    let at : get_or rest n d ≡ get_or jobs (p + n) d = ap (λ xs. get_or xs n d) start.rest_is ∙ get_or-drop p jobs n d in
+    let same = ap (λ (j : Job). j.est) at in
+    let more = ordered (p + n) k d from upto in
+    omega arith
+
 -- the rest after the jobs that start by a
 pub IsStart-next : (jobs rest later : List Job) (a n : ℕ) → IsNonDecreasingBy (λ (j : Job). j.est) jobs → IsStart jobs rest a → n ≡ prefix_len (λ (j : Job). nat_le j.est a) rest → later ≡ drop n rest → IsStart jobs later (a + 1)
 IsStart-next jobs rest later a n ordered start count back =
@@ -93,14 +107,16 @@ IsStart-next jobs rest later a n ordered start count back =
                 let same = ap (λ (j : Job). j.est) (at ∙ ap (λ i. get_or jobs i d) place) in
                 omega arith
           ];
-      later = λ k d from upto.
-          let stops : nat_le (get_or rest n d).est a ≡ false = rw count (prefix_len_stops starts rest d (omega arith)) in
-          let late = leb-false (get_or rest n d).est a stops in
-          let at : get_or rest n d ≡ get_or jobs (p + n) d = ap (λ xs. get_or xs n d) start.rest_is ∙ get_or-drop p jobs n d in
-          let same = ap (λ (j : Job). j.est) at in
-          let more = ordered (p + n) k d from upto in
-          omega arith;
+      later = later-IsStart jobs rest a n ordered start count;
     }
+
+-- where none of the rest starts by a, no job starts at a
+pub quiet-IsStart : (jobs rest : List Job) (a : ℕ) → IsNonDecreasingBy (λ (j : Job). j.est) jobs → IsStart jobs rest a → 0 ≡ prefix_len (λ (j : Job). nat_le j.est a) rest → All (λ (j : Job). j.est ≢ a) jobs
+quiet-IsStart jobs rest a ordered start none = λ k d low.
+    elim (cases_lt k start.started) [
+      | inl front ↦ let early = start.before k d (omega arith) front in omega arith
+      | inr past ↦ let late = later-IsStart jobs rest a 0 ordered start none k d (omega arith) low in omega arith
+    ]
 
 -- the first jobs, which start before a, do not count from a on, and the others all do
 before_start : (est a dl b d : ℕ) → est < a → (if nat_le a (est + 0) && nat_le (dl + 0) b then d else 0) ≡ 0
@@ -142,7 +158,7 @@ declared_within-next jobs cycle a b low =
     ]
 
 -- the sums of the table are the offline demand
-offline-IsEndTable : (jobs rest : List Job) (cycle a : ℕ) (due : List ℕ) → IsEndTable rest jobs cycle due → IsStart jobs rest a → a < cycle → (b : ℕ) → b ≤ 2 * cycle → sum (take (b + 1) due) ≡ declared_within jobs 0 a b + (if nat_lt cycle b then declared_within jobs cycle a b else 0)
+pub offline-IsEndTable : (jobs rest : List Job) (cycle a : ℕ) (due : List ℕ) → IsEndTable rest jobs cycle due → IsStart jobs rest a → a < cycle → (b : ℕ) → b ≤ 2 * cycle → sum (take (b + 1) due) ≡ declared_within jobs 0 a b + (if nat_lt cycle b then declared_within jobs cycle a b else 0)
 offline-IsEndTable jobs rest cycle a due h start low b high =
     omega (
       arith,
@@ -184,21 +200,25 @@ window_demand-AreTables jobs rest ss cycle a due arrivals h start b low high =
       arrivals-from_zero jobs ss cycle a b h.none (omega arith) high (omega arith),
     )
 
--- so the search in the tables is the search among the windows
+-- where the sums of tables are the demand of the windows from a start, the search in the tables is the
+-- search among those windows
 abbrev window : ℕ → ℕ → ℕ → Window
 window a b needed = record { from = a; until = b; demand = needed }
 
-pub first_failing_from-AreTables : (jobs rest : List Job) (ss : List Sporadic) (cycle a : ℕ) (due arrivals : List ℕ) → AreTables jobs rest ss cycle a due arrivals → a < cycle → first_some (failing_in due arrivals a) (range_with_len (a + 1) (length due - 1 - a)) ≡ first_failing_from jobs ss cycle a
-first_failing_from-AreTables jobs rest ss cycle a due arrivals h start =
-    let len = h.ends.len in
+pub first_failing_from-sums : (jobs : List Job) (ss : List Sporadic) (cycle a : ℕ) (due arrivals : List ℕ) → length due ≡ 2 * cycle + 1 → a < cycle → ((b : ℕ) → a < b → b ≤ 2 * cycle → sum (take (b + 1) due) + get_or arrivals (b - a) 0 ≡ window_demand jobs ss cycle a b) → first_some (failing_in due arrivals a) (range_with_len (a + 1) (length due - 1 - a)) ≡ first_failing_from jobs ss cycle a
+first_failing_from-sums jobs ss cycle a due arrivals len start sums =
     let count : length due - 1 - a ≡ 2 * cycle - a = omega arith in
     rw count (first_some-agree (failing_in due arrivals a) (failing_window jobs ss cycle a) (a + 1) (2 * cycle - a) (λ b low high.
     ap
     (λ (needed : ℕ). if nat_lt (b - a) needed then Some (window a b needed) else None)
-    (window_demand-AreTables jobs rest ss cycle a due arrivals h start b (omega arith) (omega arith))))
+    (sums b (omega arith) (omega arith))))
+
+pub first_failing_from-AreTables : (jobs rest : List Job) (ss : List Sporadic) (cycle a : ℕ) (due arrivals : List ℕ) → AreTables jobs rest ss cycle a due arrivals → a < cycle → first_some (failing_in due arrivals a) (range_with_len (a + 1) (length due - 1 - a)) ≡ first_failing_from jobs ss cycle a
+first_failing_from-AreTables jobs rest ss cycle a due arrivals h start =
+    first_failing_from-sums jobs ss cycle a due arrivals h.ends.len start (window_demand-AreTables jobs rest ss cycle a due arrivals h start)
 
 -- the whole table sums to little
-pub sum-IsEndTable-le : (first next : List Job) (cycle m : ℕ) (due : List ℕ) → IsEndTable first next cycle due → sum_by (λ (j : Job). j.declared) first ≤ m → sum_by (λ (j : Job). j.declared) next ≤ m → sum due ≤ 2 * m
+sum-IsEndTable-le : (first next : List Job) (cycle m : ℕ) (due : List ℕ) → IsEndTable first next cycle due → sum_by (λ (j : Job). j.declared) first ≤ m → sum_by (λ (j : Job). j.declared) next ≤ m → sum due ≤ 2 * m
 unfolding ending_by
 sum-IsEndTable-le first next cycle m due h few_first few_next =
     let len = h.len in
@@ -209,3 +229,11 @@ sum-IsEndTable-le first next cycle m due h few_first few_next =
     part : (test : Bool) (n : ℕ) → (if test then n else 0) ≤ n
     part true n = omega arith
     part false n = omega arith
+
+-- and so does the table at a start
+pub sum-IsStart-le : (jobs rest : List Job) (cycle a m : ℕ) (due : List ℕ) → IsEndTable rest jobs cycle due → IsStart jobs rest a → sum_by (λ (j : Job). j.declared) jobs ≤ m → sum due ≤ 2 * m
+sum-IsStart-le jobs rest cycle a m due ends start few =
+    let declared = λ (j : Job). j.declared in
+    let left = sum_by-take-drop declared jobs start.started in
+    let same = ap (sum_by declared) start.rest_is in
+    sum-IsEndTable-le rest jobs cycle m due ends (omega arith) few

@@ -1,6 +1,6 @@
 //! The search for a window with more demand than slots.
 
-ghost use Rattle.std.specs.Prelude.{◌≡◌, ℕ, ◌+◌, ◌-◌, ◌*◌, ◌^◌, ◌<◌, ◌≤◌, All, IfOk, length, nat_le, sum, sum_by, slice_index};
+ghost use Rattle.std.specs.Prelude.{◌≡◌, ℕ, ◌+◌, ◌-◌, ◌*◌, ◌^◌, ◌<◌, ◌≤◌, [], All, IfOk, drop, is_none, length, nat_le, sum, sum_by, slice_index};
 ghost use Rattle.std.specs.List.{prefix_len, range_with_len};
 ghost use Rattle.std.specs.List.Sorted.{IsNonDecreasingBy};
 ghost use Rattle.slot_core.specs.declared.TheConstants.{SLOT_LIMIT};
@@ -56,18 +56,22 @@ fn count_started(jobs: &[Job], from: u32) -> usize
         .count()
 }
 
-/// Takes these jobs of the first cycle out of the table.
-fn take_out(due: &mut [u64], jobs: &[Job])
+/// Takes the first `count` jobs of the first cycle out of the table, and gives the others.
+fn take_out<'a>(due: &mut [u64], jobs: &'a [Job], count: usize) -> &'a [Job]
+    requires count { count ≤ length jobs.now }
     requires within { All (λ (j : Job). j.dl < length due.old) jobs.now }
     requires counted { (b : ℕ)
         → b < length due.old
         → ending_at first_end jobs.now b ≤ slice_index due.old b }
-    ensures { (b : ℕ)
-        → slice_index due.new b + ending_at first_end jobs.now b ≡ slice_index due.old b }
+    ensures others { result.now ≡ drop count jobs.now }
+    ensures table { (b : ℕ) → slice_index due.new b + ending_at first_end jobs.now b
+        ≡ slice_index due.old b + ending_at first_end result.now b }
 {
-    for job in jobs {
+    let (first, others) = jobs.split_at(count);
+    for job in first {
         due[job.dl as usize] -= u64::from(job.declared);
     }
+    others
 }
 
 /// The sum of the numbers.
@@ -104,9 +108,54 @@ fn failing_from(due: &[u64], arrivals: &[u64], from: usize) -> Option<Window>
     None
 }
 
-/// The failing window of least start, and then of least end, or none. The jobs are in the order of
-/// their starts.
-pub fn first_failing(
+/// Whether no window that starts at `start` fails, where no arrivals come.
+fn fits_from(due: &[u64], start: usize) -> bool
+    requires within { start < length due.now }
+    requires few { sum due.now < 2 ^ 63 }
+    ensures { result ≡ is_none (first_some
+        (failing_in due.now [] start)
+        (range_with_len (start + 1) (length due.now - 1 - start))) }
+{
+    let mut needed = sum_of(&due[..start + 1]);
+    let rest = &due[start..];
+    for slots in 1..rest.len() {
+        needed += rest[slots];
+        if needed > slots as u64 {
+            return false;
+        }
+    }
+    true
+}
+
+/// Whether no window fails, where no arrivals come. The jobs are in the order of their starts.
+fn starts_fit(alloc: Global, jobs: &[Job], cycle: u32) -> Result<bool, Memory>
+    requires positive { 0 < cycle }
+    requires cycle { cycle ≤ SLOT_LIMIT }
+    requires within { All (λ (j : Job). j.dl ≤ cycle) jobs.now }
+    requires few { sum_by (λ (j : Job). j.declared) jobs.now ≤ cycle }
+    requires ordered { IsNonDecreasingBy (λ (j : Job). j.est) jobs.now }
+    ensures { IfOk result (λ fits. fits ≡ is_none (first_some
+        (first_failing_from jobs.now [] cycle) (range_with_len 0 cycle))) }
+{
+    let mut due = due_table(alloc, jobs, cycle)?;
+    let mut rest = jobs;
+    for start in 0..cycle {
+        let started = count_started(rest, start);
+        // Where no job starts, a window fails only if one from the next start does.
+        if started == 0 && start + 1 < cycle {
+            continue;
+        }
+        if !fits_from(due.as_slice(), start as usize) {
+            return Ok(false);
+        }
+        rest = take_out(&mut due, rest, started);
+    }
+    Ok(true)
+}
+
+/// The failing window of least start, and then of least end, or none: every start is tried. The
+/// jobs are in the order of their starts.
+fn first_of_all_starts(
     alloc: Global,
     jobs: &[Job],
     sporadics: &[Sporadic],
@@ -129,9 +178,30 @@ pub fn first_failing(
         if failing.is_some() {
             return Ok(failing);
         }
-        let (started, later) = rest.split_at(count_started(rest, from));
-        take_out(&mut due, started);
-        rest = later;
+        let started = count_started(rest, from);
+        rest = take_out(&mut due, rest, started);
     }
     Ok(None)
+}
+
+/// The failing window of least start, and then of least end, or none. The jobs are in the order of
+/// their starts.
+pub fn first_failing(
+    alloc: Global,
+    jobs: &[Job],
+    sporadics: &[Sporadic],
+    cycle: u32,
+) -> Result<Option<Window>, Memory>
+    requires positive { 0 < cycle }
+    requires cycle { cycle ≤ SLOT_LIMIT }
+    requires within { All (λ (j : Job). j.dl ≤ cycle) jobs.now }
+    requires few { sum_by (λ (j : Job). j.declared) jobs.now ≤ cycle }
+    requires ordered { IsNonDecreasingBy (λ (j : Job). j.est) jobs.now }
+    ensures { IfOk result (λ w. w ≡ first_some
+        (first_failing_from jobs.now sporadics.now cycle) (range_with_len 0 cycle)) }
+{
+    if sporadics.is_empty() && starts_fit(alloc, jobs, cycle)? {
+        return Ok(None);
+    }
+    first_of_all_starts(alloc, jobs, sporadics, cycle)
 }

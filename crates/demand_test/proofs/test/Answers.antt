@@ -1,7 +1,6 @@
-use Rattle.std.proofs.Common.{◌≡◌, ℕ, ◌-◌, ◌≤◌, List, Option, None, refl, sym, ap, ◌∙◌, subst, arith, rules}
+use Rattle.std.proofs.Common.{◌≡◌, ℕ, ◌≤◌, List, Option, None, refl, sym, ap, ◌∙◌, subst, arith, rules}
 use Rattle.std.specs.List.{range_with_len}
 use Rattle.std.specs.List.Sorted.{IsPermutation}
-use Rattle.std.proofs.lemmas.Bool.{le-ltb}
 use Rattle.std.proofs.lemmas.List.Sorted.{IsNonDecreasingBy-from_sort_by_key, All-permutation, sum_by-IsPermutation}
 use Rattle.slot_core.specs.declared.jobs.Job.{Job}
 use Rattle.slot_core.specs.declared.jobs.Window.{Window}
@@ -11,18 +10,14 @@ use Rattle.demand_test.specs.Verdicts.{verdict_of}
 use Rattle.slot_facts.proofs.Offline.Jobs.{cycle-positive}
 use Rattle.slot_facts.proofs.Demand.Feasible.{failing_window-permutation, counterexample_in-permutation}
 use Rattle.demand_test.proofs.CycleTotals.{window_demand-cycle}
+use Rattle.demand_test.proofs.QuietStarts.{none-from_fits}
 use Rattle.demand_test.proofs.Schedules.{MeansSchedules-from_verdict}
 use Rattle.demand_test.proofs.test.Goals as goal
-
--- the whole cycle is no failing window
-none-from_fits : (jobs : List Job) (ss : List Sporadic) (cycle : ℕ) → window_demand jobs ss cycle 0 cycle ≤ cycle → failing_window jobs ss cycle 0 cycle ≡ None
-none-from_fits jobs ss cycle fits =
-    rw (le-ltb (cycle - 0) (window_demand jobs ss cycle 0 cycle) (omega arith)) refl
 
 -- what is found along the jobs in another order is the counterexample
 counterexample-is : (jobs others : List Job) (ss : List Sporadic) (cycle : ℕ) (o : Option Window) → IsPermutation jobs others → window_demand jobs ss cycle 0 cycle ≤ cycle → o ≡ first_some (first_failing_from others ss cycle) (range_with_len 0 cycle) → o ≡ counterexample_in jobs ss cycle
 counterexample-is jobs others ss cycle o same fits is =
-    let whole : failing_window others ss cycle 0 cycle ≡ None = sym (failing_window-permutation jobs others ss cycle 0 cycle same) ∙ none-from_fits jobs ss cycle fits in
+    let whole : failing_window others ss cycle 0 cycle ≡ None = sym (failing_window-permutation jobs others ss cycle 0 cycle same) ∙ none-from_fits jobs ss cycle 0 cycle (omega arith) in
     let none : counterexample_in others ss cycle ≡ first_some (first_failing_from others ss cycle) (range_with_len 0 cycle) = rw whole refl in
     is ∙ sym none ∙ sym (counterexample_in-permutation jobs others ss cycle same)
 

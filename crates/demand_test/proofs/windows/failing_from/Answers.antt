@@ -1,20 +1,10 @@
-use Rattle.std.proofs.Common.{◌≡◌, ℕ, ◌+◌, ◌-◌, ◌<◌, ◌≤◌, true, List, length, take, get_or, sum, None, Some, sym, refl, ap, ◌∙◌, inl, inr, arith}
-use Rattle.std.specs.Prelude.{nat_lt}
-use Rattle.std.proofs.lemmas.Bool.{cases_eq, lt-ltb, le-ltb}
+use Rattle.std.proofs.Common.{◌+◌, ◌-◌, length, get_or, sym, ap, ◌∙◌, inl, inr, arith}
+use Rattle.std.proofs.lemmas.Bool.{cases_eq}
 use Rattle.std.proofs.lemmas.List.Sums.{sum_by_more, sum_by-take-le}
 use Rattle.demand_test.specs.EndTables.{failing_in}
+use Rattle.demand_test.proofs.EndCounts.{failing_in-Some, failing_in-None}
 use Rattle.slot_facts.proofs.Lists.FirstSome.{first_some-found, first_some-from_none}
 use Rattle.demand_test.proofs.windows.failing_from.Goals as goal
-
--- the window whose demand is more than its slots
-failing_in-Some : (due arrivals : List ℕ) (a b needed : ℕ) → sum (take (b + 1) due) + get_or arrivals (b - a) 0 ≡ needed → b - a < needed → failing_in due arrivals a b ≡ Some (record { from = a; until = b; demand = needed })
-failing_in-Some due arrivals a b needed is more =
-    let fails : nat_lt (b - a) needed ≡ true = lt-ltb (b - a) needed more in
-    rw (is, fails) refl
-
--- the window whose slots are enough
-failing_in-None : (due arrivals : List ℕ) (a b needed : ℕ) → sum (take (b + 1) due) + get_or arrivals (b - a) 0 ≡ needed → needed ≤ b - a → failing_in due arrivals a b ≡ None
-failing_in-None due arrivals a b needed is fits = rw (is, le-ltb (b - a) needed fits) refl
 
 pub overflow_add-needed : goal.overflow_add-needed
 overflow_add-needed c =

@@ -6,5 +6,5 @@ abbrev pub invariant-loop-job : goal.invariant-loop-job
 invariant-loop-job l =
     record {
       left : length l.due ≡ length l.initial.due;
-      taken : (b : ℕ) → slice_index l.due b + ending_at first_end l.jobs b ≡ slice_index l.initial.due b + ending_at first_end (drop l.job-index l.jobs) b;
+      taken : (b : ℕ) → slice_index l.due b + ending_at first_end l.first b ≡ slice_index l.initial.due b + ending_at first_end (drop l.job-index l.first) b;
     }
