@@ -1,5 +1,5 @@
 -- A block of unused nodes is an empty chain.
-use Rattle.std.proofs.Common.{◌≡◌, ℕ, zero, suc, ◌+◌, ◌≤◌, ◌<◌, ◌^◌, List, [], ◌∷◌, ◌++◌, length, refl, sym, ap, subst, inl, inr, ◌∙◌, arith, add-one}
+use Rattle.std.proofs.Common.{◌≡◌, ℕ, zero, suc, ◌+◌, ◌≤◌, ◌<◌, ◌^◌, List, [], ◌∷◌, ◌++◌, length, refl, length-append, sym, ap, subst, inl, inr, ◌∙◌, arith, add-one}
 use Rattle.std.proofs.lemmas.List.{get_or_append_left, length-set}
 use Rattle.std.proofs.Math.Seq.{get_or-append_seam}
 use Rattle.std.proofs.lemmas.Bool.{cases_lt}
@@ -7,7 +7,6 @@ use Rattle.node_chain.specs.declared.block.Node.{Node}
 use Rattle.node_chain.specs.Nodes.{node_at, unused, unused_node}
 use Rattle.node_chain.specs.Links.{next_of, prev_of, with_next, run, times, IsLinked, Stands}
 use Rattle.node_chain.proofs.Counts.{times-not, times-head, same_or_not}
-use Rattle.node_chain.proofs.Full.{length-unused}
 use Rattle.node_chain.proofs.Writes.{next-here, next-there, next-prev}
 use Rattle.node_chain.proofs.Rings.{IsLinked-of}
 
@@ -47,6 +46,11 @@ run-from nodes a zero next = refl
 run-from nodes a (suc k) next =
     ap (λ n. a ∷ run nodes n k) (next a (omega arith) (omega arith))
     ∙ ap (λ l. a ∷ l) (run-from nodes (suc a) k (λ p le lt. next p (omega (arith, le)) (omega (arith, lt))))
+
+-- so many unused nodes
+pub length-unused : (n : ℕ) → length (unused n) ≡ n
+length-unused zero = refl
+length-unused (suc n) = omega (arith, length-append (unused n) (unused_node n ∷ []), length-unused n)
 
 -- each unused node is the one of its place
 pub unused-at : (m p : ℕ) → p < m → node_at (unused m) p ≡ unused_node p

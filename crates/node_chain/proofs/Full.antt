@@ -1,9 +1,6 @@
 -- A block in which each place has a value is the list of its values.
-use Rattle.std.proofs.Common.{◌≡◌, ℕ, zero, suc, ◌+◌, ◌-◌, ◌≤◌, ◌<◌, ◌^◌, List, [], ◌∷◌, ◌++◌, length, map, replicate, slice_set, slice_index_or, Option, Some, None, refl, sym, ap, subst, ◌∙◌, arith, append_assoc, append-nil, length-append, add-one}
-use Rattle.std.proofs.lemmas.List.{length-map, length-replicate, length-set, map-append, map-set}
-use Rattle.std.proofs.Math.Seq.{set-append_seam}
-use Rattle.node_chain.specs.declared.block.Node.{Node}
-use Rattle.node_chain.specs.Nodes.{unused, unused_node}
+use Rattle.std.proofs.Common.{◌≡◌, ℕ, zero, suc, ◌+◌, ◌-◌, ◌≤◌, ◌<◌, List, [], ◌∷◌, ◌++◌, length, map, replicate, slice_set, slice_index_or, Option, Some, None, refl, sym, ap, subst, ◌∙◌, arith, append-nil, add-one, zero-add}
+use Rattle.std.proofs.lemmas.List.{length-map, length-replicate, length-set, map-set}
 use Rattle.node_chain.specs.Raw.{values, IsFull}
 
 module _ {X : Type 0} where
@@ -34,11 +31,10 @@ module _ {X : Type 0} where
       ∙ ap values (sym (map-set Some (values held) i x)) ∙ values-map (slice_set (values held) i x)
 
   -- places with the values of a list are full
-  pub IsFull-map : (xs : List X) (n : ℕ) → length xs ≡ n → n ≤ 2 ^ 20 + 1 → IsFull (map Some xs) n
-  IsFull-map xs n long few = record {
+  pub IsFull-map : (xs : List X) (n : ℕ) → length xs ≡ n → IsFull (map Some xs) n
+  IsFull-map xs n long = record {
     full = ap (map Some) (sym (values-map xs));
     many = length-map xs Some ∙ long;
-    few = few;
   }
 
   -- full places stay so where a value is put
@@ -47,45 +43,36 @@ module _ {X : Type 0} where
       let same : map Some (slice_set (values held) i x) ≡ slice_set held i (Some x) =
       map-set Some (values held) i x ∙ ap (λ (l : List (Option X)). slice_set l i (Some x)) (sym f.full) in
       subst (λ l. IsFull l n) same
-      (IsFull-map (slice_set (values held) i x) n (length-set (values held) i x ∙ IsFull-length held n f) f.few)
+      (IsFull-map (slice_set (values held) i x) n (length-set (values held) i x ∙ IsFull-length held n f))
 
--- so many unused nodes
-pub length-unused : (n : ℕ) → length (unused n) ≡ n
-length-unused zero = refl
-length-unused (suc n) = omega (arith, length-append (unused n) (unused_node n ∷ []), length-unused n)
+-- so many zeros, and empty places behind them
+abbrev pub begun : ℕ → ℕ → List (Option ℕ)
+begun n left = replicate n (Some 0) ++ replicate left None
 
--- so many unused nodes, and empty places up to a count
-abbrev pub begun : ℕ → ℕ → List (Option Node)
-begun n left = map Some (unused n) ++ replicate left None
-
--- those nodes and the empty places
+-- those zeros and the empty places
 pub length-begun : (n left : ℕ) → length (begun n left) ≡ n + left
-length-begun n left =
-    let rest : List (Option Node) = replicate left None in
-    let behind : length rest ≡ left = length-replicate left None in
-    omega (arith, length-append (map Some (unused n)) rest, length-map (unused n) Some, length-unused n, behind)
+length-begun zero left = length-replicate left None ∙ sym (zero-add left)
+length-begun (suc n) left = omega (arith, length-begun n left)
 
-begun-one : (n left : ℕ) → slice_set (begun n (suc left)) n (Some (unused_node n)) ≡ begun (suc n) left
-begun-one n left =
-    let front = map Some (unused n) in let rest : List (Option Node) = replicate left None in
-    let long : length front ≡ n = length-map (unused n) Some ∙ length-unused n in
-    let put : slice_set (front ++ None ∷ rest) (length front) (Some (unused_node n)) ≡ front ++ Some (unused_node n) ∷ rest =
-    set-append_seam front None rest (Some (unused_node n)) in
-    subst (λ k. slice_set (front ++ None ∷ rest) k (Some (unused_node n)) ≡ front ++ Some (unused_node n) ∷ rest) long put
-    ∙ sym (append_assoc front (Some (unused_node n) ∷ []) rest)
-    ∙ ap (λ (l : List (Option Node)). l ++ rest) (sym (map-append Some (unused n) (unused_node n ∷ [])))
+begun-one : (n left : ℕ) → slice_set (begun n (suc left)) n (Some 0) ≡ begun (suc n) left
+begun-one zero left = refl
+begun-one (suc n) left = ap (λ (l : List (Option ℕ)). Some 0 ∷ l) (begun-one n left)
 
--- one more node is put into the first empty place
-pub begun-more : (held : List (Option Node)) (n count : ℕ) → n < count → held ≡ begun n (count - n)
-    → slice_set held n (Some (unused_node n)) ≡ begun (n + 1) (count - (n + 1))
+-- one more zero is put into the first empty place
+pub begun-more : (held : List (Option ℕ)) (n count : ℕ) → n < count → held ≡ begun n (count - n)
+    → slice_set held n (Some 0) ≡ begun (n + 1) (count - (n + 1))
 begun-more held n count lt e =
     let step : count - n ≡ suc (count - (n + 1)) = omega arith in
-    ap (λ l. slice_set l n (Some (unused_node n))) (e ∙ ap (begun n) step)
+    ap (λ l. slice_set l n (Some 0)) (e ∙ ap (begun n) step)
     ∙ begun-one n (count - (n + 1)) ∙ ap (λ k. begun k (count - (n + 1))) (sym (add-one n))
 
+zeros : (n : ℕ) → replicate n (Some 0) ≡ map Some (replicate {A = ℕ} n 0)
+zeros zero = refl
+zeros (suc n) = ap (λ (l : List (Option ℕ)). Some 0 ∷ l) (zeros n)
+
 -- no place is left empty
-pub begun-all : (held : List (Option Node)) (n count : ℕ) → n ≤ count → count ≤ n → held ≡ begun n (count - n)
-    → held ≡ map Some (unused count)
+pub begun-all : (held : List (Option ℕ)) (n count : ℕ) → n ≤ count → count ≤ n → held ≡ begun n (count - n)
+    → held ≡ map Some (replicate count 0)
 begun-all held n count le ge e =
     let none : count - n ≡ 0 = omega arith in let all : n ≡ count = omega arith in
-    e ∙ ap (begun n) none ∙ append-nil (map Some (unused n)) ∙ ap (λ k. map Some (unused k)) all
+    e ∙ ap (begun n) none ∙ append-nil (replicate n (Some 0)) ∙ zeros n ∙ ap (λ k. map Some (replicate k 0)) all

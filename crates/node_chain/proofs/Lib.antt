@@ -7,6 +7,7 @@ pub mod Joins
 pub mod Kept
 pub mod Layouts
 pub mod Lending
+pub mod NodeWords
 pub mod Pairs
 pub mod Parts
 pub mod Rings

@@ -3,3 +3,4 @@ pub mod Links
 pub mod Nodes
 pub mod Ownership
 pub mod Raw
+pub mod Words

@@ -1,5 +1,5 @@
 -- The places of a block.
-use Rattle.std.specs.Prelude.{◌≡◌, ℕ, ◌+◌, ◌≤◌, ◌^◌, List, [], ◌∷◌, length, map, get_or, Option, Some, None}
+use Rattle.std.specs.Prelude.{◌≡◌, ℕ, List, [], ◌∷◌, length, map, get_or, Option, Some, None}
 
 -- a place has a value
 abbrev pub HoldsValue : {X : Type 0} → List (Option X) → ℕ → Type 0
@@ -16,4 +16,3 @@ module _ {X : Type 0} where
   pub record IsFull (held : List (Option X)) (count : ℕ) : Type 0 where
     pub full : held ≡ map Some (values held)
     pub many : length held ≡ count
-    pub few : count ≤ 2 ^ 20 + 1

@@ -1,12 +1,26 @@
-//! A block of nodes.
+//! A block of nodes: their links side by side, then their spans.
 
-ghost use Rattle.std.specs.Prelude.{◌≡◌, ◌+◌, ◌≤◌, ◌<◌, ◌^◌, List, length, IfOk, slice_set};
-ghost use Rattle.node_chain.specs.Nodes.{node_at, unused, unused_node};
+ghost use Rattle.std.specs.Prelude.{◌≡◌, ◌+◌, ◌*◌, ◌≤◌, ◌<◌, ◌^◌, List, length, IfOk, slice_set};
+ghost use Rattle.node_chain.specs.Nodes.{node_at, unused};
+ghost use Rattle.node_chain.specs.Links.{with_span};
+ghost use Rattle.node_chain.specs.Words.{links_word, span_place, span_in, span_words, with_span_words};
 
-use crate::raw::{Origin, Permit, Places, give_back, make_block};
+use crate::words::Words;
 use slot_core::{Memory, Span};
 use std::alloc::Global;
 use std::marker::Model;
+
+/// How many words a span takes: its start, its end, its work, and its spare capacity.
+const SPAN_WORDS: usize = 4;
+
+/// How many words a node takes: one for its links, and those of its span.
+const NODE_WORDS: usize = 1 + SPAN_WORDS;
+
+/// How many bits of a word a link takes.
+const LINK_BITS: u32 = 32;
+
+/// How many numbers there are for a link.
+const LINK_COUNT: u64 = 1 << LINK_BITS;
 
 /// A span with the places of the nodes before and after it.
 #[derive(Clone, Copy)]
@@ -16,40 +30,24 @@ pub struct Node {
     pub(crate) span: Span,
 }
 
-/// Nodes side by side in memory that is taken once and given back when the block is dropped.
+/// Nodes in words that are taken once. The links of all nodes stand side by side, a word for each
+/// node, so that a walk from link to link stays in little memory. Their spans follow.
+#[derive(Drop)]
 pub struct Block {
-    origin: Origin<Node>,
+    words: Words,
     count: u32,
-    places: Places<Node>,
-    permit: Permit<Node, Global>,
-    alloc: Global,
 }
 
 impl Model for Block {
-    ghost use Rattle.std.specs.Prelude.{◌≡◌, List};
-    ghost use Rattle.node_chain.specs.Raw.{values, IsFull};
+    ghost use Rattle.std.specs.Prelude.{◌≡◌, ◌+◌, ◌*◌, ◌≤◌, ◌^◌, List, length};
+    ghost use Rattle.node_chain.specs.Words.{node_words, nodes_of};
     ghost use Rattle.node_chain.specs.declared.block.Node.{Node};
 
     ghost Value = { List Node };
 
-    ghost view = { λ b. values b.places.held };
+    ghost view = { λ b. nodes_of b.words b.count };
 
-    ghost invariant = { λ b. (b.places.at ≡ b.origin.ptr) × (b.permit.at ≡ b.origin.ptr)
-        × (b.permit.count ≡ b.count) × (b.permit.alloc ≡ b.alloc)
-        × IsFull b.places.held b.count };
-}
-
-impl Drop for Block {
-    fn drop(self) {
-        let Block {
-            origin,
-            count,
-            places,
-            permit,
-            alloc,
-        } = self;
-        give_back(&alloc, origin, count as usize, places, permit);
-    }
+    ghost invariant = { λ b. (length b.words ≡ node_words * b.count) × (b.count ≤ 2 ^ 20 + 1) };
 }
 
 impl Block {
@@ -58,17 +56,11 @@ impl Block {
         requires { count ≤ 2 ^ 20 + 1 }
         ensures { IfOk result (λ made. made ≡ unused count) }
     {
-        let (origin, mut places, permit) = make_block(&alloc, count as usize)?;
+        let mut words = Words::new(alloc, NODE_WORDS * count as usize)?;
         for place in 0..count {
-            places.put(origin, place as usize, unused_node(place));
+            words.put(place as usize, links_word(place + 1, 0));
         }
-        Ok(Block {
-            origin,
-            count,
-            places,
-            permit,
-            alloc,
-        })
+        Ok(Block { words, count })
     }
 
     /// How many nodes there are.
@@ -84,7 +76,12 @@ impl Block {
         requires { place < length self.now }
         ensures { result ≡ node_at self.now place }
     {
-        *self.places.value(self.origin, place as usize)
+        let links = self.words.word(place as usize);
+        Node {
+            next: (links % LINK_COUNT) as u32,
+            prev: (links / LINK_COUNT) as u32,
+            span: span_in(&self.words, span_place(self.count, place)),
+        }
     }
 
     /// Puts a node at a place.
@@ -92,23 +89,57 @@ impl Block {
         requires { place < length self.old }
         ensures { self.new ≡ slice_set self.old place node }
     {
-        self.places.put(self.origin, place as usize, node);
+        let links = links_word(node.next, node.prev);
+        put_span(&mut self.words, span_place(self.count, place), node.span);
+        self.words.put(place as usize, links);
+    }
+
+    /// Puts a span at a place. The links there are not written, so that a walk that changes spans
+    /// need not wait for them.
+    pub(crate) fn set_span(&mut self, place: u32, span: Span)
+        requires { place < length self.old }
+        ensures { self.new ≡ with_span place span self.old }
+    {
+        put_span(&mut self.words, span_place(self.count, place), span);
     }
 }
 
-/// An unused node, before the one after it.
-fn unused_node(place: u32) -> Node
-    requires { place ≤ 2 ^ 20 }
-    ensures { result ≡ unused_node place }
+/// The links of a node in one word.
+fn links_word(next: u32, prev: u32) -> u64
+    ensures { result ≡ links_word next prev }
 {
-    Node {
-        next: place + 1,
-        prev: 0,
-        span: Span {
-            start: 0,
-            end: 0,
-            work: 0,
-            spare: 0,
-        },
+    next as u64 + prev as u64 * LINK_COUNT
+}
+
+/// Where the span of a place begins, behind the links of so many nodes.
+fn span_place(count: u32, place: u32) -> usize
+    ensures { result ≡ span_place count place }
+{
+    count as usize + SPAN_WORDS * place as usize
+}
+
+/// The span whose words begin at a place.
+fn span_in(words: &Words, first: usize) -> Span
+    requires words { first + span_words ≤ length words.now }
+    requires small { first ≤ 2 ^ 23 }
+    ensures { result ≡ span_in words.now first }
+{
+    Span {
+        start: words.word(first),
+        end: words.word(first + 1),
+        work: words.word(first + 2),
+        spare: words.word(first + 3).cast_signed(),
     }
+}
+
+/// Puts the words of a span from a place on.
+fn put_span(words: &mut Words, first: usize, span: Span)
+    requires words { first + span_words ≤ length words.old }
+    requires small { first ≤ 2 ^ 23 }
+    ensures { words.new ≡ with_span_words first span words.old }
+{
+    words.put(first, span.start);
+    words.put(first + 1, span.end);
+    words.put(first + 2, span.work);
+    words.put(first + 3, span.spare.cast_unsigned());
 }

@@ -4,7 +4,7 @@ ghost use Rattle.std.specs.Prelude.{◌≡◌, ℕ, ◌+◌, ◌≤◌, ◌<◌,
 ghost use Rattle.node_chain.specs.Chains.{id_at, id_of, span_at, IsChain, IsListed};
 
 use crate::block::Block;
-use crate::links::{ENDS, join, part, set_next, set_span};
+use crate::links::{ENDS, join, part, set_next};
 use slot_core::{Memory, Span, Steps};
 use std::alloc::Global;
 use std::marker::Model;
@@ -135,7 +135,7 @@ impl Chain {
     {
         let NodeId(place) = id;
         steps.tick();
-        set_span(&mut self.block, place, span);
+        self.block.set_span(place, span);
     }
 
     /// Inserts a span before the one of this id, and returns its id, which no span in the chain

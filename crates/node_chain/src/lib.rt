@@ -2,8 +2,9 @@
 //!
 //! The nodes of the block are linked both ways by their places, and so are the unused ones in front
 //! of the others. Place 0 holds no span: it stands before the first node and after the last, so
-//! that the ends need no case of their own. Four functions of `raw` hold pointers; all else is
-//! plain code over a list of nodes.
+//! that the ends need no case of their own. The block has the links of all nodes side by side, then
+//! their spans. Four functions of `raw` hold pointers; all else is plain code over a row of words
+//! and a list of nodes.
 #![tactic(auto)]
 
 mod block;
@@ -12,5 +13,6 @@ mod links;
 mod raw;
 #[cfg(test)]
 mod tests;
+mod words;
 
 pub use chain::{Chain, NodeId};

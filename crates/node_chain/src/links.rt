@@ -2,7 +2,7 @@
 
 ghost use Rattle.std.specs.Prelude.{◌≡◌, ◌+◌, ◌<◌, length};
 ghost use Rattle.node_chain.specs.Nodes.{node_at};
-ghost use Rattle.node_chain.specs.Links.{joined, next_of, parted, prev_of, with_next, with_prev, with_span};
+ghost use Rattle.node_chain.specs.Links.{joined, next_of, parted, prev_of, with_next, with_prev};
 
 use crate::block::{Block, Node};
 use slot_core::{Span, Steps};
@@ -78,13 +78,4 @@ fn set_prev(block: &mut Block, place: u32, prev: u32)
 {
     let node = block.node(place);
     block.set(place, Node { prev, ..node });
-}
-
-/// The node at `place` gets this span.
-pub fn set_span(block: &mut Block, place: u32, span: Span)
-    requires { place < length block.old }
-    ensures { block.new ≡ with_span place span block.old }
-{
-    let node = block.node(place);
-    block.set(place, Node { span, ..node });
 }

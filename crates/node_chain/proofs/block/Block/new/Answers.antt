@@ -1,31 +1,26 @@
-use Rattle.std.proofs.Common.{◌<◌, ◌-◌, ap, arith, length, subst, sym, slice_set, Some, ◌∙◌}
-use Rattle.node_chain.specs.Nodes.{unused}
-use Rattle.node_chain.specs.Raw.{values, IsFull}
-use Rattle.node_chain.proofs.Full.{begun, begun-more, begun-all, length-begun, length-unused, values-map, IsFull-map}
+use Rattle.std.proofs.Common.{◌≡◌, ◌+◌, ap, arith, slice_set, subst, sym, ◌∙◌}
+use Rattle.node_chain.proofs.NodeWords.{AreFresh, AreFresh-zeros, AreFresh-more, AreFresh-unused}
 use Rattle.node_chain.proofs.block.Block.new.Goals as goal
 
-pub put-requires-clause-place : goal.put-requires-clause-place
-put-requires-clause-place c =
-    let place = c.loop-place.place in let left = c.args.count - place in
-    let within : place < length (begun place left) = omega (arith, c.loop-place-test.true, length-begun place left) in
-    subst (λ l. place < length l) (sym c.loop-place.invariant.1) within
+pub loop-place-init : goal.loop-place-init
+loop-place-init c =
+    subst (λ l. AreFresh l c.args.count 0) (sym c.in_ok-words.ensures) (AreFresh-zeros c.args.count)
+
+pub put-requires : goal.put-requires
+put-requires c = omega (arith, c.loop-place-test.true, c.loop-place.invariant.all)
 
 pub loop-place-preserved : goal.loop-place-preserved
 loop-place-preserved c =
-    let held = c.loop-place.places.held in let place = c.loop-place.place in (
-      c.put.ensures.block ∙ c.loop-place.invariant.0,
-      c.put.ensures.held ∙ ap (λ x. slice_set held place (Some x)) c.unused_node.ensures
-          ∙ begun-more held place c.args.count c.loop-place-test.true c.loop-place.invariant.1,
-    )
+    let words = c.loop-place.words in let place = c.loop-place.place in let count = c.args.count in
+    let put = c.put.ensures ∙ ap (slice_set words place) c.links_word.ensures in
+    subst (λ l. AreFresh l count (place + 1)) (sym put)
+    (AreFresh-more words count place c.loop-place-test.true c.loop-place.invariant)
 
 pub invariant_of-result : goal.invariant_of-result
-invariant_of-result c =
-    let made = c.in_ok-origin.ensures in let n = c.args.count in
-    let all = begun-all c.loop-place.places.held c.loop-place.place n c.loop-place.auto.place-end c.loop-place-test.false c.loop-place.invariant.1 in
-    (c.loop-place.invariant.0, made.permit, made.count, made.alloc, subst (λ l. IsFull l n) (sym all) (IsFull-map (unused n) n (length-unused n) c.requires))
+invariant_of-result c = (c.loop-place.invariant.all, c.requires)
 
 pub returns : goal.returns
 returns c =
-    let n = c.args.count in
-    ap values (begun-all c.loop-place.places.held c.loop-place.place n c.loop-place.auto.place-end c.loop-place-test.false c.loop-place.invariant.1)
-    ∙ values-map (unused n)
+    let words = c.loop-place.words in let place = c.loop-place.place in let count = c.args.count in
+    let all : place ≡ count = omega (arith, c.loop-place.auto.place-end, c.loop-place-test.false) in
+    AreFresh-unused words count c.requires (subst (λ n. AreFresh words count n) all c.loop-place.invariant)

@@ -1,7 +1,5 @@
-use Rattle.std.proofs.Common.{◌≡◌, ◌-◌}
-use Rattle.node_chain.proofs.Full.{begun}
+use Rattle.node_chain.proofs.NodeWords.{AreFresh}
 use Rattle.node_chain.proofs.block.Block.new.Given as goal
 
 abbrev pub invariant-loop-place : goal.invariant-loop-place
-invariant-loop-place l =
-    (l.places.at ≡ l.origin.ptr) × (l.places.held ≡ begun l.place (l.count - l.place))
+invariant-loop-place l = AreFresh l.words l.count l.place
