@@ -3,11 +3,12 @@
 ghost use Rattle.std.specs.Prelude.{◌≡◌, ◌*◌, ◌≤◌, ◌<◌, ◌^◌, length, IfOk};
 ghost use Rattle.spare_capacity.specs.PlanSpans.{ArePlanSpans};
 ghost use Rattle.spare_capacity.specs.Recurrence.{first_start};
-ghost use Rattle.interval_row.specs.ChainTables.{spans_of, spot_of, spotted};
+ghost use Rattle.interval_row.specs.ChainTables.{spans_of, spot_of, spotted, Knows};
 ghost use Rattle.interval_row.specs.Changes.{copies_of};
 ghost use Rattle.interval_row.specs.Tables.{spans_of_pairs, IsTable};
 
 use crate::table::{SpareTable, Spot};
+use crate::walk::Known;
 use crate::{nodes, rows, walk};
 use node_chain::{Chain, NodeId};
 use slot_core::{Memory, Span, Steps};
@@ -19,24 +20,36 @@ use std::test::Fail;
 
 /// A table over a chain of spans, whose steps are bounded. A spot is the number of a node.
 ///
-/// It keeps the first start and the last end beside the chain. A change of work is followed back
-/// only as far as capacities change.
+/// It keeps the first start and the last end beside the chain, and where the span stands whose work
+/// was changed last: the job that ran in a slot mostly runs in the next. A change of work is
+/// followed back only as far as capacities change.
 #[derive(Drop)]
 pub struct ChainTable {
     chain: Chain,
     time: u64,
     end: u64,
+    /// The end of that span, or 0 where none is known.
+    known_end: u64,
+    /// The number of its node.
+    known_node: u32,
+    /// How many spans stand before it.
+    known_index: u32,
 }
 
 impl Model for ChainTable {
     ghost use Rattle.node_chain.specs.Chains.{Chained};
-    ghost use Rattle.interval_row.specs.ChainTables.{AreInChain};
+    ghost use Rattle.interval_row.specs.ChainTables.{AreInChain, Knows};
 
     ghost Value = { Chained };
 
     ghost view = { λ t. t.chain };
 
-    ghost invariant = { λ t. AreInChain t.chain.pairs t.chain.capacity t.time t.end };
+    ghost invariant = { λ t. AreInChain t.chain.pairs t.chain.capacity t.time t.end
+        × Knows t.chain.pairs (record {
+          end = t.known_end;
+          id = record { 0 = t.known_node };
+          index = t.known_index;
+        }) };
 }
 
 impl SpareTable for ChainTable {
@@ -84,30 +97,60 @@ impl SpareTable for ChainTable {
     }
 
     fn pass_slot<L: Ledger>(&mut self, steps: &mut Steps<L>) {
-        nodes::pass(&mut self.chain, steps);
+        let before = self.known();
+        let known = nodes::pass(&mut self.chain, before, steps);
         self.chain.audit();
         self.time += 1;
+        let NodeId(node) = known.id;
+        self.known_end = known.end;
+        self.known_node = node;
+        self.known_index = known.index;
     }
 
     fn charge<L: Ledger>(&mut self, deadline: u64, slots: u32, steps: &mut Steps<L>) {
-        nodes::charge(&mut self.chain, deadline, slots, steps);
+        let before = self.known();
+        let known = nodes::charge(&mut self.chain, before, deadline, slots, steps);
         self.chain.audit();
+        let NodeId(node) = known.id;
+        self.known_end = known.end;
+        self.known_node = node;
+        self.known_index = known.index;
     }
 
     fn give_back<L: Ledger>(&mut self, deadline: u64, slots: u32, steps: &mut Steps<L>) {
-        nodes::give_back(&mut self.chain, deadline, slots, steps);
+        let before = self.known();
+        let known = nodes::give_back(&mut self.chain, before, deadline, slots, steps);
         self.chain.audit();
+        let NodeId(node) = known.id;
+        self.known_end = known.end;
+        self.known_node = node;
+        self.known_index = known.index;
     }
 
     fn split<L: Ledger>(&mut self, at: u64, steps: &mut Steps<L>) {
         nodes::split(&mut self.chain, at, steps);
         self.chain.audit();
+        self.known_end = 0;
     }
 
     fn append_cycle<L: Ledger>(&mut self, spans: &[Span], steps: &mut Steps<L>) {
         nodes::append(&mut self.chain, spans, self.end, steps);
         self.chain.audit();
         self.end += rows::last_end(spans);
+        self.known_end = 0;
+    }
+}
+
+impl ChainTable {
+    /// What it knows of one span.
+    fn known(&self) -> Known
+        ensures { Knows self.now.pairs result }
+    {
+        Known {
+            end: self.known_end,
+            id: NodeId(self.known_node),
+            index: self.known_index,
+        }
     }
 }
 
@@ -156,6 +199,9 @@ fn filled_table<L: Ledger>(
         chain,
         time: 0,
         end,
+        known_end: 0,
+        known_node: 0,
+        known_index: 0,
     })
 }
 
@@ -169,8 +215,17 @@ fn fields_are_whole(rt: HostRuntime) -> Result<(), Fail> {
         spare: 3,
     }];
     let table = ChainTable::with_room(rt.alloc(), &plan, 1, 1)?;
-    let ChainTable { chain, time, end } = &table;
+    let ChainTable {
+        chain,
+        time,
+        end,
+        known_end,
+        known_node,
+        known_index,
+    } = &table;
     let fields: (&Chain, &u64, &u64) = (chain, time, end);
     assert_eq!(rt; (fields.0.len(), *fields.1, *fields.2), (1, 0, 4));
+    let known: (&u64, &u32, &u32) = (known_end, known_node, known_index);
+    assert_eq!(rt; (*known.0, *known.1, *known.2), (0, 0, 0));
     Ok(())
 }

@@ -3,23 +3,25 @@
 ghost use Rattle.std.specs.Prelude.{◌≡◌, ◌+◌, ◌*◌, ◌≤◌, ◌<◌, ◌^◌, length, IsSome, IsSomeAnd, Some, pos, neg_ℤ, ◌-◌, ◌+ℤ◌, ◌-ℤ◌, ◌≤ℤ◌};
 ghost use Rattle.spare_capacity.specs.Recurrence.{filled, first_start, last_end};
 ghost use Rattle.node_chain.specs.Chains.{id_at, span_at};
-ghost use Rattle.interval_row.specs.ChainTables.{spans_of};
+ghost use Rattle.interval_row.specs.ChainTables.{spans_of, Knows};
 ghost use Rattle.interval_row.specs.Changes.{after_pass, appended, cut, ends_before, span_ending, with_less, with_more};
 ghost use Rattle.interval_row.specs.Rows.{place_of, AreRows, HoldsInside};
 
-use crate::walk::{Place, find, first, set_work};
+use crate::walk::{Known, Place, find, find_known, first, one_fewer, set_work};
 use crate::{live, rows, spares};
 use node_chain::Chain;
 use slot_core::{Span, Steps};
 use std::sync::ledger::Ledger;
 
-/// Takes the first slot from the first span, which goes where that was its last. At most three
-/// steps.
-pub fn pass<L: Ledger>(chain: &mut Chain, steps: &mut Steps<L>)
+/// Takes the first slot from the first span, which goes where that was its last, and returns what
+/// is still known. At most three steps.
+pub fn pass<L: Ledger>(chain: &mut Chain, known: Known, steps: &mut Steps<L>) -> Known
+    requires known { Knows chain.old.pairs known }
     requires rows { AreRows (spans_of chain.old.pairs) }
     requires goes_on { first_start (spans_of chain.old.pairs) + 1
         < last_end 0 (spans_of chain.old.pairs) }
     ensures spans { spans_of chain.new.pairs ≡ filled (after_pass (spans_of chain.old.pairs)) }
+    ensures known { Knows chain.new.pairs result }
     ensures capacity { chain.new.capacity ≡ chain.old.capacity }
     ensures steps { steps.old ≤ steps.new }
     ensures few_steps { steps.new ≤ steps.old + 3 }
@@ -28,9 +30,10 @@ pub fn pass<L: Ledger>(chain: &mut Chain, steps: &mut Steps<L>)
     let row = chain.get(id, steps);
     if row.start + 1 == row.end {
         let _passed = chain.pop_front(steps);
-    } else {
-        chain.set(id, later_start(row), steps);
+        return one_fewer(known);
     }
+    chain.set(id, later_start(row), steps);
+    known
 }
 
 /// The span without its first slot.
@@ -45,38 +48,66 @@ fn later_start(row: Span) -> Span
     }
 }
 
-/// More slots of work for the span that ends there.
-pub fn charge<L: Ledger>(chain: &mut Chain, deadline: u64, slots: u32, steps: &mut Steps<L>)
+/// More slots of work for the span that ends there. It is found by what is
+/// known, or by a walk, and known from then on.
+pub fn charge<L: Ledger>(
+    chain: &mut Chain,
+    known: Known,
+    deadline: u64,
+    slots: u32,
+    steps: &mut Steps<L>,
+) -> Known
+    requires known { Knows chain.old.pairs known }
     requires rows { AreRows (spans_of chain.old.pairs) }
     requires due { IsSomeAnd (span_ending deadline (spans_of chain.old.pairs))
         (λ s. s.work + slots ≤ 2 ^ 40) }
     ensures spans { spans_of chain.new.pairs
         ≡ filled (with_more deadline slots (spans_of chain.old.pairs)) }
+    ensures known { Knows chain.new.pairs result }
     ensures capacity { chain.new.capacity ≡ chain.old.capacity }
     ensures steps { steps.old ≤ steps.new }
     ensures few_steps { steps.new ≤ steps.old
         + 3 * ends_before deadline (spans_of chain.old.pairs) + 3 }
 {
-    let place = find(chain, deadline, steps);
+    let place = find_known(chain, known, deadline, steps);
     let row = charged(place.row, slots);
     set_work(chain, place, row, steps);
+    Known {
+        end: deadline,
+        id: place.id,
+        index: place.index,
+    }
 }
 
-/// Fewer slots of work for the span that ends there.
-pub fn give_back<L: Ledger>(chain: &mut Chain, deadline: u64, slots: u32, steps: &mut Steps<L>)
+/// Fewer slots of work for the span that ends there. It is found by what is
+/// known, or by a walk, and known from then on.
+pub fn give_back<L: Ledger>(
+    chain: &mut Chain,
+    known: Known,
+    deadline: u64,
+    slots: u32,
+    steps: &mut Steps<L>,
+) -> Known
+    requires known { Knows chain.old.pairs known }
     requires rows { AreRows (spans_of chain.old.pairs) }
     requires due { IsSomeAnd (span_ending deadline (spans_of chain.old.pairs))
         (λ s. slots ≤ s.work) }
     ensures spans { spans_of chain.new.pairs
         ≡ filled (with_less deadline slots (spans_of chain.old.pairs)) }
+    ensures known { Knows chain.new.pairs result }
     ensures capacity { chain.new.capacity ≡ chain.old.capacity }
     ensures steps { steps.old ≤ steps.new }
     ensures few_steps { steps.new ≤ steps.old
         + 3 * ends_before deadline (spans_of chain.old.pairs) + 3 }
 {
-    let place = find(chain, deadline, steps);
+    let place = find_known(chain, known, deadline, steps);
     let row = relieved(place.row, slots);
     set_work(chain, place, row, steps);
+    Known {
+        end: deadline,
+        id: place.id,
+        index: place.index,
+    }
 }
 
 /// The span with more work, and so many slots less to spare.

@@ -3,7 +3,7 @@
 ghost use Rattle.std.specs.Prelude.{◌≡◌, ℕ, ◌+◌, ◌*◌, ◌≤◌, ◌<◌, ◌^◌, length, drop, Some, get_or};
 ghost use Rattle.spare_capacity.specs.Recurrence.{filled, first_spare, with_spare};
 ghost use Rattle.node_chain.specs.Chains.{id_at, span_at};
-ghost use Rattle.interval_row.specs.ChainTables.{spans_of};
+ghost use Rattle.interval_row.specs.ChainTables.{ids_of, one_fewer, spans_of, Knows};
 ghost use Rattle.interval_row.specs.Rows.{place_of, with_work_at, AreRows};
 
 use crate::spares;
@@ -17,6 +17,29 @@ pub struct Place {
     pub index: u32,
     pub id: NodeId,
     pub row: Span,
+}
+
+/// What is known of one span of a chain: its end, its id, and how many stand before it. Nothing is
+/// known where the end is 0.
+#[derive(Clone, Copy)]
+pub struct Known {
+    pub end: u64,
+    pub id: NodeId,
+    pub index: u32,
+}
+
+/// What is still known where the first span has gone.
+pub fn one_fewer(known: Known) -> Known
+    ensures { result ≡ one_fewer known }
+{
+    if known.index == 0 {
+        Known { end: 0, ..known }
+    } else {
+        Known {
+            index: known.index - 1,
+            ..known
+        }
+    }
 }
 
 /// The id of the first span.
@@ -62,6 +85,26 @@ pub fn find<L: Ledger>(chain: &Chain, x: u64, steps: &mut Steps<L>) -> Place
     unreachable!()
 }
 
+/// The same, by what is known where that is the span. At most as many steps.
+pub fn find_known<L: Ledger>(chain: &Chain, known: Known, x: u64, steps: &mut Steps<L>) -> Place
+    requires known { Knows chain.now.pairs known }
+    requires within { place_of x (spans_of chain.now.pairs) < length chain.now.pairs }
+    ensures index { result.index ≡ place_of x (spans_of chain.now.pairs) }
+    ensures id { id_at chain.now.pairs result.index ≡ Some result.id }
+    ensures row { span_at chain.now.pairs result.index ≡ Some result.row }
+    ensures steps { steps.old ≤ steps.new }
+    ensures few_steps { steps.new ≤ steps.old + result.index + 1 }
+{
+    if 0 < x && x == known.end {
+        return Place {
+            index: known.index,
+            id: known.id,
+            row: chain.get(known.id, steps),
+        };
+    }
+    find(chain, x, steps)
+}
+
 /// The span at a place becomes this one, with another work and its capacity, and the capacities
 /// before it follow, back to the first that stays. One step, and two for each span before.
 pub fn set_work<L: Ledger>(chain: &mut Chain, place: Place, row: Span, steps: &mut Steps<L>)
@@ -74,6 +117,7 @@ pub fn set_work<L: Ledger>(chain: &mut Chain, place: Place, row: Span, steps: &m
         (first_spare (drop (place.index + 1) (spans_of chain.old.pairs))) }
     ensures spans { spans_of chain.new.pairs
         ≡ filled (with_work_at place.index row.work (spans_of chain.old.pairs)) }
+    ensures ids { ids_of chain.new.pairs ≡ ids_of chain.old.pairs }
     ensures capacity { chain.new.capacity ≡ chain.old.capacity }
     ensures steps { steps.old ≤ steps.new }
     ensures few_steps { steps.new ≤ steps.old + 2 * place.index + 1 }

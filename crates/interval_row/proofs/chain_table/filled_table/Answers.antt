@@ -5,6 +5,7 @@ use Rattle.interval_row.specs.ChainTables.{spans_of, AreInChain}
 use Rattle.interval_row.proofs.Cycles.{AreCopies-copies_of, copies_fit, last_end-le}
 use Rattle.interval_row.proofs.Ends.{last_end-appended}
 use Rattle.interval_row.proofs.Ids.{length-spans_of, spans_of_pairs-spotted}
+use Rattle.interval_row.proofs.Known.{Knows-nothing}
 use Rattle.interval_row.proofs.InChains.{AreInChain-copies_of, IsTable-AreInChain}
 use Rattle.interval_row.proofs.Kept.{AreRows-ArePlanSpans}
 use Rattle.interval_row.proofs.chain_table.filled_table.Given.{Over}
@@ -63,7 +64,7 @@ kept g c =
     AreInChain-copies_of c.args.spans.now c.loop-copy.chain.pairs c.args.copies c.loop-copy.chain.capacity c.loop-copy.end c.requires.plan c.requires.some (rw c.loop-copy.invariant.capacity c.requires.fits) c.audit.ensures (made g c) (c.loop-copy.invariant.end ∙ ap (λ n. last_end 0 (copies_of c.args.spans.now n)) all)
 
 pub invariant_of-result : goal.invariant_of-result
-invariant_of-result g c = kept g c
+invariant_of-result g c = (kept g c, Knows-nothing c.loop-copy.chain.pairs (record { 0 = 0 }) 0)
 
 pub returns-clause-table : goal.returns-clause-table
 returns-clause-table g c = IsTable-AreInChain c.loop-copy.chain.pairs c.loop-copy.chain.capacity 0 c.loop-copy.end (kept g (goal.at.returns-clause-table g c).After-audit)

@@ -6,10 +6,11 @@ use Rattle.spare_capacity.specs.Recurrence.{first_spare, first_start, with_spare
 use Rattle.spare_capacity.specs.Refill.{IsStaleAt}
 use Rattle.spare_capacity.proofs.Steps.{no_row}
 use Rattle.node_chain.specs.Chains.{id_at}
-use Rattle.interval_row.specs.ChainTables.{spans_of}
+use Rattle.interval_row.specs.ChainTables.{ids_of, spans_of}
 use Rattle.interval_row.specs.Rows.{with_work_at, AreRows}
 use Rattle.interval_row.proofs.Fillings.{AreConsecutive-FollowOn}
 use Rattle.interval_row.proofs.Ids.{id_at-set, id_at-within, length-spans_of, row_at, spans_of-set}
+use Rattle.interval_row.proofs.Known.{ids_of-set}
 use Rattle.interval_row.proofs.WalkBack.{walk-can, walk-first, walk-set, walk-stop, CanRefillAt}
 use Rattle.interval_row.proofs.Works.{length-with_work_at, FollowOn-with_work_at, IsStaleAt-with_work_at}
 use Rattle.interval_row.proofs.walk.set_work.Given.{Over}
@@ -29,6 +30,7 @@ loop-index-init g c =
     let spare = c.requires.spare ∙ ap (λ (s : Span). with_spare (record s { work = c.args.row.work }) (first_spare (drop (index + 1) rows))) row in
     record {
       spans = written ∙ walk-first rows index c.args.row.work c.args.row l c.requires.rows.filled spare;
+      ids = ap ids_of put ∙ ids_of-set pairs index c.args.place.id c.args.row c.requires.id;
       id = ap (λ ps. id_at ps index) put ∙ id_at-set pairs index c.args.place.id c.args.row here;
       current = sym (ap (λ xs. get_or xs index no_row) written ∙ get_or-set_same rows index c.args.row no_row l);
       capacity = c.set.ensures.capacity;
@@ -101,6 +103,7 @@ loop-index-preserved g c =
     let l : k - 1 < length (spans_of now) = omega (arith, s.placed) in
     record {
       spans = written ∙ walk-set (worked g after) (spans_of now) k c.get-was.result c.loop-index.current row c.loop-index-test.true s.high s.placed c.loop-index.invariant.spans s.before c.loop-index.invariant.current c.refilled-current.ensures;
+      ids = ap ids_of put ∙ ids_of-set now (k - 1) c.before-id.result row c.before-id.ensures ∙ c.loop-index.invariant.ids;
       id = ap (λ ps. id_at ps (k - 1)) put ∙ id_at-set now (k - 1) c.before-id.result row here;
       current = sym (ap (λ xs. get_or xs (k - 1) no_row) written ∙ get_or-set_same (spans_of now) (k - 1) row no_row l);
       capacity = c.set-in-loop-index.ensures.capacity ∙ c.loop-index.invariant.capacity;

@@ -13,4 +13,4 @@ returns-clause-count c =
 pub returns-clause-table : goal.returns-clause-table
 returns-clause-table c =
     let chain = c.self.inside.chain in
-    subst (λ (v : Chained). IsTable (first_start (spans_of v.pairs)) (spotted v.pairs) v.capacity) c.self.view_is (IsTable-AreInChain chain.pairs chain.capacity c.self.inside.time c.self.inside.end c.self.invariant)
+    subst (λ (v : Chained). IsTable (first_start (spans_of v.pairs)) (spotted v.pairs) v.capacity) c.self.view_is (IsTable-AreInChain chain.pairs chain.capacity c.self.inside.time c.self.inside.end c.self.invariant.0)
