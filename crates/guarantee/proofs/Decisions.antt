@@ -1,7 +1,6 @@
 -- What capacities decide where no sporadic task may come.
 use Rattle.std.proofs.Common.{◌≡◌, ℕ, ◌+◌, ◌-◌, ◌<◌, ◌≤◌, ℤ, pos, ◌+ℤ◌, ◌≤ℤ◌, Bool, true, false, List, [], ◌∷◌, length, Option, Some, None, refl, sym, ap, ◌∙◌, subst, inl, inr, arith}
 use Rattle.std.specs.Prelude.{find, not, Err, Ok, OnOk, Result}
-use Rattle.std.specs.Result.{result_err}
 use Rattle.std.specs.Int.{int_min}
 use Rattle.std.specs.Option.{is_none, option_map}
 use Rattle.std.specs.List.{list_all, range_with_len}
@@ -105,9 +104,9 @@ told-fits spans reserve t now found is searched =
 
 -- the evidence of a time that was found
 pub record IsTold (spans : List Span) (reserve : Reserved) (t : ℕ) (e : Evidence) : Type 0 where
+  pub first : first_short spans reserve t (t + 1) 1 (t + 1) ≡ Some e.until
   pub after : t < e.until
   pub within : e.until ≤ last_end t spans
-  pub short : is_short spans reserve t (t + 1) 1 e.until ≡ true
   pub need : e.need ≡ 1 + (work_until spans e.until + sporadic_demand reserve.sporadics reserve.nexts (t + 1) e.until)
 
 IsTold-found : (spans : List Span) (reserve : Reserved) (t : ℕ) (e : Evidence) (o : Option ℕ) → o ≡ first_short spans reserve t (t + 1) 1 (t + 1) → Some e ≡ option_map (evidence_at spans reserve t (t + 1) 1) o → t < last_end t spans → IsTold spans reserve t e
@@ -116,9 +115,9 @@ IsTold-found spans reserve t e (Some x) is found some =
     let same : e ≡ evidence_at spans reserve t (t + 1) 1 x = cc found in
     let passes = find-passes (is_short spans reserve t (t + 1) 1) (t + 1) (last_end t spans + 1 - (t + 1)) x (sym is) in
     rw same (record {
+      first = sym is;
       after = omega (arith, passes.0);
       within = omega (arith, passes.1);
-      short = passes.2;
       need = refl;
     })
 
@@ -127,17 +126,13 @@ IsTold-search spans reserve t now e is found some =
     IsTold-found spans reserve t e (first_short spans reserve t (t + 1) 1 (t + 1)) refl (rw is at found) some
 
 -- what the room for soft work tells of it
-pub IsTold-short : (spans : List Span) (reserve : Reserved) (t spo until due : ℕ) (e : Evidence) → IsTold spans reserve t e → spo ≡ sporadic_demand reserve.sporadics reserve.nexts (t + 1) e.until → Short e.until (e.need - 1 - spo) ≡ Short until due → (t < until) × (until ≤ last_end t spans) × (due ≡ work_until spans until) × (is_short spans reserve t (t + 1) 1 until ≡ true)
+pub IsTold-short : (spans : List Span) (reserve : Reserved) (t spo until due : ℕ) (e : Evidence) → IsTold spans reserve t e → spo ≡ sporadic_demand reserve.sporadics reserve.nexts (t + 1) e.until → Short e.until (e.need - 1 - spo) ≡ Short until due → (first_short spans reserve t (t + 1) 1 (t + 1) ≡ Some until) × (t < until) × (until ≤ last_end t spans) × (due ≡ work_until spans until)
 IsTold-short spans reserve t spo until due e told is same =
     let here : e.until ≡ until = cc same in
     let work : e.need - 1 - spo ≡ due = cc same in
-    subst (λ u. (t < u) × (u ≤ last_end t spans) × (due ≡ work_until spans u) × (is_short spans reserve t (t + 1) 1 u ≡ true)) here (told.after, told.within, omega (arith, told.need), told.short)
+    subst (λ u. (first_short spans reserve t (t + 1) 1 (t + 1) ≡ Some u) × (t < u) × (u ≤ last_end t spans) × (due ≡ work_until spans u)) here (told.first, told.after, told.within, omega (arith, told.need))
 
 -- what holds where there is an answer
 pub OnOk-map : {X E : Type 0} (r : Result X E) (P Q : Type 0) → OnOk r P → (P → Q) → OnOk r Q
 OnOk-map (Ok x) P Q holds then = then holds
 OnOk-map (Err e) P Q holds then = tt
-
-pub OnOk-none : {X E : Type 0} (r : Result X E) (P : Type 0) → (result_err r ≡ None → ⊥) → OnOk r P
-OnOk-none (Ok x) P never = absurd (never refl)
-OnOk-none (Err e) P never = tt

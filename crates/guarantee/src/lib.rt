@@ -5,13 +5,13 @@
 //! sporadic tasks. They are handed no job. All times are in slots.
 #![tactic(auto)]
 
-ghost use Rattle.std.specs.Prelude.{◌≡◌, ℕ, true, ◌+◌, ◌≤◌, ◌<◌, ◌^◌, ◌↔◌, [], length, pos, ◌≤ℤ◌, IsTrue};
+ghost use Rattle.std.specs.Prelude.{◌≡◌, ℕ, Some, ◌+◌, ◌≤◌, ◌<◌, ◌^◌, ◌↔◌, [], length, pos, ◌≤ℤ◌, IsTrue};
 ghost use Rattle.slot_core.specs.declared.TheConstants.{OFFER_LIMIT};
 ghost use Rattle.spare_capacity.specs.Laws.{work_until};
 ghost use Rattle.spare_capacity.specs.Recurrence.{first_spare, last_end};
 ghost use Rattle.interval_row.specs.Changes.{ends_before};
 ghost use Rattle.interval_row.specs.Tables.{spans_of_pairs, IsTable};
-ghost use Rattle.guarantee.specs.Offers.{answer_to, is_short, lets_run, soft_fits, LeavesFree};
+ghost use Rattle.guarantee.specs.Offers.{answer_to, first_short, lets_run, soft_fits, LeavesFree};
 
 mod search;
 #[cfg(test)]
@@ -52,9 +52,8 @@ pub enum SoftRoom {
 /// needed than there are slots, with the densest arrivals of sporadic tasks from now on. A refusal
 /// tells the first time that is too short.
 ///
-/// Each span is read once at most: those that end before the deadline for their works, and then on
-/// to the first time that is too short, or to a span whose capacity covers all that may come.
-/// Without sporadic tasks an offer is accepted at the span that the deadline is in.
+/// Each span is read once at most. Without sporadic tasks an accepted offer reads at most the spans
+/// that end before its deadline, and one more.
 pub fn test<T: SpareTable, L: Ledger>(
     table: &T,
     reserve: &Reserve,
@@ -73,11 +72,7 @@ pub fn test<T: SpareTable, L: Ledger>(
     ensures steps { steps.old ≤ steps.new }
     ensures accepts_soon { reserve.now.sporadics ≡ [] → result ≡ Answer.Accept
         → steps.new ≤ steps.old + ends_before dl (spans_of_pairs (T.pairs table.now)) + 1 }
-    ensures refuses_soon { steps.new
-        ≤ steps.old + ends_before dl (spans_of_pairs (T.pairs table.now)) + 1
-        + length (T.pairs table.now) }
-    ensures reads_once { 1 ≤ length reserve.now.sporadics
-        → steps.new ≤ steps.old + length (T.pairs table.now) }
+    ensures reads_once { steps.new ≤ steps.old + length (T.pairs table.now) }
 {
     match first_short(table, reserve, table.time(), c, dl, steps) {
         Ok(_left) => Answer::Accept,
@@ -133,8 +128,8 @@ pub fn soft_room<T: SpareTable, L: Ledger>(
     ensures short { let spans = spans_of_pairs (T.pairs table.now) in
         let t = T.time table.now in
         (until due : ℕ) → result ≡ SoftRoom.Short until due
-        → (t < until) × (until ≤ last_end t spans) × (due ≡ work_until spans until)
-        × (is_short spans reserve.now t (t + 1) 1 until ≡ true) }
+        → (first_short spans reserve.now t (t + 1) 1 (t + 1) ≡ Some until)
+        × (t < until) × (until ≤ last_end t spans) × (due ≡ work_until spans until) }
     ensures steps { steps.old ≤ steps.new }
     ensures reads_once { steps.new ≤ steps.old + length (T.pairs table.now) }
 {

@@ -147,6 +147,7 @@ fn short(until: u64, due: u64) -> SoftRoom {
     SoftRoom::Short { until, due }
 }
 
+/// A span with its work and its spare capacity.
 fn span(start: u64, end: u64, work: u64, spare: i64) -> Span
     ensures { result ≡ record { start = start; end = end; work = work; spare = spare } }
 {

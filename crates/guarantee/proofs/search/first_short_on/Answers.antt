@@ -1,15 +1,11 @@
-use Rattle.std.proofs.Common.{◌≡◌, ℕ, ◌+◌, ◌≤◌, [], None, max, take, refl, sym, ap, ◌∙◌, inl, inr, arith}
+use Rattle.std.proofs.Common.{◌≡◌, ℕ, ◌+◌, ◌≤◌, [], max, take, refl, sym, ap, ◌∙◌, arith}
 use Rattle.std.specs.Option.{option_map}
-use Rattle.std.proofs.lemmas.Bool.{cases_lt}
-use Rattle.std.proofs.lemmas.Int.{ints}
-use Rattle.slot_facts.proofs.Sets.Faults.{option_map-None}
 use Rattle.spare_capacity.specs.Recurrence.{last_end}
 use Rattle.interval_row.specs.Tables.{spans_of_pairs}
 use Rattle.guarantee.specs.Offers.{evidence_at, first_short, need_until}
 use Rattle.guarantee.specs.Places.{works}
 use Rattle.guarantee.specs.Stretches.{NeedsNone}
-use Rattle.guarantee.proofs.Decisions.{OnOk-none}
-use Rattle.guarantee.proofs.Segments.{covered, covered-leaves, leaves-end, not_covered, IsLevelFrom-later, Leaves-join, Leaves-part, Looks-end, Looks-inside, Looks-found, Looks-last, Looks-later, Looks-leaves}
+use Rattle.guarantee.proofs.Segments.{covered, covered-leaves, leaves-end, IsLevelFrom-later, Leaves-join, Leaves-part, Looks-end, Looks-inside, Looks-found, Looks-last, Looks-later, Looks-leaves}
 use Rattle.guarantee.proofs.Tables.{last-ends, last-works, later-start, IsSeen-place}
 use Rattle.guarantee.proofs.search.first_short_on.Goals as goal
 

@@ -1,4 +1,4 @@
-use Rattle.std.proofs.Common.{◌≡◌, ◌+◌, ◌-◌, ◌^◌, ◌<◌, ◌≤◌, [], None, length, max}
+use Rattle.std.proofs.Common.{◌≡◌, ◌+◌, ◌-◌, ◌^◌, ◌<◌, ◌≤◌, [], length, max}
 use Rattle.interval_row.specs.Tables.{spans_of_pairs}
 use Rattle.guarantee.specs.Offers.{first_short, need_until}
 use Rattle.guarantee.specs.Places.{IsPlace}
