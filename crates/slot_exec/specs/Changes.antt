@@ -17,11 +17,11 @@ use Rattle.interval_row.specs.Changes.{after_pass, appended, span_ending, with_l
 use Rattle.slot_exec.specs.declared.runs.Chosen.{Chosen}
 use Rattle.slot_exec.specs.declared.runs.Chosen.TheVariants.{Nothing, Soft, Guaranteed}
 
--- what is chosen: the first soft job where soft work may run, else the earliest job, if there is
--- one
+-- what is chosen where no soft job runs: this job, if there is one
 abbrev pub chosen_job : Option Job → Chosen
 chosen_job job = option_map_or (λ (j : Job). Guaranteed j) job Nothing
 
+-- what is chosen: the first soft job where soft work may run, else this job, if there is one
 abbrev pub chosen_of : List SoftJob → Bool → Option Job → Chosen
 chosen_of [] may job = chosen_job job
 chosen_of (s ∷ soft) may job = if may then Soft s.row else chosen_job job
@@ -40,11 +40,12 @@ MayRun (Guaranteed job) spans jobs soft =
     (1 ≤ count_by (λ (j : Job). same_key j.key job.key) jobs)
     × IsSomeAnd (span_ending job.dl spans) (λ s. 1 ≤ s.work)
 
--- the spans, the jobs and the soft jobs after it has run a slot
+-- the spans after this has run a slot: of a guaranteed job, a slot less is due at its deadline
 abbrev pub spans_after : Chosen → List Span → List Span
 spans_after (Guaranteed job) spans = filled (with_less job.dl 1 spans)
 spans_after _ spans = spans
 
+-- the guaranteed jobs then: one that has run has a slot less left, or goes where it has none
 abbrev pub jobs_after : Chosen → List Job → List Job
 jobs_after (Guaranteed job) jobs = after_run job.key jobs
 jobs_after _ jobs = jobs
@@ -54,6 +55,7 @@ abbrev pub front_run : List SoftJob → List SoftJob
 front_run [] = []
 front_run (s ∷ soft) = if nat_lt 1 s.left then record s { left = s.left - 1 } ∷ soft else soft
 
+-- the soft jobs then: where soft work has run, it was the first of them
 abbrev pub soft_after : Chosen → List SoftJob → List SoftJob
 soft_after (Soft row) soft = front_run soft
 soft_after _ soft = soft

@@ -25,11 +25,11 @@ executive plan time spans jobs nexts soft row = record {
   last_row = row;
 }
 
--- the room that an executive takes when it starts: for three cycles of spans and one more, for
--- three cycles of jobs, and for as many soft jobs as may wait
+-- how many spans an executive has room for: one for each slot of three cycles, and one more
 abbrev pub span_room : ℕ → ℕ
 span_room cycle = 3 * cycle + 1
 
+-- how many guaranteed jobs it has room for: one for each slot of three cycles
 abbrev pub job_room : ℕ → ℕ
 job_room cycle = 3 * cycle
 

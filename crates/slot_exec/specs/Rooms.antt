@@ -1,5 +1,5 @@
 -- What an executive remembers of the room for soft work.
-use Rattle.std.specs.Prelude.{◌≡◌, ℕ, ◌+◌, ◌-◌, ◌≤◌, ◌<◌, min, Bool, List, Option, nat_le, if◌then◌else◌}
+use Rattle.std.specs.Prelude.{◌≡◌, ℕ, ◌+◌, ◌-◌, ◌≤◌, ◌<◌, ◌^◌, min, Bool, List, Option, nat_le, if◌then◌else◌}
 use Rattle.std.specs.Option.{option_map_or}
 use Rattle.slot_core.specs.declared.events.Spo.{Spo}
 use Rattle.slot_core.specs.declared.events.Spo.TheVariants.{Soon, Taken}
@@ -42,7 +42,13 @@ RemembersSpans spans reserve time room =
     (last_end time spans)
     room
 
--- the work that is due by `tight` after this has run a slot
+-- the spans may be searched in this slot: they end after it and before 2^41, and this is remembered
+pub record MaySearch (spans : List Span) (reserve : Reserved) (time : ℕ) (kept : Room) : Type 0 where
+  pub after : time < last_end time spans
+  pub near : last_end time spans < 2 ^ 41
+  pub room : RemembersSpans spans reserve time kept
+
+-- the work due by `tight` after this has run a slot: one less where it is a job that is due by then
 abbrev pub due_after : Chosen → Room → ℕ
 due_after (Guaranteed job) room =
     if nat_le job.dl room.tight then room.due - 1 else room.due
@@ -57,23 +63,23 @@ room_after chosen turned room = record {
   due = due_after chosen room;
 }
 
--- the slots that are free beside an offer that is accepted: no more than it leaves of them, and of
--- those up to its deadline
+-- the slots free once this job is in: those free before, at most up to its deadline, less its own
 abbrev pub free_beside : Job → ℕ → ℕ
 free_beside job free = min free (job.dl - job.est) - job.left
 
--- the work that is due by `tight` with this job, and without it
+-- the work due by `tight` once this job is in: its slots more where it is due by then
 abbrev pub due_with : Job → ℕ → ℕ → ℕ
 due_with job tight due = if nat_le job.dl tight then due + job.left else due
 
+-- the work due by `tight` once this job is gone: its slots less where it was due by then
 abbrev pub due_without : Job → ℕ → ℕ → ℕ
 due_without job tight due = if nat_le job.dl tight then due - job.left else due
 
--- the same with the job of an arrival, where it is taken, and without the job that goes, if there
--- is one
+-- the work due by `tight` after a sporadic arrival: with its job where it is taken, else as it was
 abbrev pub due_told : Spo → Job → ℕ → ℕ → ℕ
 due_told (Soon next) job tight due = due
 due_told (Taken deadline) job tight due = due_with job tight due
 
+-- the work due by `tight` after an end or a withdrawal: without the job that goes, else as it was
 abbrev pub due_left : Option Job → ℕ → ℕ → ℕ
 due_left gone tight due = option_map_or (λ (j : Job). due_without j tight due) gone due

@@ -1,10 +1,9 @@
 //! What an executive remembers of the room for soft work, so that few slots search for it.
 
-ghost use Rattle.std.specs.Prelude.{◌≡◌, ℕ, false, ◌≤◌, ◌<◌, ◌+◌, ◌^◌, IsTrue};
-ghost use Rattle.spare_capacity.specs.Recurrence.{last_end};
+ghost use Rattle.std.specs.Prelude.{◌≡◌, ℕ, false, ◌≤◌, ◌<◌, ◌^◌, IsTrue};
 ghost use Rattle.interval_row.specs.Tables.{spans_of_pairs};
 ghost use Rattle.guarantee.specs.Offers.{soft_fits};
-ghost use Rattle.slot_exec.specs.Rooms.{due_told, due_with, due_without, free_beside, room_after, RemembersSpans};
+ghost use Rattle.slot_exec.specs.Rooms.{due_told, due_with, due_without, free_beside, room_after, MaySearch, RemembersSpans};
 
 use crate::runs::Chosen;
 use guarantee::{SoftRoom, may_run_soft, soft_room};
@@ -13,12 +12,14 @@ use slot_core::{Job, Spo, Steps};
 use sporadic_reserve::Reserve;
 use std::sync::ledger::Ledger;
 
-/// What is remembered: how many slots are free up to each later time by which something is needed,
-/// a time that was short of room, and the slots of guaranteed jobs that are due by it.
+/// What is remembered of the room for soft work.
 #[derive(Clone, Copy, PartialEq, Eq, Debug)]
 pub struct Room {
+    /// Up to each later time by which something is needed, so many slots are free.
     pub free: u64,
+    /// A time that was short of room.
     pub tight: u64,
+    /// The slots of guaranteed jobs that are due by then.
     pub due: u64,
 }
 
@@ -30,10 +31,7 @@ pub fn may_run<T: SpareTable, L: Ledger>(
     room: Room,
     steps: &mut Steps<L>,
 ) -> (bool, Room)
-    requires after { T.time table.now
-        < last_end (T.time table.now) (spans_of_pairs (T.pairs table.now)) }
-    requires near { last_end (T.time table.now) (spans_of_pairs (T.pairs table.now)) < 2 ^ 41 }
-    requires room { RemembersSpans
+    requires { MaySearch
         (spans_of_pairs (T.pairs table.now))
         reserve.now
         (T.time table.now)
@@ -61,10 +59,7 @@ pub fn may_run<T: SpareTable, L: Ledger>(
 
 /// Whether up to the time that was short there is still no room for a slot more.
 fn is_short<T: SpareTable>(table: &T, reserve: &Reserve, room: Room) -> bool
-    requires after { T.time table.now
-        < last_end (T.time table.now) (spans_of_pairs (T.pairs table.now)) }
-    requires near { last_end (T.time table.now) (spans_of_pairs (T.pairs table.now)) < 2 ^ 41 }
-    requires room { RemembersSpans
+    requires { MaySearch
         (spans_of_pairs (T.pairs table.now))
         reserve.now
         (T.time table.now)
@@ -86,10 +81,7 @@ fn search<T: SpareTable, L: Ledger>(
     room: Room,
     steps: &mut Steps<L>,
 ) -> (bool, Room)
-    requires after { T.time table.now
-        < last_end (T.time table.now) (spans_of_pairs (T.pairs table.now)) }
-    requires near { last_end (T.time table.now) (spans_of_pairs (T.pairs table.now)) < 2 ^ 41 }
-    requires room { RemembersSpans
+    requires { MaySearch
         (spans_of_pairs (T.pairs table.now))
         reserve.now
         (T.time table.now)

@@ -1,12 +1,11 @@
 //! What a slot runs.
 
-ghost use Rattle.std.specs.Prelude.{◌≡◌, ◌+◌, ◌≤◌, ◌<◌, ◌^◌, length};
+ghost use Rattle.std.specs.Prelude.{◌≡◌, ◌≤◌, length};
 ghost use Rattle.slot_core.specs.Choice.{earliest, ready};
 ghost use Rattle.slot_core.specs.Matches.{HaveSameItems};
-ghost use Rattle.spare_capacity.specs.Recurrence.{last_end};
 ghost use Rattle.interval_row.specs.Tables.{spans_of_pairs};
 ghost use Rattle.guarantee.specs.Offers.{soft_fits};
-ghost use Rattle.slot_exec.specs.Rooms.{RemembersSpans};
+ghost use Rattle.slot_exec.specs.Rooms.{MaySearch, RemembersSpans};
 ghost use Rattle.slot_exec.specs.Changes.{chosen_job, chosen_of, front_run, jobs_after, ran_of, soft_after, spans_after, MayRun};
 
 use crate::rooms::{Room, may_run};
@@ -51,10 +50,7 @@ pub fn choose<T: SpareTable, L: Ledger>(
     room: Room,
     steps: &mut Steps<L>,
 ) -> (Chosen, Room)
-    requires after { T.time table.now
-        < last_end (T.time table.now) (spans_of_pairs (T.pairs table.now)) }
-    requires near { last_end (T.time table.now) (spans_of_pairs (T.pairs table.now)) < 2 ^ 41 }
-    requires room { RemembersSpans
+    requires { MaySearch
         (spans_of_pairs (T.pairs table.now))
         reserve.now
         (T.time table.now)

@@ -5,7 +5,7 @@ ghost use Rattle.slot_core.specs.Ranges.{is_sound};
 
 use crate::Exec;
 use cycle_plan::make_plan;
-use interval_row::RowTable;
+use interval_row::{ChainTable, RowTable, SpareTable};
 use sample_sets::{alarm_set, borrowing_set, pair_set};
 use slot_core::{
     Done, Evidence, Firm, Gone, Key, OFFER_LIMIT, Ran, Soft, Span, Spo, Steps, TaskSet, What,
@@ -16,8 +16,10 @@ use std::process::Abort;
 use std::sync::ledger::{Blank, Ledger};
 use std::test::Fail;
 
+/// The first job of the pair.
 const FIRST: Key = Key::Offline(0, 0, 0);
 
+/// Its successor.
 const SECOND: Key = Key::Offline(0, 1, 0);
 
 // The first job ends a slot early, and its successor does not start before its time. Soft work
@@ -25,39 +27,40 @@ const SECOND: Key = Key::Offline(0, 1, 0);
 #[test]
 fn follows_a_plan(rt: HostRuntime) -> Result<(), Fail> {
     let entries = [
-        (What::Run(FIRST), span(1, 7, 1, 5), span(7, 8, 1, 0)),
+        (What::Run(FIRST), (span(1, 7, 1, 5), span(7, 8, 1, 0))),
         (
             What::Done(1, FIRST, Done::Freed(1)),
-            span(1, 7, 0, 6),
-            span(7, 8, 1, 0),
+            (span(1, 7, 0, 6), span(7, 8, 1, 0)),
         ),
         (
             What::Done(2, FIRST, Done::NotRunning),
-            span(1, 7, 0, 6),
-            span(7, 8, 1, 0),
+            (span(1, 7, 0, 6), span(7, 8, 1, 0)),
         ),
-        (What::Idle, span(2, 7, 0, 5), span(7, 8, 1, 0)),
-        (What::Run(SECOND), span(3, 7, 0, 4), span(7, 8, 0, 1)),
+        (What::Idle, (span(2, 7, 0, 5), span(7, 8, 1, 0))),
+        (What::Run(SECOND), (span(3, 7, 0, 4), span(7, 8, 0, 1))),
         (
             What::Soft(3, 1, Soft::Taken),
-            span(3, 7, 0, 4),
-            span(7, 8, 0, 1),
+            (span(3, 7, 0, 4), span(7, 8, 0, 1)),
         ),
         (
             What::Soft(4, 1, Soft::Taken),
-            span(3, 7, 0, 4),
-            span(7, 8, 0, 1),
+            (span(3, 7, 0, 4), span(7, 8, 0, 1)),
         ),
         (
             What::Done(5, Key::Soft(4), Done::NotRunning),
-            span(3, 7, 0, 4),
-            span(7, 8, 0, 1),
+            (span(3, 7, 0, 4), span(7, 8, 0, 1)),
         ),
-        (What::Run(Key::Soft(3)), span(4, 7, 0, 3), span(7, 8, 0, 1)),
-        (What::Run(Key::Soft(4)), span(5, 7, 0, 2), span(7, 8, 0, 1)),
+        (
+            What::Run(Key::Soft(3)),
+            (span(4, 7, 0, 3), span(7, 8, 0, 1)),
+        ),
+        (
+            What::Run(Key::Soft(4)),
+            (span(5, 7, 0, 2), span(7, 8, 0, 1)),
+        ),
     ];
-    let exec = start(rt.alloc(), pair_set(rt.alloc())?)?;
-    each_entry::<HostRuntime, Brand>(&rt, exec, &entries, Blank::new(1))
+    let exec: Exec<RowTable> = start(rt.alloc(), pair_set(rt.alloc())?)?;
+    each_entry::<HostRuntime, Brand, RowTable>(&rt, exec, &entries, Blank::new(1))
 }
 
 #[test]
@@ -65,72 +68,51 @@ fn takes_an_alarm(rt: HostRuntime) -> Result<(), Fail> {
     let entries = [
         (
             What::Sporadic(1, 0, Spo::Taken(2)),
-            span(0, 2, 1, 1),
-            span(2, 7, 2, 3),
+            (span(0, 2, 1, 1), span(2, 7, 2, 3)),
         ),
         (
             What::Run(Key::Sporadic(0, 1)),
-            span(1, 2, 0, 1),
-            span(2, 7, 2, 3),
+            (span(1, 2, 0, 1), span(2, 7, 2, 3)),
         ),
         (
             What::Sporadic(2, 0, Spo::Soon(8)),
-            span(1, 2, 0, 1),
-            span(2, 7, 2, 3),
+            (span(1, 2, 0, 1), span(2, 7, 2, 3)),
         ),
     ];
-    let exec = start(rt.alloc(), alarm_set(rt.alloc())?)?;
-    each_entry::<HostRuntime, Brand>(&rt, exec, &entries, Blank::new(1))
+    let exec: Exec<RowTable> = start(rt.alloc(), alarm_set(rt.alloc())?)?;
+    each_entry::<HostRuntime, Brand, RowTable>(&rt, exec, &entries, Blank::new(1))
 }
 
-// Where a span ends, the slots that fit and one more. Taken back, they leave room for an offer that
-// is due a cycle ahead. Past a cycle, and now.
+/// Where a span ends, the slots that fit and one more. Taken back, they leave room for an offer that
+/// is due a cycle ahead. Past a cycle, and now. Then the job runs, and its span borrows less.
+fn offers() -> [(What, (Span, Span)); 10] {
+    let free = (span(0, 7, 2, 5), span(7, 8, 1, 0));
+    let full = (span(0, 7, 7, 0), span(7, 8, 1, 0));
+    let borrowed = (span(0, 7, 2, 0), span(7, 8, 6, -5));
+    [
+        (What::Firm(1, 6, 7, no_room(7, 8, 7)), free),
+        (What::Firm(2, 5, 7, Firm::Accepted), full),
+        (What::Withdraw(3, 2, Gone::Freed(5)), free),
+        (What::Withdraw(4, 2, Gone::NoJob), free),
+        (What::Firm(5, 5, 8, Firm::Accepted), borrowed),
+        (What::Firm(6, 6, 8, no_room(8, 14, 8)), borrowed),
+        (What::Firm(7, 1, 9, Firm::Far), borrowed),
+        (What::Firm(8, 1, 0, Firm::Late), borrowed),
+        (What::Run(FIRST), (span(1, 7, 1, 0), span(7, 8, 6, -5))),
+        (What::Run(FIRST), (span(2, 7, 0, 0), span(7, 8, 6, -5))),
+    ]
+}
+
 #[test]
 fn answers_firm_offers(rt: HostRuntime) -> Result<(), Fail> {
-    let entries = [
-        (
-            What::Firm(1, 6, 7, no_room(7, 8, 7)),
-            span(0, 7, 2, 5),
-            span(7, 8, 1, 0),
-        ),
-        (
-            What::Firm(2, 5, 7, Firm::Accepted),
-            span(0, 7, 7, 0),
-            span(7, 8, 1, 0),
-        ),
-        (
-            What::Withdraw(3, 2, Gone::Freed(5)),
-            span(0, 7, 2, 5),
-            span(7, 8, 1, 0),
-        ),
-        (
-            What::Withdraw(4, 2, Gone::NoJob),
-            span(0, 7, 2, 5),
-            span(7, 8, 1, 0),
-        ),
-        (
-            What::Firm(5, 5, 8, Firm::Accepted),
-            span(0, 7, 2, 0),
-            span(7, 8, 6, -5),
-        ),
-        (
-            What::Firm(6, 6, 8, no_room(8, 14, 8)),
-            span(0, 7, 2, 0),
-            span(7, 8, 6, -5),
-        ),
-        (
-            What::Firm(7, 1, 9, Firm::Far),
-            span(0, 7, 2, 0),
-            span(7, 8, 6, -5),
-        ),
-        (
-            What::Firm(8, 1, 0, Firm::Late),
-            span(0, 7, 2, 0),
-            span(7, 8, 6, -5),
-        ),
-    ];
-    let exec = start(rt.alloc(), pair_set(rt.alloc())?)?;
-    each_entry::<HostRuntime, Brand>(&rt, exec, &entries, Blank::new(1))
+    let exec: Exec<RowTable> = start(rt.alloc(), pair_set(rt.alloc())?)?;
+    each_entry::<HostRuntime, Brand, RowTable>(&rt, exec, &offers(), Blank::new(1))
+}
+
+#[test]
+fn answers_firm_offers_over_a_chain(rt: HostRuntime) -> Result<(), Fail> {
+    let exec: Exec<ChainTable> = start(rt.alloc(), pair_set(rt.alloc())?)?;
+    each_entry::<HostRuntime, Brand, ChainTable>(&rt, exec, &offers(), Blank::new(1))
 }
 
 // A deadline inside a span that borrows, and inside the first one.
@@ -139,36 +121,33 @@ fn cuts_spans(rt: HostRuntime) -> Result<(), Fail> {
     let entries = [
         (
             What::Firm(1, 1, 5, Firm::Accepted),
-            span(0, 4, 1, 0),
-            span(4, 5, 1, -3),
+            (span(0, 4, 1, 0), span(4, 5, 1, -3)),
         ),
         (
             What::Withdraw(2, 1, Gone::Freed(1)),
-            span(0, 4, 1, 1),
-            span(4, 5, 0, -2),
+            (span(0, 4, 1, 1), span(4, 5, 0, -2)),
         ),
         (
             What::Firm(3, 1, 2, Firm::Accepted),
-            span(0, 2, 1, 0),
-            span(2, 4, 1, -1),
+            (span(0, 2, 1, 0), span(2, 4, 1, -1)),
         ),
     ];
-    let exec = start(rt.alloc(), borrowing_set(rt.alloc())?)?;
-    each_entry::<HostRuntime, Brand>(&rt, exec, &entries, Blank::new(1))
+    let exec: Exec<RowTable> = start(rt.alloc(), borrowing_set(rt.alloc())?)?;
+    each_entry::<HostRuntime, Brand, RowTable>(&rt, exec, &entries, Blank::new(1))
 }
 
 #[test]
 fn tells_what_it_keeps(rt: HostRuntime) -> Result<(), Fail> {
-    let exec = start(rt.alloc(), pair_set(rt.alloc())?)?;
-    at_start::<HostRuntime, Brand>(&rt, &exec, Blank::new(1));
+    let exec: Exec<RowTable> = start(rt.alloc(), pair_set(rt.alloc())?)?;
+    at_start::<HostRuntime, Brand, RowTable>(&rt, &exec, Blank::new(1));
     Ok(())
 }
 
 /// Makes each entry happen, and compares what is told, and the first two spans then.
-fn each_entry<R: Abort, L: Ledger>(
+fn each_entry<R: Abort, L: Ledger, T: SpareTable>(
     rt: &R,
-    exec: Exec<RowTable>,
-    entries: &[(What, Span, Span)],
+    exec: Exec<T>,
+    entries: &[(What, (Span, Span))],
     blank: Blank,
 ) -> Result<(), Fail>
     requires name { blank.name ≡ L.name }
@@ -177,15 +156,19 @@ fn each_entry<R: Abort, L: Ledger>(
 {
     let mut exec = exec;
     let mut steps: Steps<L> = Steps::new(blank);
-    for (entry, first, second) in entries {
+    for (entry, spans) in entries {
         assert_eq!(rt; told(&mut exec, *entry, &mut steps), Some(*entry));
-        assert_eq!(rt; first_two(&exec, &mut steps), Some((*first, *second)));
+        assert_eq!(rt; first_two(&exec, &mut steps), Some(*spans));
     }
     Ok(())
 }
 
 /// What is told of an entry's event, where that is in its range.
-fn told<L: Ledger>(exec: &mut Exec<RowTable>, entry: What, steps: &mut Steps<L>) -> Option<What> {
+fn told<L: Ledger, T: SpareTable>(
+    exec: &mut Exec<T>,
+    entry: What,
+    steps: &mut Steps<L>,
+) -> Option<What> {
     match entry {
         What::Soft(row, c, _) => soft(exec, row, c),
         What::Firm(row, c, d, _) => firm(exec, row, c, d, steps),
@@ -197,15 +180,17 @@ fn told<L: Ledger>(exec: &mut Exec<RowTable>, entry: What, steps: &mut Steps<L>)
     }
 }
 
-fn soft(exec: &mut Exec<RowTable>, row: u32, c: u32) -> Option<What> {
+/// What is told of a soft arrival.
+fn soft<T: SpareTable>(exec: &mut Exec<T>, row: u32, c: u32) -> Option<What> {
     if row <= exec.last_row() || c < 1 || OFFER_LIMIT < c {
         return None;
     }
     Some(What::Soft(row, c, exec.soft(row, c)))
 }
 
-fn firm<L: Ledger>(
-    exec: &mut Exec<RowTable>,
+/// What is told of a firm offer.
+fn firm<L: Ledger, T: SpareTable>(
+    exec: &mut Exec<T>,
     row: u32,
     c: u32,
     d: u32,
@@ -217,8 +202,9 @@ fn firm<L: Ledger>(
     Some(What::Firm(row, c, d, exec.firm(row, c, d, steps)))
 }
 
-fn sporadic<L: Ledger>(
-    exec: &mut Exec<RowTable>,
+/// What is told of a sporadic arrival.
+fn sporadic<L: Ledger, T: SpareTable>(
+    exec: &mut Exec<T>,
     row: u32,
     index: u8,
     steps: &mut Steps<L>,
@@ -229,8 +215,9 @@ fn sporadic<L: Ledger>(
     Some(What::Sporadic(row, index, exec.sporadic(row, index, steps)))
 }
 
-fn done<L: Ledger>(
-    exec: &mut Exec<RowTable>,
+/// What is told of an early end.
+fn done<L: Ledger, T: SpareTable>(
+    exec: &mut Exec<T>,
     row: u32,
     key: Key,
     steps: &mut Steps<L>,
@@ -241,8 +228,9 @@ fn done<L: Ledger>(
     Some(What::Done(row, key, exec.done(row, key, steps)))
 }
 
-fn withdraw<L: Ledger>(
-    exec: &mut Exec<RowTable>,
+/// What is told of a withdrawal.
+fn withdraw<L: Ledger, T: SpareTable>(
+    exec: &mut Exec<T>,
     row: u32,
     firm: u32,
     steps: &mut Steps<L>,
@@ -253,7 +241,8 @@ fn withdraw<L: Ledger>(
     Some(What::Withdraw(row, firm, exec.withdraw(row, firm, steps)))
 }
 
-fn slot<L: Ledger>(exec: &mut Exec<RowTable>, steps: &mut Steps<L>) -> Option<What> {
+/// What is told of a slot.
+fn slot<L: Ledger, T: SpareTable>(exec: &mut Exec<T>, steps: &mut Steps<L>) -> Option<What> {
     if 1 << 32 <= exec.now() {
         return None;
     }
@@ -264,7 +253,7 @@ fn slot<L: Ledger>(exec: &mut Exec<RowTable>, steps: &mut Steps<L>) -> Option<Wh
 }
 
 /// Six spans up to the horizon, of which the last has a job of one slot.
-fn at_start<R: Abort, L: Ledger>(rt: &R, exec: &Exec<RowTable>, blank: Blank)
+fn at_start<R: Abort, L: Ledger, T: SpareTable>(rt: &R, exec: &Exec<T>, blank: Blank)
     requires name { blank.name ≡ L.name }
     requires parts { blank.parts ≡ L.parts }
     requires some { 0 < L.parts }
@@ -277,7 +266,7 @@ fn at_start<R: Abort, L: Ledger>(rt: &R, exec: &Exec<RowTable>, blank: Blank)
 }
 
 /// The executive of a set before the first slot.
-fn start(alloc: Global, tasks: TaskSet) -> Result<Exec<RowTable>, Fail>
+fn start<T: SpareTable>(alloc: Global, tasks: TaskSet) -> Result<Exec<T>, Fail>
     requires { is_sound tasks ≡ true }
 {
     let plan = make_plan(alloc, tasks).ok().ok_or("no plan")?;
@@ -285,7 +274,10 @@ fn start(alloc: Global, tasks: TaskSet) -> Result<Exec<RowTable>, Fail>
 }
 
 /// The first two of its spans, where there are two.
-fn first_two<L: Ledger>(exec: &Exec<RowTable>, steps: &mut Steps<L>) -> Option<(Span, Span)> {
+fn first_two<L: Ledger, T: SpareTable>(
+    exec: &Exec<T>,
+    steps: &mut Steps<L>,
+) -> Option<(Span, Span)> {
     let shown = exec.shown(steps);
     match shown.spans() {
         [first, second, ..] => Some((*first, *second)),
@@ -298,6 +290,7 @@ fn no_room(until: u64, need: u64, room: u64) -> Firm {
     Firm::NoRoom(Evidence { until, need, room })
 }
 
+/// A span with its work and its spare capacity.
 fn span(start: u64, end: u64, work: u64, spare: i64) -> Span {
     Span {
         start,

@@ -63,12 +63,21 @@ fn start<T: SpareTable>(alloc: Global, tasks: TaskSet) -> Result<Exec<T>, Fail>
 
 #[test]
 fn offers_read_the_table(rt: HostRuntime) -> Result<(), Fail> {
-    reads::<HostRuntime, Brand>(&rt, rt.alloc(), Blank::new(1))
+    reads::<HostRuntime, Brand, RowTable>(&rt, rt.alloc(), Blank::new(1))
+}
+
+#[test]
+fn offers_read_the_chain(rt: HostRuntime) -> Result<(), Fail> {
+    reads::<HostRuntime, Brand, ChainTable>(&rt, rt.alloc(), Blank::new(1))
 }
 
 /// A flight controller's offer of 9 slots within 20. The ends of spans before 20 are 8, 9, 10, 17,
 /// 18 and 19, and the table has 45 spans.
-fn reads<R: Abort, L: Ledger>(rt: &R, alloc: Global, blank: Blank) -> Result<(), Fail>
+fn reads<R: Abort, L: Ledger, T: SpareTable>(
+    rt: &R,
+    alloc: Global,
+    blank: Blank,
+) -> Result<(), Fail>
     requires name { blank.name ≡ L.name }
     requires parts { blank.parts ≡ L.parts }
     requires some { 0 < L.parts }
@@ -77,7 +86,7 @@ fn reads<R: Abort, L: Ledger>(rt: &R, alloc: Global, blank: Blank) -> Result<(),
     let plan = make_plan(alloc, unmanned_flight_set(alloc)?)
         .ok()
         .ok_or("no plan")?;
-    let mut exec: Exec<ReadTable<RowTable>> = Exec::start(alloc, plan)?;
+    let mut exec: Exec<ReadTable<T>> = Exec::start(alloc, plan)?;
     assert_eq!(rt; exec.span_count(), 45);
 
     exec.table.reads.set(0);

@@ -5,15 +5,13 @@ use Rattle.slot_exec.proofs.SlotChoice.{choice_of}
 use Rattle.slot_exec.proofs.SlotParts.{Does-seen, end-near, HasPlaces-parts, IsExecutive-parts, MayRun-parts, next_slot-before_end, ran_of-parts, RemembersSpans-parts, slot-before_end}
 use Rattle.slot_exec.proofs.exec.Exec.slot.Goals as goal
 
-pub choose-chosen-requires-clause-after : goal.choose-chosen-requires-clause-after
-choose-chosen-requires-clause-after g c =
-    slot-before_end c.self.inside.reserve c.self.invariant
-
-pub choose-chosen-requires-clause-near : goal.choose-chosen-requires-clause-near
-choose-chosen-requires-clause-near g c = end-near c.self.inside.reserve c.self.invariant
-
-pub choose-chosen-requires-clause-room : goal.choose-chosen-requires-clause-room
-choose-chosen-requires-clause-room g c = RemembersSpans-parts c.self.inside.reserve c.self.invariant
+pub choose-chosen-requires : goal.choose-chosen-requires
+choose-chosen-requires g c =
+    record {
+      after = slot-before_end c.self.inside.reserve c.self.invariant;
+      near = end-near c.self.inside.reserve c.self.invariant;
+      room = RemembersSpans-parts c.self.inside.reserve c.self.invariant;
+    }
 
 pub run-requires : goal.run-requires
 run-requires g c =
