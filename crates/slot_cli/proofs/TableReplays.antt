@@ -30,11 +30,15 @@ use Rattle.slot_cli.proofs.StepLemmas.{bind_Ok}
 abbrev words_of_table : List ℕ → List (List ℕ)
 words_of_table t = codes "table" ∷ t ∷ []
 
+-- a word and three more
+abbrev words_of : List ℕ → List ℕ → List ℕ → List ℕ → List (List ℕ)
+words_of word file arrivals n = word ∷ file ∷ arrivals ∷ n ∷ []
+
 abbrev words_of_replay : List ℕ → List ℕ → List ℕ → List (List ℕ)
-words_of_replay t a n = codes "replay" ∷ t ∷ a ∷ n ∷ []
+words_of_replay = words_of (codes "replay")
 
 abbrev words_of_replay_table : List ℕ → List ℕ → List ℕ → List (List ℕ)
-words_of_replay_table b a n = codes "replay-table" ∷ b ∷ a ∷ n ∷ []
+words_of_replay_table = words_of (codes "replay-table")
 
 -- what a table is written of
 written-of : (made : Outcome PlanParts) (bytes : List ℕ) → (made >>= (λ plan. let o : Outcome (List ℕ) = Ok (spelling plan) in o)) ≡ Ok bytes → (plan : PlanParts) × (made ≡ Ok plan) × (bytes ≡ spelling plan)

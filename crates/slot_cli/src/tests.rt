@@ -92,13 +92,15 @@ const UNREADABLE: [(&str, u32, &str); 4] = [
     ("gantt a.toml b.csv 1", 2, "cannot read b.csv\n"),
 ];
 
-/// Runs that are refused, and their statuses.
-const REFUSED: [(&str, &str, Status); 5] = [
-    ("check", PAIR, Status::Usage),
-    ("check b.toml", PAIR, Status::FileFault),
-    (CHECK, "graph = 1", Status::BadTasks),
-    (CHECK, OVERLOAD, Status::Infeasible),
-    (SHOW, PAIR, Status::BadTable),
+/// Runs that are refused where the output takes no put, and their statuses.
+const REFUSED: [(&str, &str, &str, Status); 7] = [
+    ("check", PAIR, "", Status::Usage),
+    ("check b.toml", PAIR, "", Status::FileFault),
+    (CHECK, "graph = 1", "", Status::BadTasks),
+    (CHECK, OVERLOAD, "", Status::Infeasible),
+    (SHOW, PAIR, "", Status::BadTable),
+    (REPLAY, PAIR, "0,soft/", Status::BadArrivals),
+    (REPLAY, PAIR, "", Status::WriteFault),
 ];
 
 /// Files of so many equal bytes, and the line on standard error.
@@ -435,10 +437,15 @@ fn fills_the_room_of_the_output(rt: HostRuntime) -> Result<(), Fail> {
 
 #[test]
 fn keeps_the_status_where_it_cannot_be_told(rt: HostRuntime) -> Result<(), Fail> {
-    for (words, first, status) in REFUSED {
-        let case = refused(words, first, status, 1, "");
+    for (words, first, rows, status) in REFUSED {
+        let arrivals = bytes_of(rt.alloc(), rows)?;
+        let case = done(words, first, arrivals.as_slice(), "");
         let untold = Case {
-            limits: Limits { line: 1, ..ROOMY },
+            limits: Limits {
+                put: 1,
+                line: 1,
+                ..ROOMY
+            },
             ..case
         };
         let ran = run_of(rt.alloc(), &untold)?;
@@ -652,6 +659,11 @@ fn refuses_large_files(rt: HostRuntime) -> Result<(), Fail> {
         let ran = run_of(alloc, &case)?;
         assert_eq!(rt; ran.err.bytes(), err.as_bytes());
         assert!(rt; ran.out.bytes().is_empty());
+        let untold = Case {
+            limits: Limits { line: 1, ..ROOMY },
+            ..case
+        };
+        assert_eq!(rt; run_of(alloc, &untold)?.status, ran.status);
     }
     Ok(())
 }
