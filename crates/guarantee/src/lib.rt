@@ -52,8 +52,8 @@ pub enum SoftRoom {
 /// needed than there are slots, with the densest arrivals of sporadic tasks from now on. A refusal
 /// tells the first time that is too short.
 ///
-/// Each span is read once at most. Without sporadic tasks an accepted offer reads at most the spans
-/// that end before its deadline, and one more.
+/// It reads at most as many spans as there are. Without sporadic tasks an accepted offer reads at
+/// most the spans that end before its deadline, and one more.
 pub fn test<T: SpareTable, L: Ledger>(
     table: &T,
     reserve: &Reserve,

@@ -34,8 +34,8 @@ pub record AreInChain (pairs : List (NodeId × Span)) (capacity time end : ℕ) 
   pub ends : end ≡ last_end 0 (spans_of pairs)
   pub near : end ≤ 2 ^ 60
 
--- what is known of one span: where its end is not 0, so many spans end before it, and at that place
--- stands this id
+-- what is known of one span: where the time is not 0, so many spans end before it, and the next one
+-- has this id
 pub record Knows (pairs : List (NodeId × Span)) (known : Known) : Type 0 where
   pub place : 1 ≤ known.end → known.index ≡ place_of known.end (spans_of pairs)
   pub id : 1 ≤ known.end → id_at pairs known.index ≡ Some known.id

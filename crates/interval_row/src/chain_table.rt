@@ -21,8 +21,9 @@ use std::test::Fail;
 /// A table over a chain of spans, whose steps are bounded. A spot is the number of a node.
 ///
 /// It keeps the first start and the last end beside the chain, and where the span stands whose work
-/// was changed last: the job that ran in a slot mostly runs in the next. A change of work is
-/// followed back only as far as capacities change.
+/// was changed last, until a span is split, a cycle comes in, or that span is past: the job that ran
+/// in a slot mostly runs in the next. A change of work is followed back only as far as capacities
+/// change.
 #[derive(Drop)]
 pub struct ChainTable {
     chain: Chain,

@@ -48,8 +48,8 @@ fn later_start(row: Span) -> Span
     }
 }
 
-/// More slots of work for the span that ends there. It is found by what is
-/// known, or by a walk, and known from then on.
+/// More slots of work for the span that ends there, which is found by what is known, or by a walk.
+/// What is known afterwards is returned.
 pub fn charge<L: Ledger>(
     chain: &mut Chain,
     known: Known,
@@ -79,8 +79,8 @@ pub fn charge<L: Ledger>(
     }
 }
 
-/// Fewer slots of work for the span that ends there. It is found by what is
-/// known, or by a walk, and known from then on.
+/// Fewer slots of work for the span that ends there, which is found by what is known, or by a walk.
+/// What is known afterwards is returned.
 pub fn give_back<L: Ledger>(
     chain: &mut Chain,
     known: Known,

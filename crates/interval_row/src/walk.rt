@@ -19,8 +19,8 @@ pub struct Place {
     pub row: Span,
 }
 
-/// What is known of one span of a chain: its end, its id, and how many stand before it. Nothing is
-/// known where the end is 0.
+/// What is known of one span of a chain, the first that ends at a time or later: that time, its id,
+/// and how many stand before it. Nothing is known where the time is 0.
 #[derive(Clone, Copy)]
 pub struct Known {
     pub end: u64,
@@ -106,7 +106,7 @@ pub fn find_known<L: Ledger>(chain: &Chain, known: Known, x: u64, steps: &mut St
 }
 
 /// The span at a place becomes this one, with another work and its capacity, and the capacities
-/// before it follow, back to the first that stays. One step, and two for each span before.
+/// before follow, back to the first that stays. At most one step, and two for each span before.
 pub fn set_work<L: Ledger>(chain: &mut Chain, place: Place, row: Span, steps: &mut Steps<L>)
     requires rows { AreRows (spans_of chain.old.pairs) }
     requires id { id_at chain.old.pairs place.index ≡ Some place.id }

@@ -17,7 +17,7 @@ use std::sync::ledger::Ledger;
 pub struct Room {
     /// Up to each later time by which something is needed, so many slots are free.
     pub free: u64,
-    /// A time that was short of room.
+    /// A time that a search found short of room, which counts while it is to come, or 0.
     pub tight: u64,
     /// The slots of guaranteed jobs that are due by then.
     pub due: u64,

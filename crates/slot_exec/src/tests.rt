@@ -84,8 +84,9 @@ fn takes_an_alarm(rt: HostRuntime) -> Result<(), Fail> {
 }
 
 /// Where a span ends, the slots that fit and one more. Taken back, they leave room for an offer that
-/// is due a cycle ahead. Past a cycle, and now. Then the job runs, and its span borrows less.
-fn offers() -> [(What, (Span, Span)); 10] {
+/// is due a cycle ahead. Past a cycle, and now. Then the pair runs; its second job is due with the
+/// offer, so what is borrowed falls.
+fn offers() -> [(What, (Span, Span)); 11] {
     let free = (span(0, 7, 2, 5), span(7, 8, 1, 0));
     let full = (span(0, 7, 7, 0), span(7, 8, 1, 0));
     let borrowed = (span(0, 7, 2, 0), span(7, 8, 6, -5));
@@ -100,6 +101,7 @@ fn offers() -> [(What, (Span, Span)); 10] {
         (What::Firm(8, 1, 0, Firm::Late), borrowed),
         (What::Run(FIRST), (span(1, 7, 1, 0), span(7, 8, 6, -5))),
         (What::Run(FIRST), (span(2, 7, 0, 0), span(7, 8, 6, -5))),
+        (What::Run(SECOND), (span(3, 7, 0, 0), span(7, 8, 5, -4))),
     ]
 }
 

@@ -36,9 +36,9 @@ pub fn encode(alloc: Global, plan: &Plan) -> Result<Vec<u8>, Memory>
 }
 
 /// The plan whose spelling the bytes are. Any fault but want of memory is the first one: the fields
-/// are read from left to right, and each name, count and length of the task set is checked as it is
-/// read; then the set is checked, its plan is made, and the stored jobs and spans are compared with those
-/// of the plan one by one. No count makes room for what it counts.
+/// are read from left to right, and each name, count, length and time of the task set is checked as
+/// it is read; then the set is checked, its plan is made, and the stored jobs and spans are compared
+/// with those of the plan one by one. No count makes room for what it counts.
 pub fn decode(alloc: Global, bytes: &[u8]) -> Result<Plan, TableFault>
     ensures reading { AnswersAs result (reading_of_table bytes.now) }
 
