@@ -117,8 +117,9 @@ pub record OfferIsExact
         (time_of h)
         (horizon cycle (time_of h))))
 
--- the answer to each firm offer of a history is exact, at the history before it; of one that is
--- late or due more than a cycle ahead it asks no more than that none is accepted wrongly
+-- the answer to each firm offer of a history is exact, at the history before it; where one is late
+-- or due more than a cycle ahead, it asks only that it is neither accepted nor refused for want of
+-- room wrongly
 abbrev pub OffersAreExact : TaskSet → ℕ → History → Type 0
 OffersAreExact set cycle h =
     (row slots within : ℕ) (answer : FirmAnswer) (earlier : History)

@@ -37,7 +37,7 @@ abbrev pub AreSpaced : ℕ → ℕ → List ℕ → Type 0
 AreSpaced separation from [] = ⊤
 AreSpaced separation from (t ∷ ts) = (from ≤ t) × AreSpaced separation (t + separation) ts
 
--- arrivals as pairs of a sporadic task and a time, and the times of one task
+-- the times of one sporadic task in a pattern, whose arrivals are pairs of a task and a time
 abbrev pub times_of : ℕ → List (ℕ × ℕ) → List ℕ
 times_of index pattern = map (λ (a : ℕ × ℕ). a.1) (filter (λ (a : ℕ × ℕ). a.0 == index) pattern)
 
