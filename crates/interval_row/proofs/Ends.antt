@@ -1,10 +1,9 @@
 -- The last end of rows that change.
-use Rattle.std.proofs.Common.{◌≡◌, ℕ, suc, ◌+◌, ◌<◌, ◌≤◌, ◌&&◌, List, [], ◌∷◌, ◌++◌, length, map, eqb, ltb, refl, sym, ◌∙◌, ap, arith}
+use Rattle.std.proofs.Common.{◌≡◌, ℕ, ◌+◌, ◌<◌, ◌≤◌, ◌&&◌, List, [], ◌∷◌, ◌++◌, length, map, eqb, ltb, refl, arith}
 use Rattle.std.proofs.lemmas.Bool.{cond_both, eqb-true}
 use Rattle.slot_core.specs.declared.jobs.Span.{Span}
 use Rattle.spare_capacity.specs.Recurrence.{first_start, last_end}
 use Rattle.interval_row.specs.Changes.{after_pass, appended, cut, part_before, part_from, shifted, with_work}
-use Rattle.interval_row.proofs.Cycles.{last_end-some}
 
 -- another work leaves it
 pub last_end-with_work : (f : ℕ → ℕ) (deadline start : ℕ) (rows : List Span) → last_end start (with_work f deadline rows) ≡ last_end start rows

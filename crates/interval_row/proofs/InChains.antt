@@ -1,39 +1,30 @@
 -- Rows that stand in a chain are a table.
-use Rattle.std.proofs.Common.{◌≡◌, ℕ, suc, ◌+◌, ◌-◌, ◌*◌, ◌<◌, ◌≤◌, ◌^◌, IsSomeAnd, List, length, map, refl, sym, ◌∙◌, ap, subst, arith}
+use Rattle.std.proofs.Common.{◌≡◌, ℕ, ◌+◌, ◌-◌, ◌*◌, ◌<◌, ◌≤◌, ◌^◌, IsSomeAnd, List, length, map, sym, ◌∙◌, ap, subst, arith}
 use Rattle.slot_core.specs.declared.jobs.Span.{Span}
 use Rattle.spare_capacity.specs.Recurrence.{filled, first_start, last_end}
 use Rattle.spare_capacity.specs.PlanSpans.{ArePlanSpans}
 use Rattle.node_chain.specs.declared.chain.NodeId.{NodeId}
 use Rattle.node_chain.specs.Chains.{Chained, IsChain}
 use Rattle.interval_row.specs.Changes.{after_pass, appended, copies_of, cut, shifted, span_ending, with_less, with_more}
-use Rattle.interval_row.specs.ChainTables.{spans_of, spotted, AreInChain}
+use Rattle.interval_row.specs.ChainTables.{spans_of, AreInChain}
 use Rattle.interval_row.specs.Rows.{AreRows}
-use Rattle.interval_row.specs.Tables.{spans_of_pairs, IsTable}
+use Rattle.interval_row.specs.Tables.{numbered, spans_of_pairs, IsTable}
 use Rattle.interval_row.proofs.Cuts.{first_start-cut}
 use Rattle.interval_row.proofs.Cycles.{first_start-append, last_end-le, last_end-some, AreCopies-copies_of}
 use Rattle.interval_row.proofs.Ends.{last_end-after_pass, last_end-appended, last_end-cut, last_end-with_work}
 use Rattle.interval_row.proofs.Fillings.{first_start-filled, last_end-filled}
-use Rattle.interval_row.proofs.Ids.{id_at-spot, length-spotted, length-spans_of, spans_of_pairs-spotted}
-use Rattle.interval_row.proofs.Spots.{AreKept-copies_of}
+use Rattle.interval_row.proofs.Ids.{length-spans_of}
+use Rattle.interval_row.proofs.Spots.{length-numbered, spans_of_pairs-numbered, AreKept-copies_of, IsTable-AreRows}
 use Rattle.interval_row.proofs.Kept.{AreRows-AreBare, AreRows-appended, AreBare-after_pass, AreBare-cut, Stays, Stays-with_less, Stays-with_more, first_start-after_pass}
 
-pub IsTable-AreInChain : (pairs : List (NodeId × Span)) (capacity time end : ℕ) → AreInChain pairs capacity time end → IsTable (first_start (spans_of pairs)) (spotted pairs) capacity
+pub IsTable-AreInChain : (pairs : List (NodeId × Span)) (capacity time end : ℕ) → AreInChain pairs capacity time end → IsTable (first_start (spans_of pairs)) (numbered 0 (spans_of pairs)) capacity
 IsTable-AreInChain pairs capacity time end h =
-    let spans : spans_of_pairs (spotted pairs) ≡ spans_of pairs = spans_of_pairs-spotted pairs in
-    record {
-      some = omega (arith, h.rows.some, length-spotted pairs, length-spans_of pairs);
-      distinct = λ spot i j a b. h.chain.distinct (record { 0 = spot.0 }) i j (id_at-spot pairs i spot a) (id_at-spot pairs j spot b);
-      consecutive = rw spans h.rows.consecutive;
-      proper = rw spans h.rows.proper;
-      filled = rw spans h.rows.filled;
-      few = omega (arith, h.chain.few, length-spotted pairs);
-      small = h.chain.small;
-    }
+    IsTable-AreRows (spans_of pairs) capacity h.rows (omega (arith, h.chain.few, length-spans_of pairs)) h.chain.small
 
 -- the last end that contracts see
-pub end_seen : (pairs : List (NodeId × Span)) (capacity time end : ℕ) → AreInChain pairs capacity time end → last_end (first_start (spans_of pairs)) (spans_of_pairs (spotted pairs)) ≡ end
+pub end_seen : (pairs : List (NodeId × Span)) (capacity time end : ℕ) → AreInChain pairs capacity time end → last_end (first_start (spans_of pairs)) (spans_of_pairs (numbered 0 (spans_of pairs))) ≡ end
 end_seen pairs capacity time end h =
-    ap (last_end (first_start (spans_of pairs))) (spans_of_pairs-spotted pairs) ∙ last_end-some (first_start (spans_of pairs)) 0 (spans_of pairs) h.rows.some ∙ sym h.ends
+    ap (last_end (first_start (spans_of pairs))) (spans_of_pairs-numbered 0 (spans_of pairs)) ∙ last_end-some (first_start (spans_of pairs)) 0 (spans_of pairs) h.rows.some ∙ sym h.ends
 
 -- rows that stay, with their last end
 pub AreInChain-Stays : (old new : List (NodeId × Span)) (capacity after time end : ℕ) → AreInChain old capacity time end → IsChain new after → Stays (spans_of old) (spans_of new) → last_end 0 (spans_of new) ≡ last_end 0 (spans_of old) → AreInChain new after time end
@@ -78,18 +69,18 @@ AreInChain-appended spans old new capacity after time end plan h chain free near
     }
 
 -- what contracts see is what the chain holds
-pub rows_of_view : (inside seen : Chained) → inside ≡ seen → spans_of_pairs (spotted seen.pairs) ≡ spans_of inside.pairs
-rows_of_view inside seen e = spans_of_pairs-spotted seen.pairs ∙ ap (λ (v : Chained). spans_of v.pairs) (sym e)
+pub rows_of_view : (inside seen : Chained) → inside ≡ seen → spans_of_pairs (numbered 0 (spans_of seen.pairs)) ≡ spans_of inside.pairs
+rows_of_view inside seen e = spans_of_pairs-numbered 0 (spans_of seen.pairs) ∙ ap (λ (v : Chained). spans_of v.pairs) (sym e)
 
 pub start_of_view : (inside seen : Chained) → inside ≡ seen → first_start (spans_of seen.pairs) ≡ first_start (spans_of inside.pairs)
 start_of_view inside seen e = ap (λ (v : Chained). first_start (spans_of v.pairs)) (sym e)
 
-pub length_of_view : (inside seen : Chained) → inside ≡ seen → (length (spotted seen.pairs) ≡ length inside.pairs) × (seen.capacity ≡ inside.capacity)
-length_of_view inside seen e = (length-spotted seen.pairs ∙ ap (λ (v : Chained). length v.pairs) (sym e), ap (λ (v : Chained). v.capacity) (sym e))
+pub length_of_view : (inside seen : Chained) → inside ≡ seen → (length (numbered 0 (spans_of seen.pairs)) ≡ length inside.pairs) × (seen.capacity ≡ inside.capacity)
+length_of_view inside seen e = (length-numbered 0 (spans_of seen.pairs) ∙ length-spans_of seen.pairs ∙ ap (λ (v : Chained). length v.pairs) (sym e), ap (λ (v : Chained). v.capacity) (sym e))
 
-pub end_of_view : (inside seen : Chained) (time end : ℕ) → inside ≡ seen → AreInChain inside.pairs inside.capacity time end → last_end (first_start (spans_of seen.pairs)) (spans_of_pairs (spotted seen.pairs)) ≡ end
+pub end_of_view : (inside seen : Chained) (time end : ℕ) → inside ≡ seen → AreInChain inside.pairs inside.capacity time end → last_end (first_start (spans_of seen.pairs)) (spans_of_pairs (numbered 0 (spans_of seen.pairs))) ≡ end
 end_of_view inside seen time end e h =
-    subst (λ (v : Chained). last_end (first_start (spans_of v.pairs)) (spans_of_pairs (spotted v.pairs)) ≡ end) e (end_seen inside.pairs inside.capacity time end h)
+    subst (λ (v : Chained). last_end (first_start (spans_of v.pairs)) (spans_of_pairs (numbered 0 (spans_of v.pairs))) ≡ end) e (end_seen inside.pairs inside.capacity time end h)
 
 -- more work of the span that ends there
 pub AreInChain-with_more : (deadline slots : ℕ) (old new : List (NodeId × Span)) (capacity after time end : ℕ) → AreInChain old capacity time end → IsChain new after → IsSomeAnd (span_ending deadline (spans_of old)) (λ (s : Span). s.work + slots ≤ 2 ^ 40) → spans_of new ≡ filled (with_more deadline slots (spans_of old)) → AreInChain new after time end

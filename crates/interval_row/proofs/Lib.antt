@@ -6,7 +6,6 @@ pub mod Ids
 pub mod InChains
 pub mod Inserts
 pub mod Kept
-pub mod Known
 pub mod Places
 pub mod Spots
 pub mod WalkBack

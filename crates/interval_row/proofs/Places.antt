@@ -3,6 +3,7 @@ use Rattle.std.proofs.Common.{◌≡◌, ℕ, zero, suc, ◌<◌, ◌≤◌, ◌
 use Rattle.std.specs.List.Sorted.{IsNonDecreasingBy, IsPartitionPoint}
 use Rattle.std.proofs.lemmas.Bool.{false≢true, cases_eq, eq-eqb, ne_eqb, lt-ltb, le-ltb}
 use Rattle.slot_core.specs.declared.jobs.Span.{Span}
+use Rattle.spare_capacity.specs.PlanSpans.{AreProper}
 use Rattle.spare_capacity.specs.Recurrence.{FollowOn, last_end}
 use Rattle.spare_capacity.proofs.Steps.{no_row}
 use Rattle.interval_row.specs.Changes.{span_ending, with_work}
@@ -13,6 +14,20 @@ end-le : (start : ℕ) (rows : List Span) (k : ℕ) (d : Span) → FollowOn star
 end-le start [] k d h l = elim l [ ]
 end-le start (s ∷ ss) zero d h l = omega (arith, h.0, h.1)
 end-le start (s ∷ ss) (suc k) d h l = omega (arith, h.0, h.1, end-le s.end ss k d h.4 (omega arith))
+
+-- and each proper one ends after that
+end-lt : (start : ℕ) (rows : List Span) (k : ℕ) → FollowOn start rows → AreProper rows → k < length rows → start < (get_or rows k no_row).end
+end-lt start [] k h proper l = elim l [ ]
+end-lt start (s ∷ ss) zero h proper l = omega (arith, h.0, proper.0)
+end-lt start (s ∷ ss) (suc k) h proper l = omega (arith, h.0, h.1, end-lt s.end ss k h.4 proper.1 (omega arith))
+
+-- the row at a place is the one that ends there, where it does
+pub place_of-ending : (start x : ℕ) (rows : List Span) (k : ℕ) → FollowOn start rows → AreProper rows → k < length rows → (get_or rows k no_row).end ≡ x → k ≡ place_of x rows
+place_of-ending start x [] k h proper l ends = elim l [ ]
+place_of-ending start x (s ∷ ss) zero h proper l ends = rw (le-ltb s.end x (omega (arith, ends))) refl
+place_of-ending start x (s ∷ ss) (suc k) h proper l ends =
+    let later : s.end < (get_or ss k no_row).end = end-lt s.end ss k h.4 proper.1 (omega arith) in
+    rw (lt-ltb s.end x (omega (arith, later, ends))) (ap suc (place_of-ending s.end x ss k h.4 proper.1 (omega arith) ends))
 
 -- nor is the last end before the start
 pub last_end-ge : (start : ℕ) (rows : List Span) → FollowOn start rows → start ≤ last_end start rows

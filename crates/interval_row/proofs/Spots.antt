@@ -7,7 +7,8 @@ use Rattle.spare_capacity.specs.Recurrence.{filled, first_start, last_end}
 use Rattle.spare_capacity.specs.PlanSpans.{ArePlanSpans}
 use Rattle.interval_row.specs.Tables.{spans_of_pairs, span_at, spot_at, IsTable}
 use Rattle.interval_row.specs.Changes.{after_pass, appended, copies_of, cut}
-use Rattle.interval_row.specs.RowTables.{numbered, AreKept, RowParts}
+use Rattle.interval_row.specs.RowTables.{AreKept, RowParts}
+use Rattle.interval_row.specs.Tables.{numbered}
 use Rattle.interval_row.specs.Rows.{AreRows}
 use Rattle.interval_row.proofs.Cuts.{length-cut}
 use Rattle.interval_row.proofs.Cycles.{copies_fit, last_end-some, length-appended, AreCopies, AreCopies-copies_of}

@@ -12,7 +12,7 @@ pub record AreRows (rows : List Span) : Type 0 where
   pub filled : rows ≡ filled rows
   pub few : length rows ≤ 2 ^ 20
 
--- how many rows from the front end before x
+-- how many rows at the front have their end before x
 abbrev pub place_of : ℕ → List Span → ℕ
 place_of x [] = 0
 place_of x (s ∷ ss) = if nat_lt s.end x then suc (place_of x ss) else 0

@@ -1,9 +1,14 @@
 -- What a table of spans is.
-use Rattle.std.specs.Prelude.{◌≡◌, ℕ, ◌≤◌, ◌^◌, List, length, map, Option, Some, slice_get}
+use Rattle.std.specs.Prelude.{◌≡◌, ℕ, suc, ◌≤◌, ◌^◌, List, [], ◌∷◌, length, map, Option, Some, slice_get}
 use Rattle.slot_core.specs.declared.jobs.Span.{Span}
 use Rattle.spare_capacity.specs.PlanSpans.{AreProper}
 use Rattle.spare_capacity.specs.Recurrence.{filled, FollowOn}
 use Rattle.interval_row.specs.declared.table.Spot.{Spot}
+
+-- the spans numbered from n on, each with its number as its spot
+abbrev pub numbered : ℕ → List Span → List (Spot × Span)
+numbered n [] = []
+numbered n (s ∷ ss) = (record { 0 = n }, s) ∷ numbered (suc n) ss
 
 -- the spans without their spots
 abbrev pub spans_of_pairs : List (Spot × Span) → List Span
@@ -22,7 +27,7 @@ abbrev pub IsLive : List (Spot × Span) → Spot → Type 0
 IsLive pairs spot = (i : ℕ) × (spot_at pairs i ≡ Some spot)
 
 -- a table at a time: some spans, each with a spot of its own, consecutive from the time, proper,
--- with their capacities by the recurrence, and no more than it has room for
+-- with their capacities by the recurrence, and no more than it has room for, at most 2 ^ 20
 pub record IsTable (time : ℕ) (pairs : List (Spot × Span)) (limit : ℕ) : Type 0 where
   pub some : 1 ≤ length pairs
   pub distinct :

@@ -3,14 +3,13 @@
 ghost use Rattle.std.specs.Prelude.{◌≡◌, ◌*◌, ◌≤◌, ◌<◌, ◌^◌, length, IfOk};
 ghost use Rattle.spare_capacity.specs.PlanSpans.{ArePlanSpans};
 ghost use Rattle.spare_capacity.specs.Recurrence.{first_start};
-ghost use Rattle.interval_row.specs.ChainTables.{spans_of, spot_of, spotted, Knows};
+ghost use Rattle.interval_row.specs.ChainTables.{spans_of};
 ghost use Rattle.interval_row.specs.Changes.{copies_of};
-ghost use Rattle.interval_row.specs.Tables.{spans_of_pairs, IsTable};
+ghost use Rattle.interval_row.specs.Tables.{numbered, spans_of_pairs, IsTable};
 
 use crate::table::{SpareTable, Spot};
-use crate::walk::Known;
 use crate::{nodes, rows, walk};
-use node_chain::{Chain, NodeId};
+use node_chain::Chain;
 use slot_core::{Memory, Span, Steps};
 use std::alloc::Global;
 use std::marker::{Brand, Model};
@@ -18,49 +17,43 @@ use std::sync::ledger::{Blank, Ledger};
 #[cfg(test)]
 use std::test::Fail;
 
-/// A table over a chain of spans, whose steps are bounded. A spot is the number of a node.
+/// A table over a chain of spans, whose steps are bounded. A spot is how many spans stand before
+/// the one that it names.
 ///
-/// It keeps the first start and the last end beside the chain, and where the span stands whose work
-/// was changed last, until a span is split, a cycle comes in, or that span is past: the job that ran
-/// in a slot mostly runs in the next. A change of work is followed back only as far as capacities
-/// change.
+/// It keeps the first start and the last end beside the chain, and a hint: the span of the last
+/// `charge`, `give_back` or `split`, or the first where that one has gone. A change of work looks
+/// there first: the job that ran in a slot mostly runs in the next, and the slots of an offer are
+/// due at the end that was made for it. Capacities are followed back from such a change only as far
+/// as they change.
 #[derive(Drop)]
 pub struct ChainTable {
     chain: Chain,
     time: u64,
     end: u64,
-    /// The end of that span, or 0 where none is known.
-    known_end: u64,
-    /// The number of its node.
-    known_node: u32,
-    /// How many spans stand before it.
-    known_index: u32,
+    /// How many spans stand before the one that is looked at first. Only steps depend on it.
+    hint: u32,
 }
 
 impl Model for ChainTable {
     ghost use Rattle.node_chain.specs.Chains.{Chained};
-    ghost use Rattle.interval_row.specs.ChainTables.{AreInChain, Knows};
+    ghost use Rattle.interval_row.specs.ChainTables.{AreInChain};
 
     ghost Value = { Chained };
 
     ghost view = { λ t. t.chain };
 
-    ghost invariant = { λ t. AreInChain t.chain.pairs t.chain.capacity t.time t.end
-        × Knows t.chain.pairs (record {
-          end = t.known_end;
-          id = record { 0 = t.known_node };
-          index = t.known_index;
-        }) };
+    ghost invariant = { λ t. AreInChain t.chain.pairs t.chain.capacity t.time t.end };
 }
 
 impl SpareTable for ChainTable {
     ghost use Rattle.std.specs.Prelude.{true};
-    ghost use Rattle.interval_row.specs.ChainTables.{spans_of, spotted};
+    ghost use Rattle.interval_row.specs.ChainTables.{spans_of};
+    ghost use Rattle.interval_row.specs.Tables.{numbered};
     ghost use Rattle.spare_capacity.specs.Recurrence.{first_start};
 
     ghost time = { λ t. first_start (spans_of t.pairs) };
 
-    ghost pairs = { λ t. spotted t.pairs };
+    ghost pairs = { λ t. numbered 0 (spans_of t.pairs) };
 
     ghost limit = { λ t. t.capacity };
 
@@ -83,89 +76,55 @@ impl SpareTable for ChainTable {
     }
 
     fn first(&self) -> Spot {
-        let NodeId(place) = walk::first(&self.chain);
-        Spot(place)
+        // So that the prover sees that there is a span.
+        let _kept = &self.chain;
+        Spot(0)
     }
 
     fn next(&self, at: Spot) -> Option<Spot> {
-        let Spot(place) = at;
-        spot_of(self.chain.next(NodeId(place)))
+        let Spot(index) = at;
+        let count = self.count();
+        if index + 1 < count {
+            Some(Spot(index + 1))
+        } else {
+            None
+        }
     }
 
     fn read<L: Ledger>(&self, at: Spot, steps: &mut Steps<L>) -> Span {
-        let Spot(place) = at;
-        self.chain.get(NodeId(place), steps)
+        let Spot(index) = at;
+        walk::span(&self.chain, index, steps)
     }
 
     fn pass_slot<L: Ledger>(&mut self, steps: &mut Steps<L>) {
-        let before = self.known();
-        let known = nodes::pass(&mut self.chain, before, steps);
+        self.hint = nodes::pass(&mut self.chain, self.hint, steps);
         self.chain.audit();
         self.time += 1;
-        let NodeId(node) = known.id;
-        self.known_end = known.end;
-        self.known_node = node;
-        self.known_index = known.index;
     }
 
     fn charge<L: Ledger>(&mut self, deadline: u64, slots: u32, steps: &mut Steps<L>) {
-        let before = self.known();
-        let known = nodes::charge(&mut self.chain, before, deadline, slots, steps);
+        self.hint = nodes::charge(&mut self.chain, self.hint, deadline, slots, steps);
         self.chain.audit();
-        let NodeId(node) = known.id;
-        self.known_end = known.end;
-        self.known_node = node;
-        self.known_index = known.index;
     }
 
     fn give_back<L: Ledger>(&mut self, deadline: u64, slots: u32, steps: &mut Steps<L>) {
-        let before = self.known();
-        let known = nodes::give_back(&mut self.chain, before, deadline, slots, steps);
+        self.hint = nodes::give_back(&mut self.chain, self.hint, deadline, slots, steps);
         self.chain.audit();
-        let NodeId(node) = known.id;
-        self.known_end = known.end;
-        self.known_node = node;
-        self.known_index = known.index;
     }
 
     fn split<L: Ledger>(&mut self, at: u64, steps: &mut Steps<L>) {
-        nodes::split(&mut self.chain, at, steps);
+        self.hint = nodes::split(&mut self.chain, at, steps);
         self.chain.audit();
-        self.known_end = 0;
     }
 
     fn append_cycle<L: Ledger>(&mut self, spans: &[Span], steps: &mut Steps<L>) {
         nodes::append(&mut self.chain, spans, self.end, steps);
         self.chain.audit();
         self.end += rows::last_end(spans);
-        self.known_end = 0;
     }
 }
 
-impl ChainTable {
-    /// What it knows of one span.
-    fn known(&self) -> Known
-        ensures { Knows self.now.pairs result }
-    {
-        Known {
-            end: self.known_end,
-            id: NodeId(self.known_node),
-            index: self.known_index,
-        }
-    }
-}
-
-/// The spot of a node, where there is one.
-fn spot_of(id: Option<NodeId>) -> Option<Spot>
-    ensures { result ≡ spot_of id }
-{
-    match id {
-        Some(NodeId(place)) => Some(Spot(place)),
-        None => None,
-    }
-}
-
-/// A table of so many copies of a plan's spans. It is made with steps that nobody asks for.
+/// A table of so many copies of a plan's spans. Its steps are counted and thrown away.
 fn filled_table<L: Ledger>(
     alloc: Global,
     spans: &[Span],
@@ -180,11 +139,13 @@ fn filled_table<L: Ledger>(
     requires some { 1 ≤ copies }
     requires fits { copies * length spans.now ≤ room }
     requires few { room ≤ 2 ^ 20 }
-    ensures table { IfOk result (λ made.
-        IsTable (first_start (spans_of made.pairs)) (spotted made.pairs) made.capacity) }
+    ensures table { IfOk result (λ made. IsTable
+        (first_start (spans_of made.pairs))
+        (numbered 0 (spans_of made.pairs))
+        made.capacity) }
     ensures time { IfOk result (λ made. first_start (spans_of made.pairs) ≡ 0) }
     ensures spans { IfOk result (λ made.
-        spans_of_pairs (spotted made.pairs) ≡ copies_of spans.now copies) }
+        spans_of_pairs (numbered 0 (spans_of made.pairs)) ≡ copies_of spans.now copies) }
     ensures room { IfOk result (λ made. made.capacity ≡ room) }
 {
     let mut steps: Steps<L> = Steps::new(blank);
@@ -200,9 +161,7 @@ fn filled_table<L: Ledger>(
         chain,
         time: 0,
         end,
-        known_end: 0,
-        known_node: 0,
-        known_index: 0,
+        hint: 0,
     })
 }
 
@@ -220,13 +179,12 @@ fn fields_are_whole(rt: HostRuntime) -> Result<(), Fail> {
         chain,
         time,
         end,
-        known_end,
-        known_node,
-        known_index,
+        hint,
     } = &table;
-    let fields: (&Chain, &u64, &u64) = (chain, time, end);
-    assert_eq!(rt; (fields.0.len(), *fields.1, *fields.2), (1, 0, 4));
-    let known: (&u64, &u32, &u32) = (known_end, known_node, known_index);
-    assert_eq!(rt; (*known.0, *known.1, *known.2), (0, 0, 0));
+    let fields: (&Chain, &u64, &u64, &u32) = (chain, time, end, hint);
+    assert_eq!(rt;
+        (fields.0.len(), *fields.1, *fields.2, *fields.3),
+        (1, 0, 4, 0)
+    );
     Ok(())
 }

@@ -6,6 +6,7 @@ ghost use Rattle.interval_row.specs.Changes.{after_pass, appended, cut, shifted,
 ghost use Rattle.interval_row.specs.Rows.{AreRows};
 
 use crate::rows;
+use node_chain::front;
 use slot_core::Span;
 
 /// Takes the first slot from the first row, and returns where the rows begin afterwards: a row that
@@ -64,36 +65,9 @@ pub fn split(rows: &mut Vec<Span>, head: usize, at: u64) -> usize
     if row.end == at {
         return head;
     }
-    let head = insert(rows, head, place, row);
+    let head = front::insert(rows, head, place, row);
     rows::halve(&mut rows.as_mut_slice()[head..], place, at);
     head
-}
-
-/// Puts the row in at this place of the rows from `head` on, and returns where they begin
-/// afterwards. Where there is a free place before them, the rows before it move there, else the
-/// others move back.
-fn insert(rows: &mut Vec<Span>, head: usize, place: usize, row: Span) -> usize
-    requires within { head + place ≤ vec_len rows.old }
-    requires free { vec_len rows.old < head + vec_capacity rows.old }
-    ensures rows { drop result rows.new.items ≡ insert (drop head rows.old.items) place row }
-    ensures room { vec_capacity rows.old ≤ vec_capacity rows.new }
-{
-    if head == 0 {
-        let _inserted = rows.insert(place, row);
-        return 0;
-    }
-    shift(&mut rows.as_mut_slice()[head - 1..head + place], row);
-    head - 1
-}
-
-/// Drops the first row, and puts this one last.
-fn shift(rows: &mut [Span], row: Span)
-    requires { 1 ≤ length rows.old }
-    ensures { rows.new ≡ drop 1 rows.old ++ row ∷ [] }
-{
-    rows.rotate_left(1);
-    let last = rows.len() - 1;
-    rows[last] = row;
 }
 
 /// Appends the spans to the rows from `head` on, shifted to the last end, and returns where the
@@ -112,19 +86,9 @@ pub fn extend(rows: &mut Vec<Span>, head: usize, spans: &[Span]) -> usize
         append(rows, spans);
         return head;
     }
-    drop_front(rows, head);
+    front::drop_front(rows, head);
     append(rows, spans);
     0
-}
-
-/// Drops the rows before `head`.
-fn drop_front(rows: &mut Vec<Span>, head: usize)
-    requires { head ≤ vec_len rows.old }
-    ensures rows { rows.new.items ≡ drop head rows.old.items }
-    ensures room { vec_capacity rows.old ≤ vec_capacity rows.new }
-{
-    rows.rotate_left(head);
-    rows.truncate(rows.len() - head);
 }
 
 /// Appends the spans, shifted to the last end.

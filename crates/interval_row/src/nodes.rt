@@ -2,38 +2,37 @@
 
 ghost use Rattle.std.specs.Prelude.{◌≡◌, ◌+◌, ◌*◌, ◌≤◌, ◌<◌, ◌^◌, length, IsSome, IsSomeAnd, Some, pos, neg_ℤ, ◌-◌, ◌+ℤ◌, ◌-ℤ◌, ◌≤ℤ◌};
 ghost use Rattle.spare_capacity.specs.Recurrence.{filled, first_start, last_end};
-ghost use Rattle.node_chain.specs.Chains.{id_at, span_at};
-ghost use Rattle.interval_row.specs.ChainTables.{spans_of, Knows};
+ghost use Rattle.node_chain.specs.Chains.{span_at};
+ghost use Rattle.interval_row.specs.ChainTables.{spans_of};
 ghost use Rattle.interval_row.specs.Changes.{after_pass, appended, cut, ends_before, span_ending, with_less, with_more};
 ghost use Rattle.interval_row.specs.Rows.{place_of, AreRows, HoldsInside};
 
-use crate::walk::{Known, Place, find, find_known, first, one_fewer, set_work};
+use crate::walk::{Place, find, find_hinted, set_work};
 use crate::{live, rows, spares};
 use node_chain::Chain;
 use slot_core::{Span, Steps};
 use std::sync::ledger::Ledger;
 
-/// Takes the first slot from the first span, which goes where that was its last, and returns what
-/// is still known. At most three steps.
-pub fn pass<L: Ledger>(chain: &mut Chain, known: Known, steps: &mut Steps<L>) -> Known
-    requires known { Knows chain.old.pairs known }
+/// Takes the first slot from the first span, which goes where that was its last. Returns the hint,
+/// and one less where the span went. At most three steps.
+pub fn pass<L: Ledger>(chain: &mut Chain, hint: u32, steps: &mut Steps<L>) -> u32
     requires rows { AreRows (spans_of chain.old.pairs) }
     requires goes_on { first_start (spans_of chain.old.pairs) + 1
         < last_end 0 (spans_of chain.old.pairs) }
     ensures spans { spans_of chain.new.pairs ≡ filled (after_pass (spans_of chain.old.pairs)) }
-    ensures known { Knows chain.new.pairs result }
+    ensures hint { result ≡ hint - (length chain.old.pairs - length chain.new.pairs) }
     ensures capacity { chain.new.capacity ≡ chain.old.capacity }
     ensures steps { steps.old ≤ steps.new }
     ensures few_steps { steps.new ≤ steps.old + 3 }
 {
-    let id = first(chain);
+    let id = chain.at(0);
     let row = chain.get(id, steps);
     if row.start + 1 == row.end {
         let _passed = chain.pop_front(steps);
-        return one_fewer(known);
+        return hint.saturating_sub(1);
     }
     chain.set(id, later_start(row), steps);
-    known
+    hint
 }
 
 /// The span without its first slot.
@@ -48,66 +47,56 @@ fn later_start(row: Span) -> Span
     }
 }
 
-/// More slots of work for the span that ends there, which is found by what is known, or by a walk.
-/// What is known afterwards is returned.
+/// More slots of work for the span that ends there, which is looked for at the hint first. Returns
+/// how many spans stand before it.
 pub fn charge<L: Ledger>(
     chain: &mut Chain,
-    known: Known,
+    hint: u32,
     deadline: u64,
     slots: u32,
     steps: &mut Steps<L>,
-) -> Known
-    requires known { Knows chain.old.pairs known }
+) -> u32
     requires rows { AreRows (spans_of chain.old.pairs) }
     requires due { IsSomeAnd (span_ending deadline (spans_of chain.old.pairs))
         (λ s. s.work + slots ≤ 2 ^ 40) }
     ensures spans { spans_of chain.new.pairs
         ≡ filled (with_more deadline slots (spans_of chain.old.pairs)) }
-    ensures known { Knows chain.new.pairs result }
+    ensures place { result ≡ place_of deadline (spans_of chain.old.pairs) }
     ensures capacity { chain.new.capacity ≡ chain.old.capacity }
     ensures steps { steps.old ≤ steps.new }
     ensures few_steps { steps.new ≤ steps.old
         + 3 * ends_before deadline (spans_of chain.old.pairs) + 3 }
 {
-    let place = find_known(chain, known, deadline, steps);
+    let place = find_hinted(chain, hint, deadline, steps);
     let row = charged(place.row, slots);
     set_work(chain, place, row, steps);
-    Known {
-        end: deadline,
-        id: place.id,
-        index: place.index,
-    }
+    place.index
 }
 
-/// Fewer slots of work for the span that ends there, which is found by what is known, or by a walk.
-/// What is known afterwards is returned.
+/// Fewer slots of work for the span that ends there, which is looked for at the hint first. Returns
+/// how many spans stand before it.
 pub fn give_back<L: Ledger>(
     chain: &mut Chain,
-    known: Known,
+    hint: u32,
     deadline: u64,
     slots: u32,
     steps: &mut Steps<L>,
-) -> Known
-    requires known { Knows chain.old.pairs known }
+) -> u32
     requires rows { AreRows (spans_of chain.old.pairs) }
     requires due { IsSomeAnd (span_ending deadline (spans_of chain.old.pairs))
         (λ s. slots ≤ s.work) }
     ensures spans { spans_of chain.new.pairs
         ≡ filled (with_less deadline slots (spans_of chain.old.pairs)) }
-    ensures known { Knows chain.new.pairs result }
+    ensures place { result ≡ place_of deadline (spans_of chain.old.pairs) }
     ensures capacity { chain.new.capacity ≡ chain.old.capacity }
     ensures steps { steps.old ≤ steps.new }
     ensures few_steps { steps.new ≤ steps.old
         + 3 * ends_before deadline (spans_of chain.old.pairs) + 3 }
 {
-    let place = find_known(chain, known, deadline, steps);
+    let place = find_hinted(chain, hint, deadline, steps);
     let row = relieved(place.row, slots);
     set_work(chain, place, row, steps);
-    Known {
-        end: deadline,
-        id: place.id,
-        index: place.index,
-    }
+    place.index
 }
 
 /// The span with more work, and so many slots less to spare.
@@ -136,8 +125,8 @@ fn relieved(row: Span, slots: u32) -> Span
     }
 }
 
-/// Makes `at` the end of a span.
-pub fn split<L: Ledger>(chain: &mut Chain, at: u64, steps: &mut Steps<L>)
+/// Makes `at` the end of a span. Returns how many spans stand before it.
+pub fn split<L: Ledger>(chain: &mut Chain, at: u64, steps: &mut Steps<L>) -> u32
     requires rows { AreRows (spans_of chain.old.pairs) }
     requires free { length chain.old.pairs < chain.old.capacity }
     requires after { first_start (spans_of chain.old.pairs) < at }
@@ -145,6 +134,7 @@ pub fn split<L: Ledger>(chain: &mut Chain, at: u64, steps: &mut Steps<L>)
     ensures spans { spans_of chain.new.pairs ≡ filled (cut at (spans_of chain.old.pairs)) }
     ensures nothing { IsSome (span_ending at (spans_of chain.old.pairs))
         → chain.new.pairs ≡ chain.old.pairs }
+    ensures place { result ≡ place_of at (spans_of chain.old.pairs) }
     ensures capacity { chain.new.capacity ≡ chain.old.capacity }
     ensures steps { steps.old ≤ steps.new }
     ensures few_steps { steps.new ≤ steps.old
@@ -154,6 +144,7 @@ pub fn split<L: Ledger>(chain: &mut Chain, at: u64, steps: &mut Steps<L>)
     if place.row.end != at {
         halve(chain, place, at, steps);
     }
+    place.index
 }
 
 /// The span at a place becomes two at `at`, with their capacities. Four steps.
@@ -161,18 +152,18 @@ fn halve<L: Ledger>(chain: &mut Chain, place: Place, at: u64, steps: &mut Steps<
     requires rows { AreRows (spans_of chain.old.pairs) }
     requires free { length chain.old.pairs < chain.old.capacity }
     requires found { place.index ≡ place_of at (spans_of chain.old.pairs) }
-    requires id { id_at chain.old.pairs place.index ≡ Some place.id }
     requires row { span_at chain.old.pairs place.index ≡ Some place.row }
     requires inside { HoldsInside at place.index (spans_of chain.old.pairs) }
     ensures spans { spans_of chain.new.pairs ≡ filled (cut at (spans_of chain.old.pairs)) }
     ensures capacity { chain.new.capacity ≡ chain.old.capacity }
     ensures steps { steps.new ≡ steps.old + 4 }
 {
+    let id = chain.at(place.index);
     let row = place.row;
     let second = spares::lowered(rows::part_from(row, at), at - row.start);
     let first = spares::refilled(rows::part_before(row, at), second);
-    let _first = chain.insert_before(place.id, first, steps);
-    chain.set(place.id, second, steps);
+    let _first = chain.insert_before(id, first, steps);
+    chain.set(id, second, steps);
 }
 
 /// Appends the spans, so many slots later. Two steps each.

@@ -32,7 +32,7 @@ impl Model for RowTable {
 
 impl SpareTable for RowTable {
     ghost use Rattle.std.specs.Prelude.{false};
-    ghost use Rattle.interval_row.specs.RowTables.{numbered};
+    ghost use Rattle.interval_row.specs.Tables.{numbered};
     ghost use Rattle.spare_capacity.specs.Recurrence.{first_start};
 
     ghost time = { λ t. first_start t.spans };

@@ -1,6 +1,7 @@
 pub mod Blocks
 pub mod Counts
 pub mod Fresh
+pub mod Fronts
 pub mod Full
 pub mod Inserts
 pub mod Joins
@@ -8,6 +9,7 @@ pub mod Kept
 pub mod Layouts
 pub mod Lending
 pub mod NodeWords
+pub mod Orders
 pub mod Pairs
 pub mod Parts
 pub mod Rings

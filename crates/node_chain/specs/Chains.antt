@@ -22,7 +22,7 @@ span_at pairs i = slice_get (map (λ (p : NodeId × Span). p.1) pairs) i
 abbrev pub IsListed : List (NodeId × Span) → NodeId → Type 0
 IsListed pairs id = (i : ℕ) × (id_at pairs i ≡ Some id)
 
--- a chain: each id once, and no more spans than it has room for
+-- a chain: each id once, room for 1 to 2 ^ 20 spans, and no more spans than that
 pub record IsChain (pairs : List (NodeId × Span)) (capacity : ℕ) : Type 0 where
   pub distinct :
       (id : NodeId) (i j : ℕ) → id_at pairs i ≡ Some id → id_at pairs j ≡ Some id → i ≡ j

@@ -1,6 +1,7 @@
 pub mod Chains
 pub mod Links
 pub mod Nodes
+pub mod Orders
 pub mod Ownership
 pub mod Raw
 pub mod Words

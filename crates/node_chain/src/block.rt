@@ -2,10 +2,10 @@
 
 ghost use Rattle.std.specs.Prelude.{◌≡◌, ◌+◌, ◌*◌, ◌≤◌, ◌<◌, ◌^◌, List, length, IfOk, slice_set};
 ghost use Rattle.node_chain.specs.Nodes.{node_at, unused};
-ghost use Rattle.node_chain.specs.Links.{with_span};
+ghost use Rattle.node_chain.specs.Links.{span_of, with_span};
 ghost use Rattle.node_chain.specs.Words.{links_word, span_place, span_in, span_words, with_span_words};
 
-use crate::words::Words;
+use crate::words::WordRow;
 use slot_core::{Memory, Span};
 use std::alloc::Global;
 use std::marker::Model;
@@ -31,10 +31,10 @@ pub struct Node {
 }
 
 /// Nodes in words that are taken once. The links of all nodes stand side by side, a word for each
-/// node, so that a walk from link to link stays in little memory. Their spans follow.
+/// node, and their spans follow.
 #[derive(Drop)]
 pub struct Block {
-    words: Words,
+    words: WordRow,
     count: u32,
 }
 
@@ -56,7 +56,7 @@ impl Block {
         requires { count ≤ 2 ^ 20 + 1 }
         ensures { IfOk result (λ made. made ≡ unused count) }
     {
-        let mut words = Words::new(alloc, NODE_WORDS * count as usize)?;
+        let mut words = WordRow::new(alloc, NODE_WORDS * count as usize)?;
         for place in 0..count {
             words.put(place as usize, links_word(place + 1, 0));
         }
@@ -94,13 +94,22 @@ impl Block {
         self.words.put(place as usize, links);
     }
 
-    /// Puts a span at a place. The links there are not written, so that a walk that changes spans
-    /// need not wait for them.
+    /// Puts a span at a place. The links there are not written.
     pub(crate) fn set_span(&mut self, place: u32, span: Span)
         requires { place < length self.old }
         ensures { self.new ≡ with_span place span self.old }
     {
         put_span(&mut self.words, span_place(self.count, place), span);
+    }
+
+    /// Gives the span at a place another spare capacity. Nothing else is written there.
+    pub(crate) fn set_spare(&mut self, place: u32, spare: i64)
+        requires { place < length self.old }
+        ensures { self.new
+            ≡ with_span place (record (span_of self.old place) { spare = spare }) self.old }
+    {
+        let last = span_place(self.count, place) + SPAN_WORDS - 1;
+        self.words.put(last, spare.cast_unsigned());
     }
 }
 
@@ -119,7 +128,7 @@ fn span_place(count: u32, place: u32) -> usize
 }
 
 /// The span whose words begin at a place.
-fn span_in(words: &Words, first: usize) -> Span
+fn span_in(words: &WordRow, first: usize) -> Span
     requires words { first + span_words ≤ length words.now }
     requires small { first ≤ 2 ^ 23 }
     ensures { result ≡ span_in words.now first }
@@ -133,7 +142,7 @@ fn span_in(words: &Words, first: usize) -> Span
 }
 
 /// Puts the words of a span from a place on.
-fn put_span(words: &mut Words, first: usize, span: Span)
+fn put_span(words: &mut WordRow, first: usize, span: Span)
     requires words { first + span_words ≤ length words.old }
     requires small { first ≤ 2 ^ 23 }
     ensures { words.new ≡ with_span_words first span words.old }

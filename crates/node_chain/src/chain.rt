@@ -1,10 +1,12 @@
 //! The chain.
 
-ghost use Rattle.std.specs.Prelude.{◌≡◌, ℕ, ◌+◌, ◌≤◌, ◌<◌, ◌^◌, [], ◌∷◌, ◌++◌, drop, insert, length, Some, None, IfOk, slice_set};
+ghost use Rattle.std.specs.Prelude.{◌≡◌, ℕ, ◌+◌, ◌≤◌, ◌<◌, ◌^◌, [], ◌∷◌, ◌++◌, drop, insert, length, Some, None, IfOk, slice_get, slice_set};
+ghost use Rattle.slot_core.specs.declared.jobs.Span.{Span};
 ghost use Rattle.node_chain.specs.Chains.{id_at, id_of, span_at, IsChain, IsListed};
 
 use crate::block::Block;
 use crate::links::{ENDS, join, part, set_next};
+use crate::order::Order;
 use slot_core::{Memory, Span, Steps};
 use std::alloc::Global;
 use std::marker::Model;
@@ -14,11 +16,18 @@ use std::sync::ledger::Ledger;
 #[derive(Clone, Copy, PartialEq, Eq, Debug)]
 pub struct NodeId(pub u32);
 
-/// Spans in order, each with an id of its own. Their memory is taken once, and given back when the
-/// chain is dropped.
+/// Spans in order, each with an id of its own. All memory is taken when the chain is made, and
+/// given back when it is dropped.
+///
+/// Beside the nodes it keeps their ids in order, so that a span is found by how many stand before
+/// it. A step is a node that is read or written. Ids are not counted: an insertion looks through
+/// those up to its place, and moves those before it by one place of 4 bytes, or those behind it
+/// where none is free in front. An append moves all of them to the front of their places where none
+/// is free behind.
 #[derive(Drop)]
 pub struct Chain {
     block: Block,
+    ids: Order,
     /// The first unused place, where there is one.
     free: u32,
     len: u32,
@@ -28,6 +37,7 @@ impl Model for Chain {
     ghost use Rattle.std.specs.Prelude.{◌-◌, length};
     ghost use Rattle.node_chain.specs.Chains.{Chained, pairs_of};
     ghost use Rattle.node_chain.specs.Links.{order, IsLinked};
+    ghost use Rattle.node_chain.specs.Orders.{KeepsOrder};
 
     ghost Value = { Chained };
 
@@ -36,11 +46,12 @@ impl Model for Chain {
       capacity = length c.block - 1;
     } };
 
-    ghost invariant = { λ c. IsLinked c.block c.free c.len };
+    ghost invariant = { λ c. IsLinked c.block c.free c.len
+        × KeepsOrder (pairs_of c.block (order c.block c.len)) (length c.block - 1) c.ids };
 }
 
 impl Chain {
-    /// An empty chain with room for `n` spans, of about 40 bytes each.
+    /// An empty chain with room for `n` spans, of about 44 bytes each.
     pub fn with_capacity(alloc: Global, n: u32) -> Result<Chain, Memory>
         requires some { 1 ≤ n }
         requires small { n ≤ 2 ^ 20 }
@@ -51,12 +62,13 @@ impl Chain {
         set_next(&mut block, ENDS, ENDS);
         Ok(Chain {
             block,
+            ids: Order::with_capacity(alloc, n)?,
             free: 1,
             len: 0,
         })
     }
 
-    /// Tells what every chain is.
+    /// Does nothing. Its clause tells what every chain is.
     pub fn audit(&self)
         ensures { IsChain self.now.pairs self.now.capacity }
     {
@@ -75,6 +87,14 @@ impl Chain {
         ensures { result ≡ self.now.capacity }
     {
         self.block.count() - 1
+    }
+
+    /// The id of the span with so many before it.
+    pub fn at(&self, index: u32) -> NodeId
+        requires { index < length self.now.pairs }
+        ensures { id_at self.now.pairs index ≡ Some result }
+    {
+        self.ids.at(index)
     }
 
     /// The id of the first span. None exactly where there is none.
@@ -138,8 +158,22 @@ impl Chain {
         self.block.set_span(place, span);
     }
 
+    /// Gives the span of this id another spare capacity. One step.
+    pub fn set_spare<L: Ledger>(&mut self, id: NodeId, spare: i64, steps: &mut Steps<L>)
+        requires { IsListed self.old.pairs id }
+        ensures span { (i : ℕ) (s : Span) → id_at self.old.pairs i ≡ Some id
+            → span_at self.old.pairs i ≡ Some s
+            → self.new.pairs ≡ slice_set self.old.pairs i (id, record s { spare = spare }) }
+        ensures capacity { self.new.capacity ≡ self.old.capacity }
+        ensures one_step { steps.new ≡ steps.old + 1 }
+    {
+        let NodeId(place) = id;
+        steps.tick();
+        self.block.set_spare(place, spare);
+    }
+
     /// Inserts a span before the one of this id, and returns its id, which no span in the chain
-    /// has. Three steps.
+    /// had. Three steps.
     pub fn insert_before<L: Ledger>(
         &mut self,
         id: NodeId,
@@ -154,15 +188,17 @@ impl Chain {
         ensures capacity { self.new.capacity ≡ self.old.capacity }
         ensures three_steps { steps.new ≡ steps.old + 3 }
     {
+        let index = self.ids.index_of(id);
         let NodeId(after) = id;
         steps.tick();
         let place = self.free;
         self.free = join(&mut self.block, place, after, span, steps);
+        self.ids.insert(index, NodeId(place));
         self.len += 1;
         NodeId(place)
     }
 
-    /// Appends a span, and returns its id, which no span in the chain has. Two steps.
+    /// Appends a span, and returns its id, which no span in the chain had. Two steps.
     pub fn push_back<L: Ledger>(&mut self, span: Span, steps: &mut Steps<L>) -> NodeId
         requires { length self.old.pairs < self.old.capacity }
         ensures span { self.new.pairs ≡ self.old.pairs ++ (result, span) ∷ [] }
@@ -172,6 +208,7 @@ impl Chain {
     {
         let place = self.free;
         self.free = join(&mut self.block, place, ENDS, span, steps);
+        self.ids.push(NodeId(place));
         self.len += 1;
         NodeId(place)
     }
@@ -186,6 +223,7 @@ impl Chain {
     {
         let place = self.block.node(ENDS).next;
         let node = part(&mut self.block, self.free, steps);
+        self.ids.pop_front();
         self.free = place;
         self.len -= 1;
         node.span

@@ -1,15 +1,18 @@
 //! A chain of spans in one block of raw memory.
 //!
-//! The nodes of the block are linked both ways by their places, and so are the unused ones in front
-//! of the others. Place 0 holds no span: it stands before the first node and after the last, so
+//! The nodes of the chain are linked both ways by their places in the block, and each unused node
+//! names the next. Place 0 holds no span: it stands before the first node and after the last, so
 //! that the ends need no case of their own. The block has the links of all nodes side by side, then
-//! their spans. Four functions of `raw` hold pointers; all else is plain code over a row of words
-//! and a list of nodes.
+//! their spans. Beside the block a chain keeps the ids of its spans in order, so that a span is
+//! found by how many stand before it, without a walk. Four functions of `raw` hold pointers; all
+//! else is plain code over a row of words, a list of nodes and a list of ids.
 #![tactic(auto)]
 
 mod block;
 pub mod chain;
+pub mod front;
 mod links;
+mod order;
 mod raw;
 #[cfg(test)]
 mod tests;

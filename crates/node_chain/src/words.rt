@@ -8,8 +8,8 @@ use slot_core::Memory;
 use std::alloc::Global;
 use std::marker::Model;
 
-/// Words side by side in memory that is taken once and given back when they are dropped.
-pub struct Words {
+/// Words side by side in memory that is taken once, and given back when the row is dropped.
+pub struct WordRow {
     origin: Origin<u64>,
     count: usize,
     places: Places<u64>,
@@ -17,7 +17,7 @@ pub struct Words {
     alloc: Global,
 }
 
-impl Model for Words {
+impl Model for WordRow {
     ghost use Rattle.std.specs.Prelude.{◌≡◌, ℕ, List};
     ghost use Rattle.node_chain.specs.Raw.{values, IsFull};
 
@@ -30,9 +30,9 @@ impl Model for Words {
         × IsFull w.places.held w.count };
 }
 
-impl Drop for Words {
+impl Drop for WordRow {
     fn drop(self) {
-        let Words {
+        let WordRow {
             origin,
             count,
             places,
@@ -43,9 +43,9 @@ impl Drop for Words {
     }
 }
 
-impl Words {
+impl WordRow {
     /// So many words, each of them 0.
-    pub(crate) fn new(alloc: Global, count: usize) -> Result<Words, Memory>
+    pub(crate) fn new(alloc: Global, count: usize) -> Result<WordRow, Memory>
         requires { count ≤ 2 ^ 23 }
         ensures { IfOk result (λ made. made ≡ replicate count 0) }
     {
@@ -53,7 +53,7 @@ impl Words {
         for place in 0..count {
             places.put(origin, place, 0);
         }
-        Ok(Words {
+        Ok(WordRow {
             origin,
             count,
             places,

@@ -1,13 +1,12 @@
-use Rattle.std.proofs.Common.{◌≡◌, ◌+◌, ◌≤◌, ◌<◌, ◌^◌, ◌∙◌, length, ap, sym, add-one, arith}
-use Rattle.spare_capacity.specs.Recurrence.{first_start, last_end}
+use Rattle.std.proofs.Common.{◌≡◌, ◌+◌, ◌≤◌, ◌^◌, ◌∙◌, length, ap, sym, add-one, arith}
+use Rattle.spare_capacity.specs.Recurrence.{last_end}
 use Rattle.interval_row.specs.Changes.{appended, copies_of}
 use Rattle.interval_row.specs.ChainTables.{spans_of, AreInChain}
 use Rattle.interval_row.proofs.Cycles.{AreCopies-copies_of, copies_fit, last_end-le}
 use Rattle.interval_row.proofs.Ends.{last_end-appended}
-use Rattle.interval_row.proofs.Ids.{length-spans_of, spans_of_pairs-spotted}
-use Rattle.interval_row.proofs.Known.{Knows-nothing}
+use Rattle.interval_row.proofs.Ids.{length-spans_of}
+use Rattle.interval_row.proofs.Spots.{spans_of_pairs-numbered}
 use Rattle.interval_row.proofs.InChains.{AreInChain-copies_of, IsTable-AreInChain}
-use Rattle.interval_row.proofs.Kept.{AreRows-ArePlanSpans}
 use Rattle.interval_row.proofs.chain_table.filled_table.Given.{Over}
 use Rattle.interval_row.proofs.chain_table.filled_table.Goals as goal
 use Rattle.interval_row.proofs.chain_table.filled_table.Goals.{In_ok-chain, After-audit}
@@ -64,7 +63,7 @@ kept g c =
     AreInChain-copies_of c.args.spans.now c.loop-copy.chain.pairs c.args.copies c.loop-copy.chain.capacity c.loop-copy.end c.requires.plan c.requires.some (rw c.loop-copy.invariant.capacity c.requires.fits) c.audit.ensures (made g c) (c.loop-copy.invariant.end ∙ ap (λ n. last_end 0 (copies_of c.args.spans.now n)) all)
 
 pub invariant_of-result : goal.invariant_of-result
-invariant_of-result g c = (kept g c, Knows-nothing c.loop-copy.chain.pairs (record { 0 = 0 }) 0)
+invariant_of-result g c = kept g c
 
 pub returns-clause-table : goal.returns-clause-table
 returns-clause-table g c = IsTable-AreInChain c.loop-copy.chain.pairs c.loop-copy.chain.capacity 0 c.loop-copy.end (kept g (goal.at.returns-clause-table g c).After-audit)
@@ -73,4 +72,4 @@ pub returns-clause-time : goal.returns-clause-time
 returns-clause-time g c = sym (kept g (goal.at.returns-clause-time g c).After-audit).starts
 
 pub returns-clause-spans : goal.returns-clause-spans
-returns-clause-spans g c = spans_of_pairs-spotted c.loop-copy.chain.pairs ∙ made g (goal.at.returns-clause-spans g c).After-audit
+returns-clause-spans g c = spans_of_pairs-numbered 0 (spans_of c.loop-copy.chain.pairs) ∙ made g (goal.at.returns-clause-spans g c).After-audit

@@ -4,7 +4,7 @@ use Rattle.slot_core.specs.declared.jobs.Span.{Span}
 use Rattle.interval_row.specs.declared.table.Spot.{Spot}
 use Rattle.spare_capacity.specs.Recurrence.{FollowOn, last_end}
 use Rattle.interval_row.specs.Tables.{IsLive, spot_at}
-use Rattle.interval_row.specs.RowTables.{numbered}
+use Rattle.interval_row.specs.Tables.{numbered}
 use Rattle.interval_row.proofs.drawn_calls.expect_filled.Goals as goal
 use Rattle.interval_row.proofs.drawn_calls.expect_filled.Goals.{in-Some+else-not-goes_on+in_ok-push+in_ok-push-2, in_default}
 

@@ -1,7 +1,7 @@
 use Rattle.std.proofs.Common.{◌≡◌, ◌≤◌, MatchOption, length}
 use Rattle.spare_capacity.specs.Recurrence.{FollowOn, last_end}
 use Rattle.interval_row.specs.Tables.{IsLive}
-use Rattle.interval_row.specs.RowTables.{numbered}
+use Rattle.interval_row.specs.Tables.{numbered}
 use Rattle.interval_row.proofs.drawn_calls.expect_filled.Given as goal
 
 -- the rows so far are consecutive up to the end, and the next spot, where there is one, stands in

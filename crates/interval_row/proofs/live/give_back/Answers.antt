@@ -1,7 +1,7 @@
 use Rattle.std.proofs.Common.{◌≤◌, sym, subst, IsSomeAnd}
 use Rattle.slot_core.specs.declared.jobs.Span.{Span}
 use Rattle.interval_row.specs.Changes.{span_ending}
-use Rattle.interval_row.proofs.Inserts.{slice_from}
+use Rattle.node_chain.proofs.Fronts.{slice_from}
 use Rattle.interval_row.proofs.live.give_back.Goals as goal
 
 pub give_back-requires-clause-due : goal.give_back-requires-clause-due

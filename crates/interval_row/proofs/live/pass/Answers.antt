@@ -2,7 +2,7 @@ use Rattle.std.proofs.Common.{◌≡◌, ◌∙◌, ◌-◌, ap, refl, length, a
 use Rattle.spare_capacity.specs.Recurrence.{filled}
 use Rattle.std.proofs.lemmas.List.{length-drop}
 use Rattle.interval_row.specs.Changes.{after_pass}
-use Rattle.interval_row.proofs.Inserts.{slice_from, written_after}
+use Rattle.node_chain.proofs.Fronts.{slice_from, written_after}
 use Rattle.interval_row.proofs.live.pass.Goals as goal
 
 pub returns-then-ended-clause-rows : goal.returns-then-ended-clause-rows

@@ -7,7 +7,8 @@ use Rattle.interval_row.specs.Changes.{cut}
 use Rattle.interval_row.specs.Rows.{place_of, AreRows, HoldsInside}
 use Rattle.interval_row.proofs.Cuts.{cut-same, place_of-within, HoldsInside-place_of}
 use Rattle.interval_row.proofs.Cycles.{last_end-some}
-use Rattle.interval_row.proofs.Inserts.{slice_from, remove-insert, length-insert_row, written_from}
+use Rattle.node_chain.proofs.Fronts.{slice_from, written_from}
+use Rattle.interval_row.proofs.Inserts.{remove-insert, length-insert_row}
 use Rattle.interval_row.proofs.live.split.Goals as goal
 use Rattle.interval_row.proofs.live.split.Goals.{After-place_of-place, After-index-row, After-as_mut_slice}
 
@@ -53,7 +54,7 @@ insert-head-requires-clause-within c = omega (arith, placed (goal.at.insert-head
 
 -- the rows with the place that was made
 opened_slice : (c : After-as_mut_slice) → take (length c.as_mut_slice.result.now - c.insert-head.result) (drop c.insert-head.result c.as_mut_slice.result.now) ≡ insert (drop c.args.head c.args.rows.now.items) c.place_of-place.result c.index-row.result.now
-opened_slice c = slice_from c.as_mut_slice.result.now c.insert-head.new.rows.items c.insert-head.result c.as_mut_slice.ensures.value ∙ c.insert-head.ensures.rows
+opened_slice c = slice_from c.as_mut_slice.result.now c.insert-head.new.items.items c.insert-head.result c.as_mut_slice.ensures.value ∙ c.insert-head.ensures.items
 
 pub halve-requires-clause-within : goal.halve-requires-clause-within
 halve-requires-clause-within c =
@@ -92,10 +93,10 @@ returns-clause-rows c =
     let at = goal.at.returns-clause-rows c in
     let here = within at.After-place_of-place in
     let rows = drop c.args.head c.args.rows.now.items in
-    let items = c.insert-head.new.rows.items in
+    let items = c.insert-head.new.items.items in
     let head = c.insert-head.result in
     let slice = slice_from c.as_mut_slice.result.now items head c.as_mut_slice.ensures.value in
     let long : length c.halve.new.rows ≡ length items - head = c.halve.auto.rows ∙ ap length slice ∙ length-drop head items in
-    let some : head ≤ length items = omega (arith, ap length c.insert-head.ensures.rows, length-drop head items, length-insert_row rows c.place_of-place.result c.index-row.result.now (omega (arith, here))) in
-    let written = written_from items c.halve.new.rows head c.insert-head.new.rows.len (length items - head) c.insert-head.new.rows.ok.0 some refl long in
+    let some : head ≤ length items = omega (arith, ap length c.insert-head.ensures.items, length-drop head items, length-insert_row rows c.place_of-place.result c.index-row.result.now (omega (arith, here))) in
+    let written = written_from items c.halve.new.rows head c.insert-head.new.items.len (length items - head) c.insert-head.new.items.ok.0 some refl long in
     rw c.as_mut_slice.ensures.value (written ∙ (c.halve.ensures ∙ ap (λ xs. filled (cut c.args.at xs)) (rest at.After-as_mut_slice here)))

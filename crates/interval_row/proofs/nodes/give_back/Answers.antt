@@ -1,59 +1,57 @@
-use Rattle.std.proofs.Common.{slice_get, ◌≡◌, ◌+◌, ◌-◌, ◌≤◌, ◌<◌, ◌^◌, ◌∙◌, length, get_or, drop, ap, sym, subst, arith}
+use Rattle.std.proofs.Common.{◌≡◌, ◌+◌, ◌-◌, ◌≤◌, ◌∙◌, get_or, drop, ap, sym, subst, arith}
 use Rattle.std.proofs.lemmas.Int.{ints}
 use Rattle.slot_core.specs.declared.jobs.Span.{Span}
 use Rattle.spare_capacity.specs.Recurrence.{filled, first_spare, first_start, with_spare}
 use Rattle.spare_capacity.proofs.Steps.{no_row}
 use Rattle.interval_row.specs.ChainTables.{spans_of}
-use Rattle.interval_row.specs.Rows.{place_of, with_work_at}
+use Rattle.interval_row.specs.Rows.{with_work_at}
 use Rattle.interval_row.proofs.Ids.{length-spans_of, row_at}
-use Rattle.interval_row.specs.Changes.{with_less}
-use Rattle.interval_row.proofs.Known.{place_of-filled, place_of-with_work}
 use Rattle.interval_row.proofs.Places.{work-le, IsDueAt, IsDueAt-span_ending}
 use Rattle.interval_row.proofs.WalkBack.{place_of-ends_before, with_spare-less, IsWithin-spare}
 use Rattle.interval_row.proofs.nodes.give_back.Given.{Over}
 use Rattle.interval_row.proofs.nodes.give_back.Goals as goal
-use Rattle.interval_row.proofs.nodes.give_back.Goals.{After-find_known-place}
+use Rattle.interval_row.proofs.nodes.give_back.Goals.{After-find_hinted-place}
 
-pub find_known-place-requires-clause-within : goal.find_known-place-requires-clause-within
-find_known-place-requires-clause-within g c =
+pub find_hinted-place-requires-clause-within : goal.find_hinted-place-requires-clause-within
+find_hinted-place-requires-clause-within g c =
     let rows = spans_of c.args.chain.now.pairs in
     let due = IsDueAt-span_ending (first_start rows) rows c.args.deadline (λ (s : Span). c.args.slots ≤ s.work) c.requires.rows.consecutive c.requires.due in
     omega (arith, due.within, length-spans_of c.args.chain.now.pairs)
 
 -- the row that is due
-due : (g : Over) (c : After-find_known-place g) → IsDueAt c.args.deadline (λ (s : Span). c.args.slots ≤ s.work) (spans_of c.args.chain.now.pairs) c.find_known-place.result.index
+due : (g : Over) (c : After-find_hinted-place g) → IsDueAt c.args.deadline (λ (s : Span). c.args.slots ≤ s.work) (spans_of c.args.chain.now.pairs) c.find_hinted-place.result.index
 due g c =
     let rows = spans_of c.args.chain.now.pairs in
-    subst (IsDueAt c.args.deadline (λ (s : Span). c.args.slots ≤ s.work) rows) (sym c.find_known-place.ensures.index) (IsDueAt-span_ending (first_start rows) rows c.args.deadline (λ (s : Span). c.args.slots ≤ s.work) c.requires.rows.consecutive c.requires.due)
+    subst (IsDueAt c.args.deadline (λ (s : Span). c.args.slots ≤ s.work) rows) (sym c.find_hinted-place.ensures.index) (IsDueAt-span_ending (first_start rows) rows c.args.deadline (λ (s : Span). c.args.slots ≤ s.work) c.requires.rows.consecutive c.requires.due)
 
 -- is the one that was found
-found : (g : Over) (c : After-find_known-place g) → c.find_known-place.result.row ≡ get_or (spans_of c.args.chain.now.pairs) c.find_known-place.result.index no_row
-found g c = row_at c.args.chain.now.pairs c.find_known-place.result.index c.find_known-place.result.row c.find_known-place.ensures.row
+found : (g : Over) (c : After-find_hinted-place g) → c.find_hinted-place.result.row ≡ get_or (spans_of c.args.chain.now.pairs) c.find_hinted-place.result.index no_row
+found g c = row_at c.args.chain.now.pairs c.find_hinted-place.result.index c.find_hinted-place.result.row c.find_hinted-place.ensures.row
 
 pub relieved-row-requires-clause-high : goal.relieved-row-requires-clause-high
 relieved-row-requires-clause-high g c =
-    let after = (goal.at.relieved-row-requires-clause-high g c).After-find_known-place in
+    let after = (goal.at.relieved-row-requires-clause-high g c).After-find_hinted-place in
     let rows = spans_of c.args.chain.now.pairs in
-    let within = IsWithin-spare (first_start rows) rows c.find_known-place.result.index c.requires.rows.consecutive c.requires.rows.filled c.requires.rows.few (due g after).within in
+    let within = IsWithin-spare (first_start rows) rows c.find_hinted-place.result.index c.requires.rows.consecutive c.requires.rows.filled c.requires.rows.few (due g after).within in
     omega (arith, ints, within.high, ap (λ (s : Span). s.spare) (found g after))
 
 pub relieved-row-requires-clause-some : goal.relieved-row-requires-clause-some
 relieved-row-requires-clause-some g c =
-    let after = (goal.at.relieved-row-requires-clause-some g c).After-find_known-place in
+    let after = (goal.at.relieved-row-requires-clause-some g c).After-find_hinted-place in
     omega (arith, (due g after).holds, ap (λ (s : Span). s.work) (found g after))
 
 pub set_work-requires-clause-few : goal.set_work-requires-clause-few
 set_work-requires-clause-few g c =
-    let after = (goal.at.set_work-requires-clause-few g c).After-find_known-place in
+    let after = (goal.at.set_work-requires-clause-few g c).After-find_hinted-place in
     let rows = spans_of c.args.chain.now.pairs in
-    omega (arith, (due g after).holds, work-le (first_start rows) rows c.find_known-place.result.index c.requires.rows.consecutive (due g after).within, ap (λ (s : Span). s.work) (found g after), ap (λ (s : Span). s.work) c.relieved-row.ensures)
+    omega (arith, (due g after).holds, work-le (first_start rows) rows c.find_hinted-place.result.index c.requires.rows.consecutive (due g after).within, ap (λ (s : Span). s.work) (found g after), ap (λ (s : Span). s.work) c.relieved-row.ensures)
 
 pub set_work-requires-clause-spare : goal.set_work-requires-clause-spare
 set_work-requires-clause-spare g c =
-    let after = (goal.at.set_work-requires-clause-spare g c).After-find_known-place in
+    let after = (goal.at.set_work-requires-clause-spare g c).After-find_hinted-place in
     let rows = spans_of c.args.chain.now.pairs in
-    let index = c.find_known-place.result.index in
-    let row = c.find_known-place.result.row in
+    let index = c.find_hinted-place.result.index in
+    let row = c.find_hinted-place.result.row in
     let work : row.work - c.args.slots ≡ c.relieved-row.result.work = sym (ap (λ (s : Span). s.work) c.relieved-row.ensures) in
     c.relieved-row.ensures
     ∙ with_spare-less rows index c.args.slots row c.requires.rows.filled (due g after).within (found g after) (omega (arith, (due g after).holds, ap (λ (s : Span). s.work) (found g after)))
@@ -61,25 +59,12 @@ set_work-requires-clause-spare g c =
 
 pub returns-clause-spans : goal.returns-clause-spans
 returns-clause-spans g c =
-    let after = (goal.at.returns-clause-spans g c).After-find_known-place in
+    let after = (goal.at.returns-clause-spans g c).After-find_hinted-place in
     let rows = spans_of c.args.chain.now.pairs in
-    let index = c.find_known-place.result.index in
+    let index = c.find_hinted-place.result.index in
     let work : c.relieved-row.result.work ≡ (get_or rows index no_row).work - c.args.slots = omega (arith, ap (λ (s : Span). s.work) (found g after), ap (λ (s : Span). s.work) c.relieved-row.ensures) in
     c.set_work.ensures.spans ∙ ap filled (ap (λ n. with_work_at index n rows) work ∙ sym ((due g after).changed (λ work. work - c.args.slots)))
 
 pub returns-clause-few_steps : goal.returns-clause-few_steps
 returns-clause-few_steps g c =
-    omega (arith, c.find_known-place.ensures.few_steps, c.find_known-place.ensures.index, c.set_work.ensures.few_steps, place_of-ends_before c.args.deadline (spans_of c.args.chain.now.pairs))
-
--- no span has moved
-pub returns-clause-known : goal.returns-clause-known
-returns-clause-known g c =
-    let old = c.args.chain.now.pairs in
-    let rows = spans_of old in
-    let deadline = c.args.deadline in
-    let index = c.find_known-place.result.index in
-    let changed = c.set_work.ensures.spans in
-    record {
-      place = λ some. c.find_known-place.ensures.index ∙ sym (ap (place_of deadline) (returns-clause-spans g c) ∙ place_of-filled deadline (with_less deadline c.args.slots rows) ∙ place_of-with_work (λ work. work - c.args.slots) deadline deadline rows);
-      id = λ some. ap (λ ns. slice_get ns index) c.set_work.ensures.ids ∙ c.find_known-place.ensures.id;
-    }
+    omega (arith, c.find_hinted-place.ensures.few_steps, c.find_hinted-place.ensures.index, c.set_work.ensures.few_steps, place_of-ends_before c.args.deadline (spans_of c.args.chain.now.pairs))

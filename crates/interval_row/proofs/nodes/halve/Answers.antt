@@ -1,15 +1,14 @@
-use Rattle.std.proofs.Common.{◌≡◌, ℕ, ◌+◌, ◌-◌, ◌<◌, ◌-ℤ◌, ◌∙◌, suc, pos, length, get_or, set, insert, ap, sym, subst, arith}
+use Rattle.std.proofs.Common.{◌≡◌, ℕ, ◌+◌, ◌-◌, ◌<◌, ◌-ℤ◌, ◌∙◌, suc, pos, length, get_or, set, insert, ap, sym, arith}
 use Rattle.std.proofs.lemmas.Int.{ints}
 use Rattle.slot_core.specs.declared.jobs.Span.{Span}
 use Rattle.spare_capacity.specs.Recurrence.{filled, first_start, with_spare}
 use Rattle.spare_capacity.specs.Refill.{IsShort}
 use Rattle.spare_capacity.proofs.Steps.{no_row}
-use Rattle.node_chain.specs.declared.chain.NodeId.{NodeId}
 use Rattle.node_chain.specs.Chains.{id_at}
 use Rattle.interval_row.specs.Changes.{part_before, part_from}
 use Rattle.interval_row.specs.ChainTables.{spans_of}
 use Rattle.interval_row.proofs.Cuts.{cut-halved}
-use Rattle.interval_row.proofs.Ids.{id_at-insert, id_at-within, length-spans_of, row_at, spans_of-insert, spans_of-set}
+use Rattle.interval_row.proofs.Ids.{id_at-insert, length-spans_of, row_at, span_at-within, spans_of-insert, spans_of-set}
 use Rattle.interval_row.proofs.WalkBack.{halves-filled, HoldsInside-at, IsShort-at, IsWithin, IsWithin-spare}
 use Rattle.interval_row.proofs.nodes.halve.Given.{Over}
 use Rattle.interval_row.proofs.nodes.halve.Goals as goal
@@ -30,7 +29,7 @@ halved g c =
     let pairs = c.args.chain.now.pairs in
     let rows = spans_of pairs in
     let index = c.args.place.index in
-    let l : index < length rows = omega (arith, id_at-within pairs index c.args.place.id c.requires.id, length-spans_of pairs) in
+    let l : index < length rows = omega (arith, span_at-within pairs index c.args.place.row c.requires.row, length-spans_of pairs) in
     let inside = HoldsInside-at c.args.at index rows c.requires.inside in
     rw (row_is g c) (record {
       low = inside.0;
@@ -65,8 +64,8 @@ pub set-requires : goal.set-requires
 set-requires g c =
     let pairs = c.args.chain.now.pairs in
     let index = c.args.place.index in
-    let put = c.insert_before-first.ensures.span index c.requires.id in
-    (index + 1, ap (λ ps. id_at ps (index + 1)) put ∙ id_at-insert pairs index (c.insert_before-first.result, c.refilled-first.result) (id_at-within pairs index c.args.place.id c.requires.id) ∙ c.requires.id)
+    let put = c.insert_before-first.ensures.span index c.at-id.ensures in
+    (index + 1, ap (λ ps. id_at ps (index + 1)) put ∙ id_at-insert pairs index (c.insert_before-first.result, c.refilled-first.result) (span_at-within pairs index c.args.place.row c.requires.row) ∙ c.at-id.ensures)
 
 pub returns-clause-spans : goal.returns-clause-spans
 returns-clause-spans g c =
@@ -77,13 +76,13 @@ returns-clause-spans g c =
     let first = c.refilled-first.result in
     let second = c.lowered-second.result in
     let is = row_is g (goal.at.returns-clause-spans g c).After-part_from in
-    let put = c.insert_before-first.ensures.span index c.requires.id in
-    let listed = ap (λ ps. id_at ps (index + 1)) put ∙ id_at-insert pairs index (c.insert_before-first.result, first) (id_at-within pairs index c.args.place.id c.requires.id) ∙ c.requires.id in
+    let put = c.insert_before-first.ensures.span index c.at-id.ensures in
+    let listed = ap (λ ps. id_at ps (index + 1)) put ∙ id_at-insert pairs index (c.insert_before-first.result, first) (span_at-within pairs index c.args.place.row c.requires.row) ∙ c.at-id.ensures in
     let next : index + 1 ≡ suc index = omega arith in
     let later = c.lowered-second.ensures ∙ ap (λ (s : Span). record s { spare = s.spare -ℤ pos (at - c.args.place.row.start) }) c.part_from.ensures ∙ ap (λ (s : Span). record (part_from at s) { spare = s.spare -ℤ pos (at - s.start) }) is in
     let earlier = c.refilled-first.ensures ∙ ap (λ (s : Span). with_spare s second.spare) c.part_before.ensures ∙ ap (λ (s : Span). with_spare (part_before at s) second.spare) is in
     ap spans_of (c.set.ensures.span (index + 1) listed)
-    ∙ spans_of-set c.insert_before-first.new.self.pairs (index + 1) (c.args.place.id, second)
+    ∙ spans_of-set c.insert_before-first.new.self.pairs (index + 1) (c.at-id.result, second)
     ∙ ap (λ ps. set (spans_of ps) (index + 1) second) put
     ∙ ap (λ xs. set xs (index + 1) second) (spans_of-insert pairs index (c.insert_before-first.result, first))
     ∙ ap (λ k. set (insert rows index first) k second) next

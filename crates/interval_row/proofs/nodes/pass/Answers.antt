@@ -1,12 +1,10 @@
-use Rattle.std.proofs.Common.{◌≡◌, ◌+◌, ◌<◌, ◌-ℤ◌, ◌∙◌, pos, get_or, ap, sym, arith}
+use Rattle.std.proofs.Common.{◌≡◌, ◌+◌, ◌-ℤ◌, ◌∙◌, pos, get_or, ap, sym, arith}
 use Rattle.std.proofs.lemmas.Int.{ints}
 use Rattle.slot_core.specs.declared.jobs.Span.{Span}
 use Rattle.spare_capacity.specs.Recurrence.{first_start}
 use Rattle.spare_capacity.proofs.Steps.{no_row}
-use Rattle.interval_row.specs.ChainTables.{ids_of, spans_of}
+use Rattle.interval_row.specs.ChainTables.{spans_of}
 use Rattle.interval_row.proofs.Ids.{row_at, spans_of-set}
-use Rattle.interval_row.specs.Rows.{place_of}
-use Rattle.interval_row.proofs.Known.{ids_of-set, place_of-set, Knows-popped, Knows-stays}
 use Rattle.interval_row.proofs.WalkBack.{passed-on, IsProper-first, IsWithin-spare}
 use Rattle.interval_row.proofs.nodes.pass.Goals as goal
 
@@ -14,7 +12,7 @@ pub later_start-requires-clause-low : goal.later_start-requires-clause-low
 later_start-requires-clause-low g c =
     let pairs = c.args.chain.now.pairs in
     let rows = spans_of pairs in
-    let row = row_at pairs 0 c.get-row.result (c.get-row.ensures.span 0 c.first-id.ensures) in
+    let row = row_at pairs 0 c.get-row.result (c.get-row.ensures.span 0 c.at-id.ensures) in
     let within = IsWithin-spare (first_start rows) rows 0 c.requires.rows.consecutive c.requires.rows.filled c.requires.rows.few (omega (arith, c.requires.rows.some)) in
     omega (arith, ints, within.low, ap (λ (s : Span). s.spare) row)
 
@@ -22,28 +20,10 @@ pub returns-clause-spans : goal.returns-clause-spans
 returns-clause-spans g c =
     let pairs = c.args.chain.now.pairs in
     let rows = spans_of pairs in
-    let row = row_at pairs 0 c.get-row.result (c.get-row.ensures.span 0 c.first-id.ensures) in
+    let row = row_at pairs 0 c.get-row.result (c.get-row.ensures.span 0 c.at-id.ensures) in
     let low = IsProper-first rows c.requires.rows.proper c.requires.rows.some in
     let more = λ (e : (get_or rows 0 no_row).start + 1 ≡ (get_or rows 0 no_row).end). c.if-row.false (ap (λ (s : Span). s.start + 1) row ∙ e ∙ sym (ap (λ (s : Span). s.end) row)) in
     let put = c.later_start.ensures ∙ ap (λ (s : Span). record s { start = s.start + 1; spare = s.spare -ℤ pos 1 }) row in
-    ap spans_of (c.set.ensures.span 0 c.first-id.ensures)
-    ∙ spans_of-set pairs 0 (c.first-id.result, c.later_start.result)
+    ap spans_of (c.set.ensures.span 0 c.at-id.ensures)
+    ∙ spans_of-set pairs 0 (c.at-id.result, c.later_start.result)
     ∙ passed-on rows c.later_start.result c.requires.rows.filled c.requires.rows.some low more put
-
-pub returns-then-row-clause-known : goal.returns-then-row-clause-known
-returns-then-row-clause-known g c =
-    let known = c.args.known in
-    rw (c.pop_front-passed.ensures.rest, c.one_fewer.ensures) (Knows-popped c.args.chain.now.pairs known.end known.id known.index c.requires.known)
-
-pub returns-clause-known : goal.returns-clause-known
-returns-clause-known g c =
-    let pairs = c.args.chain.now.pairs in
-    let known = c.args.known in
-    let row = row_at pairs 0 c.get-row.result (c.get-row.ensures.span 0 c.first-id.ensures) in
-    let put = c.set.ensures.span 0 c.first-id.ensures in
-    let same = ap (λ (s : Span). s.end) c.later_start.ensures ∙ ap (λ (s : Span). s.end) row in
-    let ids = ap ids_of put ∙ ids_of-set pairs 0 c.first-id.result c.later_start.result c.first-id.ensures in
-    let place = ap (λ ps. place_of known.end (spans_of ps)) put
-    ∙ ap (place_of known.end) (spans_of-set pairs 0 (c.first-id.result, c.later_start.result))
-    ∙ place_of-set known.end (spans_of pairs) 0 c.later_start.result same in
-    Knows-stays pairs c.set.new.self.pairs known ids place c.requires.known

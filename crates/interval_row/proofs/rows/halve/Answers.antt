@@ -4,7 +4,7 @@ use Rattle.spare_capacity.specs.Recurrence.{filled, first_start, AreConsecutive}
 use Rattle.interval_row.specs.Changes.{cut}
 use Rattle.interval_row.proofs.Cuts.{halved, halved-later, written_parts, cut-halved, FollowOn-cut, IsMendedAt-halved}
 use Rattle.interval_row.proofs.Fillings.{AreConsecutive-drop}
-use Rattle.interval_row.proofs.Inserts.{slice_from, put_from}
+use Rattle.node_chain.proofs.Fronts.{slice_from, put_from}
 use Rattle.interval_row.proofs.rows.halve.Goals as goal
 use Rattle.interval_row.proofs.rows.halve.Goals.{After-part_from}
 

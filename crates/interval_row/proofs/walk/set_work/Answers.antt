@@ -1,16 +1,14 @@
-use Rattle.std.proofs.Common.{◌≡◌, ◌+◌, ◌-◌, ◌*◌, ◌≤◌, ◌<◌, ◌^◌, ◌∙◌, ℕ, List, length, get_or, set, drop, ap, sym, arith}
-use Rattle.std.proofs.lemmas.Int.{ints}
+use Rattle.std.proofs.Common.{◌≡◌, ◌+◌, ◌-◌, ◌≤◌, ◌<◌, ◌^◌, ◌∙◌, ℕ, ℤ, List, length, get_or, set, drop, ap, sym, arith, rules, w64, SFits}
+use Rattle.std.proofs.lemmas.Int.{ints, to_z-of_z}
 use Rattle.std.proofs.lemmas.List.{get_or-set_same, length-set}
 use Rattle.slot_core.specs.declared.jobs.Span.{Span}
 use Rattle.spare_capacity.specs.Recurrence.{first_spare, first_start, with_spare, AreConsecutive}
 use Rattle.spare_capacity.specs.Refill.{IsStaleAt}
 use Rattle.spare_capacity.proofs.Steps.{no_row}
-use Rattle.node_chain.specs.Chains.{id_at}
-use Rattle.interval_row.specs.ChainTables.{ids_of, spans_of}
-use Rattle.interval_row.specs.Rows.{with_work_at, AreRows}
+use Rattle.interval_row.specs.ChainTables.{spans_of}
+use Rattle.interval_row.specs.Rows.{with_work_at}
 use Rattle.interval_row.proofs.Fillings.{AreConsecutive-FollowOn}
-use Rattle.interval_row.proofs.Ids.{id_at-set, id_at-within, length-spans_of, row_at, spans_of-set}
-use Rattle.interval_row.proofs.Known.{ids_of-set}
+use Rattle.interval_row.proofs.Ids.{length-spans_of, row_at, span_at-within, spans_of-set}
 use Rattle.interval_row.proofs.WalkBack.{walk-can, walk-first, walk-set, walk-stop, CanRefillAt}
 use Rattle.interval_row.proofs.Works.{length-with_work_at, FollowOn-with_work_at, IsStaleAt-with_work_at}
 use Rattle.interval_row.proofs.walk.set_work.Given.{Over}
@@ -22,16 +20,15 @@ loop-index-init g c =
     let pairs = c.args.chain.now.pairs in
     let rows = spans_of pairs in
     let index = c.args.place.index in
-    let here = id_at-within pairs index c.args.place.id c.requires.id in
+    let here = span_at-within pairs index c.args.place.row c.requires.row in
     let l : index < length rows = omega (arith, here, length-spans_of pairs) in
-    let put = c.set.ensures.span index c.requires.id in
-    let written = ap spans_of put ∙ spans_of-set pairs index (c.args.place.id, c.args.row) in
+    let put = c.set.ensures.span index c.at.ensures in
+    let written = ap spans_of put ∙ spans_of-set pairs index (c.at.result, c.args.row) in
     let row = row_at pairs index c.args.place.row c.requires.row in
     let spare = c.requires.spare ∙ ap (λ (s : Span). with_spare (record s { work = c.args.row.work }) (first_spare (drop (index + 1) rows))) row in
     record {
       spans = written ∙ walk-first rows index c.args.row.work c.args.row l c.requires.rows.filled spare;
-      ids = ap ids_of put ∙ ids_of-set pairs index c.args.place.id c.args.row c.requires.id;
-      id = ap (λ ps. id_at ps index) put ∙ id_at-set pairs index c.args.place.id c.args.row here;
+      count = ap length put ∙ length-set pairs index (c.at.result, c.args.row);
       current = sym (ap (λ xs. get_or xs index no_row) written ∙ get_or-set_same rows index c.args.row no_row l);
       capacity = c.set.ensures.capacity;
       low = omega (arith, c.set.ensures.one_step);
@@ -61,16 +58,16 @@ stands g c =
     let now = c.loop-index.chain.pairs in
     let k = c.loop-index.index in
     let long = length-with_work_at at c.args.row.work rows in
-    let l : at < length rows = omega (arith, id_at-within pairs at c.args.place.id c.requires.id, length-spans_of pairs) in
+    let l : at < length rows = omega (arith, span_at-within pairs at c.args.place.row c.requires.row, length-spans_of pairs) in
     record {
       within = omega (arith, l, long);
-      placed = omega (arith, id_at-within now k c.loop-index.id c.loop-index.invariant.id, length-spans_of now);
+      placed = omega (arith, c.loop-index.auto.index, l, c.loop-index.invariant.count, length-spans_of pairs, length-spans_of now);
       low = c.loop-index.auto.index;
       high = omega (arith, c.loop-index.auto.index, l, long);
       few = omega (arith, long, c.requires.rows.few);
       consecutive = AreConsecutive-FollowOn (first_start rows) (worked g c) (FollowOn-with_work_at at c.args.row.work (first_start rows) rows c.requires.few c.requires.rows.consecutive);
       stale = IsStaleAt-with_work_at at c.args.row.work rows l c.requires.rows.filled;
-      before = row_at now (k - 1) c.get-was.result (c.get-was.ensures.span (k - 1) c.before-id.ensures);
+      before = row_at now (k - 1) c.get-was.result (c.get-was.ensures.span (k - 1) c.at-id.ensures);
     }
 
 can : (g : Over) (c : After-get-was g) → CanRefillAt c.get-was.result c.loop-index.current
@@ -97,16 +94,19 @@ loop-index-preserved g c =
     let now = c.loop-index.chain.pairs in
     let k = c.loop-index.index in
     let row = c.refilled-current.result in
-    let put = c.set-in-loop-index.ensures.span (k - 1) c.before-id.ensures in
-    let written = ap spans_of put ∙ spans_of-set now (k - 1) (c.before-id.result, row) in
-    let here : k - 1 < length now = omega (arith, s.placed, length-spans_of now) in
+    let was = c.get-was.result in
+    let whole : SFits w64 row.spare = search rules in
+    let same : record was { spare = row.spare } ≡ row = ap (λ (t : Span). record was { spare = t.spare }) c.refilled-current.ensures ∙ sym c.refilled-current.ensures in
+    let put = c.set_spare.ensures.span (k - 1) was c.at-id.ensures (c.get-was.ensures.span (k - 1) c.at-id.ensures)
+    ∙ ap (λ (z : ℤ). set now (k - 1) (c.at-id.result, record was { spare = z })) (to_z-of_z w64 row.spare whole)
+    ∙ ap (λ (t : Span). set now (k - 1) (c.at-id.result, t)) same in
+    let written = ap spans_of put ∙ spans_of-set now (k - 1) (c.at-id.result, row) in
     let l : k - 1 < length (spans_of now) = omega (arith, s.placed) in
     record {
       spans = written ∙ walk-set (worked g after) (spans_of now) k c.get-was.result c.loop-index.current row c.loop-index-test.true s.high s.placed c.loop-index.invariant.spans s.before c.loop-index.invariant.current c.refilled-current.ensures;
-      ids = ap ids_of put ∙ ids_of-set now (k - 1) c.before-id.result row c.before-id.ensures ∙ c.loop-index.invariant.ids;
-      id = ap (λ ps. id_at ps (k - 1)) put ∙ id_at-set now (k - 1) c.before-id.result row here;
+      count = ap length put ∙ length-set now (k - 1) (c.at-id.result, row) ∙ c.loop-index.invariant.count;
       current = sym (ap (λ xs. get_or xs (k - 1) no_row) written ∙ get_or-set_same (spans_of now) (k - 1) row no_row l);
-      capacity = c.set-in-loop-index.ensures.capacity ∙ c.loop-index.invariant.capacity;
-      low = omega (arith, c.set-in-loop-index.ensures.one_step, c.get-was.ensures.one_step, c.loop-index.invariant.low);
-      high = omega (arith, c.set-in-loop-index.ensures.one_step, c.get-was.ensures.one_step, c.loop-index.invariant.high, c.loop-index-test.true);
+      capacity = c.set_spare.ensures.capacity ∙ c.loop-index.invariant.capacity;
+      low = omega (arith, c.set_spare.ensures.one_step, c.get-was.ensures.one_step, c.loop-index.invariant.low);
+      high = omega (arith, c.set_spare.ensures.one_step, c.get-was.ensures.one_step, c.loop-index.invariant.high, c.loop-index-test.true);
     }

@@ -1,7 +1,6 @@
-use Rattle.std.proofs.Common.{◌≡◌, ◌+◌, ◌*◌, ◌≤◌, Some, get_or}
+use Rattle.std.proofs.Common.{◌≡◌, ◌+◌, ◌*◌, ◌≤◌, length, get_or}
 use Rattle.spare_capacity.proofs.Steps.{no_row, filled_from}
-use Rattle.node_chain.specs.Chains.{id_at}
-use Rattle.interval_row.specs.ChainTables.{ids_of, spans_of}
+use Rattle.interval_row.specs.ChainTables.{spans_of}
 use Rattle.interval_row.specs.Rows.{with_work_at}
 use Rattle.interval_row.proofs.walk.set_work.Given as goal
 
@@ -9,8 +8,7 @@ use Rattle.interval_row.proofs.walk.set_work.Given as goal
 abbrev pub invariant-loop-index : goal.invariant-loop-index
 invariant-loop-index g l = record {
   spans : spans_of l.chain.pairs ≡ filled_from l.index (with_work_at l.fn.place.index l.fn.row.work (spans_of l.fn.chain.pairs));
-  ids : ids_of l.chain.pairs ≡ ids_of l.fn.chain.pairs;
-  id : id_at l.chain.pairs l.index ≡ Some l.id;
+  count : length l.chain.pairs ≡ length l.fn.chain.pairs;
   current : l.current ≡ get_or (spans_of l.chain.pairs) l.index no_row;
   capacity : l.chain.capacity ≡ l.fn.chain.capacity;
   low : l.fn.steps ≤ l.steps;

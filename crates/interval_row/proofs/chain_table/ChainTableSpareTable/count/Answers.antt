@@ -1,8 +1,8 @@
 use Rattle.std.proofs.Common.{◌∙◌, sym, subst}
 use Rattle.node_chain.specs.Chains.{Chained}
 use Rattle.spare_capacity.specs.Recurrence.{first_start}
-use Rattle.interval_row.specs.ChainTables.{spans_of, spotted}
-use Rattle.interval_row.specs.Tables.{IsTable}
+use Rattle.interval_row.specs.ChainTables.{spans_of}
+use Rattle.interval_row.specs.Tables.{numbered, IsTable}
 use Rattle.interval_row.proofs.InChains.{length_of_view, IsTable-AreInChain}
 use Rattle.interval_row.proofs.chain_table.ChainTableSpareTable.count.Goals as goal
 
@@ -13,4 +13,4 @@ returns-clause-count c =
 pub returns-clause-table : goal.returns-clause-table
 returns-clause-table c =
     let chain = c.self.inside.chain in
-    subst (λ (v : Chained). IsTable (first_start (spans_of v.pairs)) (spotted v.pairs) v.capacity) c.self.view_is (IsTable-AreInChain chain.pairs chain.capacity c.self.inside.time c.self.inside.end c.self.invariant.0)
+    subst (λ (v : Chained). IsTable (first_start (spans_of v.pairs)) (numbered 0 (spans_of v.pairs)) v.capacity) c.self.view_is (IsTable-AreInChain chain.pairs chain.capacity c.self.inside.time c.self.inside.end c.self.invariant)

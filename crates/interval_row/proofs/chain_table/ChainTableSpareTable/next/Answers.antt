@@ -1,18 +1,25 @@
-use Rattle.std.proofs.Common.{◌+◌, ◌∙◌, ap, sym}
-use Rattle.node_chain.specs.Chains.{Chained, id_at}
-use Rattle.interval_row.specs.ChainTables.{spot_of}
-use Rattle.interval_row.proofs.Ids.{id_at-spot, spot_at-spotted}
+use Rattle.std.proofs.Common.{◌≡◌, ◌+◌, ◌∙◌, Some, ap, sym, arith}
+use Rattle.interval_row.specs.ChainTables.{spans_of}
+use Rattle.interval_row.proofs.Spots.{length-numbered, spot_at-numbered, spot_at-past, StandsAt-spot_at}
 use Rattle.interval_row.proofs.chain_table.ChainTableSpareTable.next.Goals as goal
 
-pub next-requires : goal.next-requires
-next-requires c =
-    (c.requires.0, ap (λ (v : Chained). id_at v.pairs c.requires.0) c.self.view_is ∙ id_at-spot c.args.self.now.pairs c.requires.0 c.args.at c.requires.1)
+pub overflow_add-index : goal.overflow_add-index
+overflow_add-index c =
+    let spans = spans_of c.args.self.now.pairs in
+    let stands = StandsAt-spot_at 0 spans c.requires.0 c.args.at c.requires.1 in
+    omega (arith, stands.place, stands.within, length-numbered 0 spans, c.count-count.ensures.table.few, c.count-count.ensures.table.small)
 
-pub returns : goal.returns
-returns c =
+pub returns-then-index-count : goal.returns-then-index-count
+returns-then-index-count c =
     λ i e.
-    let id = ap (λ (v : Chained). id_at v.pairs i) c.self.view_is ∙ id_at-spot c.args.self.now.pairs i c.args.at e in
-    c.spot_of.ensures
-    ∙ ap spot_of (c.next.ensures i id)
-    ∙ ap (λ (v : Chained). spot_of (id_at v.pairs (i + 1))) c.self.view_is
-    ∙ sym (spot_at-spotted c.args.self.now.pairs (i + 1))
+    let spans = spans_of c.args.self.now.pairs in
+    let stands = StandsAt-spot_at 0 spans i c.args.at e in
+    let same : 0 + (i + 1) ≡ c.args.at.0 + 1 = omega (arith, stands.place) in
+    sym (spot_at-numbered 0 spans (i + 1) (omega (arith, stands.place, c.if-index-count.true, c.count-count.ensures.count, length-numbered 0 spans)) ∙ ap (λ k. Some (record { 0 = k })) same)
+
+pub returns-else-index-count : goal.returns-else-index-count
+returns-else-index-count c =
+    λ i e.
+    let spans = spans_of c.args.self.now.pairs in
+    let stands = StandsAt-spot_at 0 spans i c.args.at e in
+    sym (spot_at-past 0 spans (i + 1) (omega (arith, stands.place, c.if-index-count.false, c.count-count.ensures.count, length-numbered 0 spans)))

@@ -2,7 +2,8 @@ use Rattle.std.proofs.Common.{drop, subst, vec_capacity, arith}
 use Rattle.std.proofs.lemmas.List.{length-drop}
 use Rattle.spare_capacity.specs.Recurrence.{first_start}
 use Rattle.interval_row.specs.Tables.{IsTable}
-use Rattle.interval_row.specs.RowTables.{numbered, RowParts}
+use Rattle.interval_row.specs.RowTables.{RowParts}
+use Rattle.interval_row.specs.Tables.{numbered}
 use Rattle.interval_row.proofs.Spots.{length_seen, IsTable-AreKept}
 use Rattle.interval_row.proofs.row_table.RowTableSpareTable.count.Goals as goal
 

@@ -1,7 +1,8 @@
 use Rattle.std.proofs.Common.{◌≡◌, ◌<◌, ◌∙◌, IsSome, length, drop, ap, sym, subst, vec_capacity, arith}
 use Rattle.spare_capacity.specs.Recurrence.{filled, first_start}
 use Rattle.interval_row.specs.Changes.{apart_from, cut, span_ending}
-use Rattle.interval_row.specs.RowTables.{numbered, AreKept, RowParts}
+use Rattle.interval_row.specs.RowTables.{AreKept, RowParts}
+use Rattle.interval_row.specs.Tables.{numbered}
 use Rattle.interval_row.proofs.Cuts.{apart_from-cut, cut-same}
 use Rattle.interval_row.proofs.Places.{ends-span_ending}
 use Rattle.interval_row.proofs.Spots.{rows_seen, length_seen, last_end_seen, spans_of_pairs-numbered, AreKept-cut, IsTable-AreKept}

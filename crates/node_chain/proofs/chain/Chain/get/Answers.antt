@@ -10,7 +10,7 @@ pub node-requires : goal.node-requires
 node-requires g c =
     let s = c.self.inside in let i = c.requires.0 in
     let place = listed-place s.block s.len c.args.self.now.pairs (ap (λ (v : Chained). v.pairs) c.self.view_is) i c.args.id c.requires.1 in
-    order-inside s.block s.free s.len c.self.invariant i c.args.id.0 place
+    order-inside s.block s.free s.len c.self.invariant.0 i c.args.id.0 place
 
 pub returns-clause-span : goal.returns-clause-span
 returns-clause-span g c i e =

@@ -8,7 +8,7 @@ use Rattle.node_chain.proofs.chain.Chain.last.Goals as goal
 
 pub returns-clause-last : goal.returns-clause-last
 returns-clause-last c i e =
-    let s = c.self.inside in let l = c.self.invariant in let xs = order s.block s.len in
+    let s = c.self.inside in let l = c.self.invariant.0 in let xs = order s.block s.len in
     let was = ap (λ (v : Chained). length v.pairs) c.self.view_is in
     let long : suc i ≡ length xs = omega (arith, e, was, pairs-length s.block s.free s.len l, order-length s.block s.free s.len l) in
     c.id_of.ensures ∙ ap (λ (n : Node). id_of n.prev) c.node.ensures

@@ -6,4 +6,4 @@ use Rattle.node_chain.proofs.chain.Chain.len.Goals as goal
 pub returns : goal.returns
 returns c =
     let s = c.self.inside in
-    sym (pairs-length s.block s.free s.len c.self.invariant) ∙ ap (λ (v : Chained). length v.pairs) c.self.view_is
+    sym (pairs-length s.block s.free s.len c.self.invariant.0) ∙ ap (λ (v : Chained). length v.pairs) c.self.view_is

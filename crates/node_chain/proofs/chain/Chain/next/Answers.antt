@@ -10,11 +10,11 @@ pub node-requires : goal.node-requires
 node-requires c =
     let s = c.self.inside in let i = c.requires.0 in
     let place = listed-place s.block s.len c.args.self.now.pairs (ap (λ (v : Chained). v.pairs) c.self.view_is) i c.args.id c.requires.1 in
-    order-inside s.block s.free s.len c.self.invariant i c.args.id.0 place
+    order-inside s.block s.free s.len c.self.invariant.0 i c.args.id.0 place
 
 pub returns : goal.returns
 returns c i e =
-    let s = c.self.inside in let l = c.self.invariant in let was = ap (λ (v : Chained). v.pairs) c.self.view_is in
+    let s = c.self.inside in let l = c.self.invariant.0 in let was = ap (λ (v : Chained). v.pairs) c.self.view_is in
     let place = listed-place s.block s.len c.args.self.now.pairs was i c.args.id e in
     c.id_of.ensures ∙ ap (λ (n : Node). id_of n.next) c.node.ensures
     ∙ next-id s.block 0 (order s.block s.len) i c.args.id.0 l.stands.linked (order-no_end s.block s.free s.len l) place

@@ -2,7 +2,7 @@ use Rattle.std.proofs.Common.{◌<◌, ◌-◌, ap, arith, length, replicate, su
 use Rattle.std.proofs.lemmas.List.{length-replicate}
 use Rattle.node_chain.specs.Raw.{values, IsFull}
 use Rattle.node_chain.proofs.Full.{begun, begun-more, begun-all, length-begun, values-map, IsFull-map}
-use Rattle.node_chain.proofs.words.Words.new.Goals as goal
+use Rattle.node_chain.proofs.words.WordRow.new.Goals as goal
 
 pub put-requires-clause-place : goal.put-requires-clause-place
 put-requires-clause-place c =

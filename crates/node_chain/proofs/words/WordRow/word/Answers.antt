@@ -3,7 +3,7 @@ use Rattle.node_chain.specs.Raw.{values}
 use Rattle.node_chain.specs.Words.{word_at}
 use Rattle.node_chain.proofs.Counts.{some-same}
 use Rattle.node_chain.proofs.Full.{IsFull-value}
-use Rattle.node_chain.proofs.words.Words.word.Goals as goal
+use Rattle.node_chain.proofs.words.WordRow.word.Goals as goal
 
 pub value-requires-clause-held : goal.value-requires-clause-held
 value-requires-clause-held c =

@@ -1,6 +1,6 @@
 use Rattle.std.proofs.Common.{◌≡◌, ◌-◌}
 use Rattle.node_chain.proofs.Full.{begun}
-use Rattle.node_chain.proofs.words.Words.new.Given as goal
+use Rattle.node_chain.proofs.words.WordRow.new.Given as goal
 
 abbrev pub invariant-loop-place : goal.invariant-loop-place
 invariant-loop-place l =

@@ -1,7 +1,7 @@
 use Rattle.std.proofs.Common.{ap, subst, sym, ◌∙◌, slice_set}
 use Rattle.node_chain.specs.Raw.{values, IsFull}
 use Rattle.node_chain.proofs.Full.{values-set, IsFull-set}
-use Rattle.node_chain.proofs.words.Words.put.Goals as goal
+use Rattle.node_chain.proofs.words.WordRow.put.Goals as goal
 
 pub invariant_of-self : goal.invariant_of-self
 invariant_of-self c =
