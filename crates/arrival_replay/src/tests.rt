@@ -7,7 +7,7 @@ ghost use Rattle.slot_core.specs.Ranges.{is_sound};
 
 use crate::{drive, replay};
 use cycle_plan::make_plan;
-use interval_row::RowTable;
+use interval_row::ChainTable;
 use sample_sets::pair_set;
 use slot_core::{Arrival, Event, Key, TaskSet};
 use slot_exec::Exec;
@@ -29,7 +29,7 @@ fn replayed(
     requires fitting { are_fitting tasks slots arrivals.now ≡ true }
 {
     let plan = make_plan(alloc, tasks)?;
-    let mut exec: Exec<RowTable> = Exec::start(alloc, plan)?;
+    let mut exec: Exec<ChainTable> = Exec::start(alloc, plan)?;
     let mut sink = MemorySink::with_room(alloc, 4096)?;
     replay(&mut exec, arrivals, slots, &mut sink)?;
     Ok(sink)
@@ -90,7 +90,7 @@ fn refuses_soft_work_past_the_limit(rt: HostRuntime) -> Result<(), Fail> {
 fn ends_where_a_put_fails(rt: HostRuntime) -> Result<(), Fail> {
     let alloc = rt.alloc();
     let plan = make_plan(alloc, pair_set(alloc)?)?;
-    let mut exec: Exec<RowTable> = Exec::start(alloc, plan)?;
+    let mut exec: Exec<ChainTable> = Exec::start(alloc, plan)?;
     let mut sink = MemorySink::with_room(alloc, 4096)?;
     sink.fail_put(3)?;
     let answer = drive(&mut exec, &[], 1, &mut TextTaker::over(&mut sink));

@@ -18,7 +18,7 @@ use crate::steps::{arrivals_for, plan_for};
 use arrival_replay::drive;
 use cycle_plan::Plan;
 use gantt_print::Chart;
-use interval_row::RowTable;
+use interval_row::ChainTable;
 use load_gen::Tally;
 use run_outcome::Refusal;
 use slot_core::{Arrival, Words};
@@ -107,7 +107,7 @@ fn replay_plan<K: Sink>(
     ensures { IsWriting K.written K.faults
         (trace_text plan.tasks (trace plan.tasks arrivals.now slots)) result out.old out.new }
 {
-    let mut exec: Exec<RowTable> = Exec::start(alloc, plan)?;
+    let mut exec: Exec<ChainTable> = Exec::start(alloc, plan)?;
     arrival_replay::replay(&mut exec, arrivals, u64::from(slots), out)?;
     Ok(())
 }
@@ -127,7 +127,7 @@ fn chart_plan<K: Sink>(
         (chart_text plan.tasks slots (trace plan.tasks arrivals.now slots)) result
         out.old out.new }
 {
-    let mut exec: Exec<RowTable> = Exec::start(alloc, plan)?;
+    let mut exec: Exec<ChainTable> = Exec::start(alloc, plan)?;
     let mut chart = Chart::with_room(alloc, exec.tasks(), slots)?;
     drive(&mut exec, arrivals, u64::from(slots), &mut chart)?;
     chart.print(exec.tasks(), out)?;
@@ -149,7 +149,7 @@ fn tally_plan<K: Sink>(
         (tally_text n LOAD_SLOTS (trace plan.tasks arrivals.now LOAD_SLOTS)) result
         out.old out.new }
 {
-    let mut exec: Exec<RowTable> = Exec::start(alloc, plan)?;
+    let mut exec: Exec<ChainTable> = Exec::start(alloc, plan)?;
     let mut tally = Tally::new();
     drive(&mut exec, arrivals, u64::from(LOAD_SLOTS), &mut tally)?;
     out.put(tally.line(n, LOAD_SLOTS).bytes())?;

@@ -238,7 +238,7 @@ impl<T: SpareTable> Exec<T> {
         ensures exact { (h : History) → StandsFor self.old h
             → OfferIsExact self.old.plan.tasks self.old.plan.cycle h c d result }
         ensures stays { result ≢ Firm.Accepted → self.new ≡ record self.old { last_row = row } }
-        ensures free { (d ≡ 0) ⊎ (self.old.plan.cycle < d) → steps.new ≡ steps.old }
+        ensures no_steps { (d ≡ 0) ⊎ (self.old.plan.cycle < d) → steps.new ≡ steps.old }
         ensures row { self.new.last_row ≡ row }
         ensures time { self.new.scene.time ≡ self.old.scene.time }
         ensures steps { steps.old ≤ steps.new }

@@ -40,7 +40,7 @@ pub fn answer_offer<T: SpareTable, L: Ledger>(
         cycle
         c
         d }
-    ensures free { (d ≡ 0) ⊎ (cycle < d) → steps.new ≡ steps.old }
+    ensures no_steps { (d ≡ 0) ⊎ (cycle < d) → steps.new ≡ steps.old }
     ensures steps { steps.old ≤ steps.new }
     ensures accepts_soon { reserve.now.sporadics ≡ [] → result ≡ Firm.Accepted
         → steps.new

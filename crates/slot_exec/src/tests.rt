@@ -59,8 +59,8 @@ fn follows_a_plan(rt: HostRuntime) -> Result<(), Fail> {
             (span(5, 7, 0, 2), span(7, 8, 0, 1)),
         ),
     ];
-    let exec: Exec<RowTable> = start(rt.alloc(), pair_set(rt.alloc())?)?;
-    each_entry::<HostRuntime, Brand, RowTable>(&rt, exec, &entries, Blank::new(1))
+    let exec: Exec<ChainTable> = start(rt.alloc(), pair_set(rt.alloc())?)?;
+    each_entry::<HostRuntime, Brand, ChainTable>(&rt, exec, &entries, Blank::new(1))
 }
 
 #[test]
@@ -79,8 +79,8 @@ fn takes_an_alarm(rt: HostRuntime) -> Result<(), Fail> {
             (span(1, 2, 0, 1), span(2, 7, 2, 3)),
         ),
     ];
-    let exec: Exec<RowTable> = start(rt.alloc(), alarm_set(rt.alloc())?)?;
-    each_entry::<HostRuntime, Brand, RowTable>(&rt, exec, &entries, Blank::new(1))
+    let exec: Exec<ChainTable> = start(rt.alloc(), alarm_set(rt.alloc())?)?;
+    each_entry::<HostRuntime, Brand, ChainTable>(&rt, exec, &entries, Blank::new(1))
 }
 
 /// Where a span ends, the slots that fit and one more. Taken back, they leave room for an offer that
@@ -134,14 +134,14 @@ fn cuts_spans(rt: HostRuntime) -> Result<(), Fail> {
             (span(0, 2, 1, 0), span(2, 4, 1, -1)),
         ),
     ];
-    let exec: Exec<RowTable> = start(rt.alloc(), borrowing_set(rt.alloc())?)?;
-    each_entry::<HostRuntime, Brand, RowTable>(&rt, exec, &entries, Blank::new(1))
+    let exec: Exec<ChainTable> = start(rt.alloc(), borrowing_set(rt.alloc())?)?;
+    each_entry::<HostRuntime, Brand, ChainTable>(&rt, exec, &entries, Blank::new(1))
 }
 
 #[test]
 fn tells_what_it_keeps(rt: HostRuntime) -> Result<(), Fail> {
-    let exec: Exec<RowTable> = start(rt.alloc(), pair_set(rt.alloc())?)?;
-    at_start::<HostRuntime, Brand, RowTable>(&rt, &exec, Blank::new(1));
+    let exec: Exec<ChainTable> = start(rt.alloc(), pair_set(rt.alloc())?)?;
+    at_start::<HostRuntime, Brand, ChainTable>(&rt, &exec, Blank::new(1));
     Ok(())
 }
 
