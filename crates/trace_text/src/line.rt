@@ -3,21 +3,24 @@
 ghost use Rattle.std.specs.Prelude.{◌≡◌, ◌≤◌, ◌+◌, [], ◌++◌, length, decimal};
 ghost use Rattle.std.specs.Fmt.{signed_decimal};
 
-use arrayvec::ArrayVec;
+use itoa::write_digits;
 use std::marker::Model;
 
 /// Bytes of one line, at most 1024, which contracts see as a list. It takes no memory.
 #[derive(Drop)]
 pub struct Line {
-    text: ArrayVec<u8, 1024>,
+    bytes: [u8; 1024],
+    len: usize,
 }
 
 impl Model for Line {
-    ghost use Rattle.std.specs.Prelude.{ℕ, List};
+    ghost use Rattle.std.specs.Prelude.{ℕ, List, ◌≤◌, take};
 
     ghost Value = { List ℕ };
 
-    ghost view = { λ l. l.text.items };
+    ghost view = { λ l. take l.len l.bytes };
+
+    ghost invariant = { λ l. l.len ≤ 1024 };
 }
 
 impl Line {
@@ -26,7 +29,8 @@ impl Line {
         ensures { result ≡ [] }
     {
         Line {
-            text: ArrayVec::new(),
+            bytes: [0; 1024],
+            len: 0,
         }
     }
 
@@ -34,17 +38,20 @@ impl Line {
     pub fn clear(&mut self)
         ensures { self.new ≡ [] }
     {
-        self.text.clear();
+        self.len = 0;
     }
 
     /// Appends the bytes.
+    #[inline]
     pub fn push(&mut self, bytes: &[u8])
         requires { length self.old + length bytes.now ≤ 1024 }
         ensures { self.new ≡ self.old ++ bytes.now }
     {
-        for byte in bytes {
-            self.text.push(*byte);
+        let start = self.len;
+        for (i, byte) in bytes.iter().enumerate() {
+            self.bytes[start + i] = *byte;
         }
+        self.len = start + bytes.len();
     }
 
     /// Appends the number in decimal digits.
@@ -53,8 +60,7 @@ impl Line {
         ensures text { self.new ≡ self.old ++ decimal n }
         ensures short { length self.new ≤ length self.old + 20 }
     {
-        let mut buffer = itoa::Buffer::new();
-        self.push(buffer.format(n).as_bytes());
+        self.push_decimal(n);
     }
 
     /// Appends the number in decimal digits, after a `-` where it is below 0.
@@ -63,14 +69,45 @@ impl Line {
         ensures text { self.new ≡ self.old ++ signed_decimal n }
         ensures short { length self.new ≤ length self.old + 20 }
     {
-        let mut buffer = itoa::Buffer::new();
-        self.push(buffer.format(n).as_bytes());
+        if n < 0 {
+            self.push(b"-");
+        }
+        self.push_decimal(n.unsigned_abs());
+    }
+
+    /// Appends the number in decimal digits, for which there is room. Each count of digits up to
+    /// six, as most numbers of a line have, gets code of its own without a loop.
+    fn push_decimal(&mut self, n: u64)
+        requires { length self.old + length (decimal n) ≤ 1024 }
+        ensures { self.new ≡ self.old ++ decimal n }
+    {
+        match n {
+            0..=9 => self.push_digits(n, 1),
+            10..=99 => self.push_digits(n, 2),
+            100..=999 => self.push_digits(n, 3),
+            1000..=9999 => self.push_digits(n, 4),
+            10_000..=99_999 => self.push_digits(n, 5),
+            100_000..=999_999 => self.push_digits(n, 6),
+            _ => self.push_digits(n, n.ilog10() as usize + 1),
+        }
+    }
+
+    /// Appends the number, which has this count of digits, in place.
+    #[inline(always)]
+    fn push_digits(&mut self, n: u64, count: usize)
+        requires counted { length (decimal n) ≡ count }
+        requires room { length self.old + length (decimal n) ≤ 1024 }
+        ensures { self.new ≡ self.old ++ decimal n }
+    {
+        let end = self.len + count;
+        write_digits(n, &mut self.bytes, end);
+        self.len = end;
     }
 
     /// The bytes of the line.
     pub fn bytes(&self) -> &[u8]
         ensures { result.now ≡ self.now }
     {
-        self.text.as_slice()
+        &self.bytes[..self.len]
     }
 }

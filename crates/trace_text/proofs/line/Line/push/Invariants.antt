@@ -1,5 +1,6 @@
-use Rattle.std.proofs.Common.{◌≡◌, ◌++◌, take}
+use Rattle.std.proofs.Common.{◌≡◌, ◌+◌, ◌++◌, take}
 use Rattle.trace_text.proofs.line.Line.push.Given as goal
 
-abbrev pub invariant-loop-byte : goal.invariant-loop-byte
-invariant-loop-byte l = l.self-inside.text.items ≡ l.initial.self-inside.text.items ++ take l.byte-index l.bytes
+abbrev pub invariant-loop-i : goal.invariant-loop-i
+invariant-loop-i l =
+    take (l.start + l.i) l.self-inside.bytes ≡ take l.start l.initial.self-inside.bytes ++ take l.i l.bytes
