@@ -7,10 +7,10 @@ use Rattle.std.proofs.lemmas.Bool.{cond-true, cond-false, le-leb, lt-leb}
 use Rattle.std.proofs.lemmas.List.{append-nil, take-append-drop, length-append, length-take, length-drop, get_or-drop, get_or-append_right, get_or_read, drop_more}
 use Rattle.std.proofs.lemmas.List.Elements.{filter-append, filter_more}
 use Rattle.std.proofs.lemmas.List.Folds.{find-append}
-use Rattle.std.proofs.lemmas.List.Sums.{fold-append, length-filter, count_by-le-length}
+use Rattle.std.proofs.lemmas.List.Sums.{length-filter, count_by-le-length}
 use Rattle.slot_core.specs.declared.jobs.Key.{Key}
 use Rattle.slot_core.specs.declared.jobs.Job.{Job}
-use Rattle.slot_core.specs.Choice.{earlier_of, earliest, ready}
+use Rattle.slot_core.specs.Choice.{ready}
 use Rattle.slot_facts.proofs.Sets.Faults.{cond-None}
 use Rattle.job_queue.specs.Queues.{search_steps}
 use Rattle.job_queue.proofs.Searches.{has_key}
@@ -30,6 +30,11 @@ pub ready-take_later : (now : ℕ) (jobs : List Job) (i : ℕ) (x : Job) → i <
 ready-take_later now jobs i x inside is later =
     ready-take now jobs i x inside is ∙ (ap (λ b. ready now (take i jobs) ++ cond b (x ∷ []) []) (lt-leb x.est now later) ∙ append-nil (ready now (take i jobs)))
 
+-- the first of some jobs is ready where it may run
+pub ready-first_now : (now : ℕ) (job : Job) (jobs : List Job) → job.est ≤ now → ready now (job ∷ jobs) ≡ job ∷ ready now jobs
+ready-first_now now job jobs starts =
+    cond-true (nat_le job.est now) (job ∷ ready now jobs) (ready now jobs) (le-leb job.est now starts)
+
 -- where all jobs start later, none is ready
 ready-none : (now : ℕ) (jobs : List Job) → ((k : ℕ) (d : Job) → k < length jobs → now < (get_or jobs k d).est) → ready now jobs ≡ []
 ready-none now [] later = refl
@@ -37,6 +42,11 @@ ready-none now (j ∷ jobs) later =
     rw
     (lt-leb j.est now (later zero j (omega arith)))
     (ready-none now jobs (λ k d low. later (suc k) d (omega arith)))
+
+-- so where the first of jobs in order of start starts later
+pub ready-ordered_later : (now : ℕ) (job : Job) (jobs : List Job) → IsNonDecreasingBy (λ (j : Job). j.est) (job ∷ jobs) → now < job.est → ready now (job ∷ jobs) ≡ []
+ready-ordered_later now job jobs ordered later =
+    ready-none now (job ∷ jobs) (λ k d low. omega (arith, ordered zero k d (omega arith) low))
 
 -- where a job of a second part in order of start starts later, so do those after it
 later_after : (now : ℕ) (beside listed : List Job) (m i : ℕ) (x : Job) → IsNonDecreasingBy (λ (j : Job). j.est) listed → length beside ≡ m → m ≤ i → i < length (beside ++ listed) → x ≡ get_or (beside ++ listed) i x → now < x.est → (k : ℕ) (d : Job) → k < length (drop i (beside ++ listed)) → now < (get_or (drop i (beside ++ listed)) k d).est
@@ -73,11 +83,6 @@ pub ready-le-place : (now : ℕ) (jobs : List Job) (i : ℕ) → length (ready n
 ready-le-place now jobs i =
     omega (arith, ready-le-length now (take i jobs), length-take i jobs)
 
--- the earliest ready job, with one more job looked at
-pub earliest-take_now : (now : ℕ) (jobs : List Job) (i : ℕ) (x : Job) → i < length jobs → x ≡ get_or jobs i x → x.est ≤ now → earliest (ready now (take (i + 1) jobs)) ≡ earlier_of (earliest (ready now (take i jobs))) x
-earliest-take_now now jobs i x inside is starts =
-    ap earliest (ready-take_now now jobs i x inside is starts) ∙ fold-append earlier_of None (ready now (take i jobs)) (x ∷ [])
-
 -- the first job of the key after some of other keys
 position-after : (key : Key) (us : List Job) (x : Job) (vs : List Job) → find (has_key key) us ≡ None → has_key key x ≡ true → position_or_len (has_key key) (us ++ x ∷ vs) ≡ length us
 position-after key [] x vs none here = rw here refl
@@ -97,8 +102,7 @@ IsFound-from_place now key jobs i x inside is starts here none =
     let before = ready now (take i jobs) in
     let after = ready now (drop (i + 1) jobs) in
     let rest = drop_more jobs i x inside ∙ ap (λ j. j ∷ drop (i + 1) jobs) (sym is) in
-    let kept : ready now (x ∷ drop (i + 1) jobs) ≡ x ∷ after =
-    cond-true (may x) (x ∷ after) after (le-leb x.est now starts) in
+    let kept = ready-first_now now x (drop (i + 1) jobs) starts in
     let parts : ready now jobs ≡ before ++ x ∷ after =
     ap (ready now) (sym (take-append-drop i jobs)) ∙ (filter-append may (take i jobs) (drop i jobs) ∙ ap (λ js. before ++ js) (ap (ready now) rest ∙ kept)) in
     let found : find (has_key key) (x ∷ after) ≡ Some x =

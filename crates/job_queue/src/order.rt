@@ -1,6 +1,7 @@
 //! Keys and the order of earliest deadline first.
 
 ghost use Rattle.std.specs.Prelude.{◌≡◌};
+ghost use Rattle.std.specs.Option.{option_copied};
 ghost use Rattle.slot_core.specs.Choice.{earlier_of};
 ghost use Rattle.slot_core.specs.Keys.{is_earlier, same_key};
 
@@ -14,11 +15,11 @@ pub fn is_same_key(a: Key, b: Key) -> bool
 }
 
 /// Of two candidates, the one that goes before the other; the first where they are level.
-pub fn earlier_of(best: Option<Job>, job: Job) -> Option<Job>
-    ensures { result ≡ earlier_of best job }
+pub fn earlier_of<'a>(best: Option<&'a Job>, job: &'a Job) -> Option<&'a Job>
+    ensures { option_copied result ≡ earlier_of (option_copied best.entry) job.now }
 {
     match best {
-        Some(best) if !is_earlier(&job, &best) => Some(best),
+        Some(best) if !is_earlier(job, best) => Some(best),
         _ => Some(job),
     }
 }
@@ -27,5 +28,9 @@ pub fn earlier_of(best: Option<Job>, job: Job) -> Option<Job>
 fn is_earlier(a: &Job, b: &Job) -> bool
     ensures { result ≡ is_earlier a.now b.now }
 {
-    (a.dl, a.key) < (b.dl, b.key)
+    if a.dl == b.dl {
+        a.key < b.key
+    } else {
+        a.dl < b.dl
+    }
 }

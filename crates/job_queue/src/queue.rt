@@ -1,11 +1,11 @@
 //! A queue of jobs in two parts.
 
-ghost use Rattle.std.specs.Prelude.{◌≡◌, ℕ, ◌+◌, ◌<◌, ◌≤◌, ◌^◌, [], ◌∷◌, ◌++◌, false, not, filter, find, length, count_by, position, remove, slice_index_or, None, Some, IfOk, IsTrue};
+ghost use Rattle.std.specs.Prelude.{◌≡◌, ℕ, ◌+◌, ◌<◌, ◌≤◌, ◌^◌, [], ◌∷◌, ◌++◌, false, not, filter, find, fold, length, count_by, position, remove, slice_index_or, None, Some, IfOk, IsTrue};
 ghost use Rattle.std.specs.List.Sorted.{IsNonDecreasingBy};
-ghost use Rattle.std.specs.Option.{option_map};
+ghost use Rattle.std.specs.Option.{option_copied, option_map};
 ghost use Rattle.slot_core.specs.declared.jobs.Job.{Job};
 ghost use Rattle.slot_core.specs.Keys.{is_soft, same_key};
-ghost use Rattle.slot_core.specs.Choice.{earliest, ready};
+ghost use Rattle.slot_core.specs.Choice.{earlier_of, earliest, ready};
 ghost use Rattle.slot_core.specs.Matches.{HaveSameItems};
 ghost use Rattle.slot_core.specs.Safety.{after_run};
 ghost use Rattle.job_queue.specs.Queues.{IsQueue, after_run_at, search_steps};
@@ -101,17 +101,8 @@ impl JobQueue {
         ensures steps { steps.old + length (ready now self.now.jobs) ≤ steps.new }
         ensures few_steps { steps.new ≤ steps.old + length self.now.jobs }
     {
-        let mut best = None;
-        for place in 0..self.len() as usize {
-            let job = self.job(place);
-            steps.tick();
-            if job.est <= now {
-                best = earlier_of(best, job);
-            } else if self.beside.len() <= place {
-                break;
-            }
-        }
-        best
+        let best = earliest_of(&self.beside, now, steps);
+        earliest_listed(best, &self.listed, now, steps).copied()
     }
 
     /// The job of this key. None exactly where there is none. One step a job looked at.
@@ -121,7 +112,7 @@ impl JobQueue {
         ensures few_steps { steps.new ≤ steps.old + length self.now.jobs }
     {
         let place = self.place_of(key, steps)?;
-        Some(self.job(place))
+        Some(*self.job(place))
     }
 
     /// The job of this key, where it may start by `now`. None exactly where no such job has it. One
@@ -132,7 +123,7 @@ impl JobQueue {
         ensures few_steps { steps.new ≤ steps.old + length self.now.jobs }
     {
         let place = self.place_ready(now, key, steps)?;
-        Some(self.job(place))
+        Some(*self.job(place))
     }
 
     /// One slot has run of the job of this key. It goes where that was its last one. One step a job
@@ -224,15 +215,15 @@ impl JobQueue {
     }
 
     /// The job at this place: those beside come first.
-    fn job(&self, place: usize) -> Job
+    fn job(&self, place: usize) -> &Job
         requires { place < length self.now.jobs }
-        ensures { result ≡ slice_index_or self.now.jobs place result }
+        ensures { result.now ≡ slice_index_or self.now.jobs place result.now }
     {
         let beside = self.beside.len();
         if place < beside {
-            self.beside[place]
+            &self.beside[place]
         } else {
-            self.listed[place - beside]
+            &self.listed[place - beside]
         }
     }
 
@@ -274,4 +265,44 @@ fn starts_last(listed: &VecDeque<Job>, job: &Job) -> bool
         → IsNonDecreasingBy (λ j. j.est) (listed.now.items ++ job.now ∷ []) }
 {
     listed.back().is_none_or(|last| last.est <= job.est)
+}
+
+/// The job of these that earliest deadline first runs in slot `now`. One step a job.
+fn earliest_of<'a, L: Ledger>(jobs: &'a [Job], now: u64, steps: &mut Steps<L>) -> Option<&'a Job>
+    ensures job { option_copied result ≡ earliest (ready now jobs.now) }
+    ensures steps { steps.new ≡ steps.old + length jobs.now }
+{
+    let mut best = None;
+    for job in jobs {
+        steps.tick();
+        if job.est <= now {
+            best = earlier_of(best, job);
+        }
+    }
+    best
+}
+
+/// The one of this job and these, which stand in order of start, that earliest deadline first runs
+/// in slot `now`. One step a job, up to the first that starts later.
+fn earliest_listed<'a, L: Ledger>(
+    best: Option<&'a Job>,
+    listed: &'a VecDeque<Job>,
+    now: u64,
+    steps: &mut Steps<L>,
+) -> Option<&'a Job>
+    requires { IsNonDecreasingBy (λ j. j.est) listed.now.items }
+    ensures job { option_copied result
+        ≡ fold earlier_of (option_copied best.entry) (ready now listed.now.items) }
+    ensures steps { steps.old + length (ready now listed.now.items) ≤ steps.new }
+    ensures few_steps { steps.new ≤ steps.old + length listed.now.items }
+{
+    let mut best = best;
+    for job in listed {
+        steps.tick();
+        if now < job.est {
+            break;
+        }
+        best = earlier_of(best, job);
+    }
+    best
 }

@@ -11,4 +11,4 @@ returns-in_err-place-clause-job g c =
 pub returns-clause-job : goal.returns-clause-job
 returns-clause-job g c =
     let place = sym c.place_of.ensures.place ∙ c.in_ok-place.was in
-    ap (λ (j : Job). Some j) c.job.ensures ∙ sym (find-position c.args.key c.args.self.now.jobs c.in_ok-place.place c.job.result place)
+    ap (λ (j : Job). Some j) c.job.ensures ∙ sym (find-position c.args.key c.args.self.now.jobs c.in_ok-place.place c.job.result.now place)

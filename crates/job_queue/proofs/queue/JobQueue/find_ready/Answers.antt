@@ -13,5 +13,5 @@ returns-in_err-place-clause-job g c =
 pub returns-clause-job : goal.returns-clause-job
 returns-clause-job g c =
     let jobs = c.args.self.now.jobs in
-    let some = c.place_ready.ensures.job c.job.result ∙ ap (option_map (λ (i : ℕ). get_or jobs i c.job.result)) c.in_ok-place.was in
+    let some = c.place_ready.ensures.job c.job.result.now ∙ ap (option_map (λ (i : ℕ). get_or jobs i c.job.result.now)) c.in_ok-place.was in
     ap (λ (j : Job). Some j) c.job.ensures ∙ sym some

@@ -14,11 +14,11 @@ loop-place-preserved g c =
     let inside : c.loop-place.place < length jobs = omega arith in
     elim c.if-job-now.branch [
       | then-job-now+else-is_same_key w ↦ record {
-        passed = find-take_now c.args.now c.args.key jobs c.loop-place.place c.job-job.result inside c.job-job.ensures w.if-job-now.true (sym w.if-is_same_key.ensures) c.loop-place.invariant.passed;
+        passed = find-take_now c.args.now c.args.key jobs c.loop-place.place c.job-job.result.now inside c.job-job.ensures w.if-job-now.true (sym w.if-is_same_key.ensures) c.loop-place.invariant.passed;
         counted = omega arith;
       }
       | else-job-now+else-len-place w ↦ record {
-        passed = ap (find (has_key c.args.key)) (ready-take_later c.args.now jobs c.loop-place.place c.job-job.result inside c.job-job.ensures w.if-job-now.false) ∙ c.loop-place.invariant.passed;
+        passed = ap (find (has_key c.args.key)) (ready-take_later c.args.now jobs c.loop-place.place c.job-job.result.now inside c.job-job.ensures w.if-job-now.false) ∙ c.loop-place.invariant.passed;
         counted = omega arith;
       }
     ]
@@ -27,10 +27,10 @@ pub returns-then-is_same_key : goal.returns-then-is_same_key
 returns-then-is_same_key g c =
     let jobs = c.args.self.now.jobs in
     let inside : c.loop-place.place < length jobs = omega arith in
-    let found = IsFound-from_place c.args.now c.args.key jobs c.loop-place.place c.job-job.result inside c.job-job.ensures c.if-job-now.true (sym c.if-is_same_key.ensures) c.loop-place.invariant.passed in
+    let found = IsFound-from_place c.args.now c.args.key jobs c.loop-place.place c.job-job.result.now inside c.job-job.ensures c.if-job-now.true (sym c.if-is_same_key.ensures) c.loop-place.invariant.passed in
     record {
       job = λ d.
-          found.is ∙ ap (λ (j : Job). Some j) (get_or_read jobs c.loop-place.place c.job-job.result inside c.job-job.ensures d);
+          found.is ∙ ap (λ (j : Job). Some j) (get_or_read jobs c.loop-place.place c.job-job.result.now inside c.job-job.ensures d);
       within = λ place e. let is : c.loop-place.place ≡ place = cc e in omega arith;
       queue = c.len-place-end.ensures.queue;
       steps = omega (arith, found.few);
@@ -41,7 +41,7 @@ pub returns-then-len-place : goal.returns-then-len-place
 returns-then-len-place g c =
     let jobs = c.args.self.now.jobs in
     let parts = ap (λ (q : QueueParts). q.jobs) c.self.view_is in
-    let rest = ready-rest c.args.now c.self.inside.beside.items c.self.inside.listed.items jobs c.len.result c.loop-place.place c.job-job.result parts c.self.invariant.ordered (omega arith) c.if-len-place.true (omega arith) c.job-job.ensures c.if-job-now.false in
+    let rest = ready-rest c.args.now c.self.inside.beside.items c.self.inside.listed.items jobs c.len.result c.loop-place.place c.job-job.result.now parts c.self.invariant.ordered (omega arith) c.if-len-place.true (omega arith) c.job-job.ensures c.if-job-now.false in
     record {
       job = λ d. ap (find (has_key c.args.key)) rest ∙ c.loop-place.invariant.passed;
       within = λ place e. absurd (cc e);

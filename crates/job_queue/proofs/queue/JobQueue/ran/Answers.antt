@@ -7,13 +7,13 @@ use Rattle.job_queue.proofs.queue.JobQueue.ran.Goals as goal
 pub returns-then-job-gt1-clause-jobs : goal.returns-then-job-gt1-clause-jobs
 returns-then-job-gt1-clause-jobs g c = λ f.
     let place = sym c.place_of.ensures.place ∙ c.in-Some.is in
-    let ran = after_run-more c.args.self.now c.args.key c.in-Some.place c.job.result c.place_of.ensures.queue place c.job.ensures c.if-job-gt1.true in
+    let ran = after_run-more c.args.self.now c.args.key c.in-Some.place c.job.result.now c.place_of.ensures.queue place c.job.ensures c.if-job-gt1.true in
     ap (sum_by f) (c.run_at.ensures.jobs ∙ sym ran)
 
 pub returns-else-job-gt1-clause-jobs : goal.returns-else-job-gt1-clause-jobs
 returns-else-job-gt1-clause-jobs g c = λ f.
     let place = sym c.place_of.ensures.place ∙ c.in-Some.is in
-    let ran = after_run-last c.args.self.now c.args.key c.in-Some.place c.job.result c.place_of.ensures.queue place c.job.ensures c.if-job-gt1.false in
+    let ran = after_run-last c.args.self.now c.args.key c.in-Some.place c.job.result.now c.place_of.ensures.queue place c.job.ensures c.if-job-gt1.false in
     c.remove.ensures.jobs f ∙ ap (sum_by f) (sym ran)
 
 pub returns-in_default-clause-jobs : goal.returns-in_default-clause-jobs
