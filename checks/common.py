@@ -45,7 +45,7 @@ TABLE_FAULT = (
 # The one line of standard error of each status.
 LINES = {
     1: "usage: slotshift check T, table T, show B, replay T A N, replay-table B A N, gantt T A N, "
-    "selfrun N",
+    "selfrun N, migrate B, verify T A X N, margin T",
     2: "cannot read .*",
     3: f"too large .* {NUMBER}",
     4: f"tasks {TASK_FAULT}",
@@ -54,6 +54,7 @@ LINES = {
     7: "cannot write",
     8: "out of memory",
     9: f"table {TABLE_FAULT}",
+    10: f"trace (?:(?:short|no run|differs|trailing) {NUMBER}|(?:not ready|late) {NUMBER} \\S+)",
 }
 LINES = {status: re.compile((line + "\n").encode()) for status, line in LINES.items()}
 
@@ -134,18 +135,86 @@ def commands(runner):
     for tasks, arrivals, slots in EXAMPLES:
         tasks, arrivals = example(f"{tasks}.toml"), example(f"{arrivals}.csv")
         chart = str(min(slots, 200))
-        found += [("check", tasks), ("table", tasks), ("replay", tasks, arrivals, str(slots))]
+        found += [("check", tasks), ("table", tasks), ("margin", tasks)]
+        found += [("replay", tasks, arrivals, str(slots))]
         found += [("gantt", tasks, arrivals, chart), ("gantt", tasks, example("none.csv"), chart)]
         made = runner.run("table", tasks)
         if made.status == 0:
             table = runner.write(made.out, f"{os.path.basename(tasks)}.bin")
-            found += [("show", table), ("replay-table", table, arrivals, str(slots))]
+            found += [("show", table), ("migrate", table), ("replay-table", table, arrivals, str(slots))]
     return [*dict.fromkeys(found), ("selfrun", "1")]
 
 
 def told(words):
     """The words of a command for a reader."""
     return " ".join(os.path.basename(word) for word in words)
+
+
+# Of each version, the bytes of a length or time, and of a capacity.
+WIDTHS = {1: (2, 4), 2: (4, 8)}
+
+
+class Fields:
+    """The fields of a table from its front, and the same fields in version 1."""
+
+    def __init__(self, table):
+        self.table = table
+        self.at = 6
+        self.first = bytearray(b"SLOT\1\0")
+        self.widths = WIDTHS[int.from_bytes(table[4:6], "little")]
+
+    def take(self, count, kept):
+        """The next bytes, of which the first ones stand in version 1."""
+        self.at += count
+        found = self.table[self.at - count : self.at]
+        self.first += found[:kept]
+        return found
+
+    def number(self, count=2, kept=None):
+        return int.from_bytes(self.take(count, kept or count), "little")
+
+    def length(self):
+        return self.number(self.widths[0], WIDTHS[1][0])
+
+    def lengths(self, count):
+        return [self.length() for _ in range(count)]
+
+    def spare(self):
+        return self.number(self.widths[1], WIDTHS[1][1])
+
+    def name(self):
+        count = self.number(1)
+        return self.take(count, count).decode()
+
+    def each(self, read, count=2):
+        return [read() for _ in range(self.number(count))]
+
+    def task(self):
+        return self.name(), self.length(), self.each(self.number)
+
+    def graph(self):
+        return self.name(), self.lengths(3), self.each(self.task)
+
+    def sporadic(self):
+        return self.name(), self.lengths(3)
+
+    def source(self):
+        return self.length(), self.each(self.graph), self.each(self.sporadic)
+
+    def job(self):
+        return self.number(), self.number(), self.lengths(4)
+
+    def span(self):
+        return self.lengths(3), self.spare()
+
+
+def first_version(table):
+    """A table in version 1."""
+    fields = Fields(table)
+    fields.source()
+    fields.each(fields.job, 4)
+    fields.each(fields.span, 4)
+    return bytes(fields.first)
 
 
 class Check:

@@ -10,18 +10,18 @@ use Rattle.slot_core.specs.declared.events.Event.{Event}
 use Rattle.slot_core.specs.declared.events.Event.TheVariants.{Soft as SoftEvent, Firm as FirmEvent, Sporadic as SporadicEvent, Done as DoneEvent, Withdraw as WithdrawEvent}
 use Rattle.slot_core.specs.declared.tasks.Sporadic.{Sporadic}
 use Rattle.slot_core.specs.declared.tasks.TaskSet.{TaskSet}
-use Rattle.slot_core.specs.Arrivals.{event_fits, arrivals_follow, are_fitting}
-use Rattle.slot_core.specs.Results.{◌>>=◌}
+use Rattle.slot_core.specs.Runs.Arrivals.{event_fits, arrivals_follow, are_fitting}
+use Rattle.slot_core.specs.Calls.Results.{◌>>=◌}
 use Rattle.arrival_csv.specs.declared.faults.ArrivalFault.{ArrivalFault}
 use Rattle.arrival_csv.specs.declared.faults.ArrivalFault.TheVariants.{UnknownKind, BadNumber, UnknownSporadic, BadKey}
 use Rattle.arrival_csv.specs.declared.kinds.Kind.{Kind}
 use Rattle.arrival_csv.specs.declared.kinds.Kind.TheVariants.{Soft, Firm, Sporadic as SporadicKind, Done, Withdraw}
-use Rattle.arrival_csv.specs.KeyTexts.{key_of_text, sporadic_named}
+use Rattle.key_texts.specs.KeyTexts.{key_of_text, sporadic_named}
 use Rattle.arrival_csv.specs.Kinds.{kind_of}
-use Rattle.arrival_csv.specs.Numbers.{number_of, number_between, row_number}
+use Rattle.key_texts.specs.Numbers.{number_of, number_between, row_number}
 use Rattle.arrival_csv.specs.Reading.{Read, slots_of, soft_of, firm_of, sporadic_of, done_of, withdraw_of, one_field, two_fields, event_of, slot_in_turn, limited_row, first_fields, arrival_of, arrivals_from}
-use Rattle.arrival_csv.proofs.DigitLemmas.{number_between-Some}
-use Rattle.arrival_csv.proofs.KeyLemmas.{IsKeyText-from_key}
+use Rattle.key_texts.proofs.DigitLemmas.{number_between-Some}
+use Rattle.key_texts.proofs.KeyLemmas.{IsKeyText-from_key}
 
 -- a reading that gave a value took its first step
 pub step : {X Y P : Type 0} (r : Read X) {f : X → Read Y} {y : Y} → (r >>= f) ≡ Ok y → ((x : X) → r ≡ Ok x → f x ≡ Ok y → P) → P

@@ -1,9 +1,4 @@
-pub mod CutLemmas
-pub mod DigitLemmas
 pub mod FittingLemmas
-pub mod KeyLemmas
-pub mod NameLemmas
-pub mod PlaceLemmas
 pub mod ReadArrivals
 pub mod ReadingSteps
 pub mod RecordLemmas

@@ -10,13 +10,13 @@ use Rattle.slot_core.specs.declared.events.Event.{Event}
 use Rattle.slot_core.specs.declared.events.Event.TheVariants.{Soft as SoftEvent, Done as DoneEvent}
 use Rattle.slot_core.specs.declared.jobs.Key.{Key}
 use Rattle.slot_core.specs.declared.tasks.TaskSet.{TaskSet}
-use Rattle.slot_core.specs.Arrivals.{are_fitting}
+use Rattle.slot_core.specs.Runs.Arrivals.{are_fitting}
 use Rattle.arrival_csv.specs.declared.faults.ArrivalFault.TheVariants.{UnknownKind, BadNumber, BadKey}
 use Rattle.arrival_csv.specs.declared.kinds.Kind.{Kind}
 use Rattle.arrival_csv.specs.declared.kinds.Kind.TheVariants.{Soft, Done}
-use Rattle.arrival_csv.specs.KeyTexts.{key_of_text}
+use Rattle.key_texts.specs.KeyTexts.{key_of_text}
 use Rattle.arrival_csv.specs.Kinds.{kind_of}
-use Rattle.arrival_csv.specs.Numbers.{number_of, number_between}
+use Rattle.key_texts.specs.Numbers.{number_of, number_between}
 use Rattle.arrival_csv.specs.Reading.{one_field, event_of, slot_in_turn, first_fields, limited_row, arrival_of, arrivals_from, reading_of_arrivals}
 use Rattle.arrival_csv.proofs.FittingLemmas.{step, are_fitting-from_reading}
 

@@ -9,7 +9,7 @@ use Rattle.csv.specs.declared.reader.Reader.{Reader}
 use Rattle.csv.specs.Machine.{Read, step, in_field, start_field, start_record, ends_with, ends_at_end, is_end, fields_after, field_after, next_record}
 use Rattle.csv.specs.Reading.{NextIs, ReadsNext, ReadRecord, default_config, records_from, records_next, pending_of, took_first}
 use Rattle.arrival_csv.specs.Rows.{HasRows, TakesRow}
-use Rattle.arrival_csv.proofs.PlaceLemmas.{Some_same}
+use Rattle.key_texts.proofs.PlaceLemmas.{Some_same}
 
 -- the byte of a state and an action that ends a record leaves none open
 abbrev Closes : State × Action → Type 0

@@ -1,6 +1,6 @@
 -- The texts of the faults of an arrivals file.
 use Rattle.std.specs.Prelude.{ℕ, List, codes}
-use Rattle.slot_core.specs.Texts.{worded}
+use Rattle.slot_core.specs.Output.Texts.{worded}
 use Rattle.arrival_csv.specs.declared.faults.ArrivalFault.{ArrivalFault}
 use Rattle.arrival_csv.specs.declared.faults.ArrivalFault.TheVariants.{Memory, BadRow, UnknownKind, BadNumber, OutOfOrder, PastEnd, UnknownSporadic, BadKey, TooMany}
 

@@ -3,29 +3,21 @@
 
 ghost use Rattle.std.specs.Prelude.{◌≡◌, ◌≢◌, ◌≤◌, true, Ok, Err, IfOk, IfErr, MatchResult};
 ghost use Rattle.slot_core.specs.declared.TheConstants.{REPLAY_LIMIT};
-ghost use Rattle.slot_core.specs.Arrivals.{are_fitting};
-ghost use Rattle.slot_core.specs.Ranges.{is_sound};
+ghost use Rattle.slot_core.specs.Runs.Arrivals.{are_fitting};
+ghost use Rattle.slot_core.specs.Sets.Ranges.{is_sound};
 ghost use Rattle.arrival_csv.specs.Reading.{AnswersAs, reading_of_arrivals};
 
 pub mod faults;
-pub mod keys;
 mod kinds;
-mod numbers;
 mod reader;
 mod rows;
-#[cfg(test)]
-mod tests;
 
 use csv::ByteRecord;
 pub use faults::ArrivalFault;
-pub use keys::key_of;
 use reader::{next_row, reader_of};
 use rows::arrival_of;
 use slot_core::{Arrival, TaskSet};
 use std::alloc::Global;
-
-/// Most digits of a number.
-pub const DIGIT_LIMIT: usize = 10;
 
 /// The arrivals that the bytes of an arrivals file write, for a run of so many slots of the set.
 /// Any fault but want of memory is the first of the file: row by row, and in a row the limit of

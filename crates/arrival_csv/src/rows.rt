@@ -2,14 +2,13 @@
 
 ghost use Rattle.std.specs.Prelude.{◌≡◌, ◌≤◌, true, drop, Ok, Err, IfOk, MatchResult};
 ghost use Rattle.csv.specs.Records.{fields_of};
-ghost use Rattle.slot_core.specs.Ranges.{is_sound};
+ghost use Rattle.slot_core.specs.Sets.Ranges.{is_sound};
 ghost use Rattle.arrival_csv.specs.Reading.{arrival_of, done_of, event_of, firm_of, first_fields, one_field, slot_in_turn, slots_of, soft_of, sporadic_of, two_fields, withdraw_of};
 
 use crate::ArrivalFault;
-use crate::keys::{key_of, sporadic_named};
 use crate::kinds::Kind;
-use crate::numbers::{number_between, number_of, row_number};
 use csv::ByteRecord;
+use key_texts::{key_of, number_between, number_of, row_number, sporadic_named};
 use slot_core::{ARRIVAL_LIMIT, Arrival, Event, OFFER_LIMIT, TaskSet};
 
 /// The arrival of a row of these fields, where the row before has this slot.

@@ -6,8 +6,8 @@ use Rattle.std.proofs.lemmas.Result.{on_err_weaker}
 use Rattle.std.proofs.KnownBytes.{Keeps-refl}
 use Rattle.slot_core.specs.declared.events.Entry.{Entry}
 use Rattle.slot_core.specs.declared.tasks.TaskSet.{TaskSet}
-use Rattle.slot_core.specs.Executives.{Executive}
-use Rattle.slot_core.specs.Texts.{entry_line, trace_text}
+use Rattle.slot_core.specs.Keeping.Executives.{Executive}
+use Rattle.slot_core.specs.Output.Texts.{entry_line, trace_text}
 use Rattle.slot_io.specs.Sinks.{AppendsPart}
 use Rattle.slot_io.proofs.SinkParts.{AppendsPart-kept}
 use Rattle.trace_text.specs.Takers.{AppendsBroken}

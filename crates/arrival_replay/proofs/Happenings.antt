@@ -9,14 +9,14 @@ use Rattle.std.proofs.lemmas.Option.{slice_get_within, get_or_from_slice_get}
 use Rattle.slot_core.specs.declared.events.Arrival.{Arrival}
 use Rattle.slot_core.specs.declared.events.Entry.{Entry}
 use Rattle.slot_core.specs.declared.events.What.{What}
-use Rattle.slot_core.specs.Arrivals.{event_may_come, what_in_set}
-use Rattle.slot_core.specs.Choice.{choice}
-use Rattle.slot_core.specs.Cycles.{cycle_of}
-use Rattle.slot_core.specs.Executives.{Executive, Does}
-use Rattle.slot_core.specs.Histories.{History, time_of}
-use Rattle.slot_core.specs.Plans.{PlanParts, IsPlan}
-use Rattle.slot_core.specs.Scenes.{scene_of}
-use Rattle.slot_core.specs.Traces.{arrive, slot, told_of, history_of, IsLegal}
+use Rattle.slot_core.specs.Runs.Arrivals.{event_may_come, what_in_set}
+use Rattle.slot_core.specs.Runs.Choice.{choice}
+use Rattle.slot_core.specs.Sets.Cycles.{cycle_of}
+use Rattle.slot_core.specs.Keeping.Executives.{Executive, Does}
+use Rattle.slot_core.specs.Runs.Histories.{History, time_of}
+use Rattle.slot_core.specs.Keeping.Plans.{PlanParts, IsPlan}
+use Rattle.slot_core.specs.Runs.Scenes.{scene_of}
+use Rattle.slot_core.specs.Runs.Traces.{arrive, slot, told_of, history_of, IsLegal}
 use Rattle.slot_facts.proofs.Legal.Traces.{BeginsWith-from}
 use Rattle.slot_facts.proofs.Sets.Tasks.{slice_get-within}
 use Rattle.slot_facts.proofs.Lists.Members.{Has-from_slice_get, passes_from_list_all}

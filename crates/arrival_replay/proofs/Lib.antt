@@ -1,3 +1,4 @@
 pub mod BrokenTexts
+pub mod EndTimes
 pub mod Happenings
 pub mod UnderWay

@@ -6,12 +6,12 @@ use Rattle.slot_core.specs.declared.events.Arrival.{Arrival}
 use Rattle.slot_core.specs.declared.events.Entry.{Entry}
 use Rattle.slot_core.specs.declared.events.What.{What}
 use Rattle.slot_core.specs.declared.events.What.TheVariants.{Start}
-use Rattle.slot_core.specs.Arrivals.{are_fitting}
-use Rattle.slot_core.specs.Cycles.{cycle_of}
-use Rattle.slot_core.specs.Executives.{Executive, StandsFor, Does}
-use Rattle.slot_core.specs.Histories.{History, time_of}
-use Rattle.slot_core.specs.Plans.{PlanParts}
-use Rattle.slot_core.specs.Traces.{Occurrence, told_of, shown_entry, end_entry, trace_in, trace, history_of}
+use Rattle.slot_core.specs.Runs.Arrivals.{are_fitting}
+use Rattle.slot_core.specs.Sets.Cycles.{cycle_of}
+use Rattle.slot_core.specs.Keeping.Executives.{Executive, StandsFor, Does}
+use Rattle.slot_core.specs.Runs.Histories.{History, time_of}
+use Rattle.slot_core.specs.Keeping.Plans.{PlanParts}
+use Rattle.slot_core.specs.Runs.Traces.{Occurrence, told_of, shown_entry, end_entry, trace_in, trace, history_of}
 use Rattle.slot_facts.proofs.Replays.Entries.{AreLeft, entries_left, entry_after, entries_left-start, entries_left-end, AreLeft-start}
 use Rattle.slot_facts.proofs.Replays.Told.{history_of-more, StandsFor-started, StandsFor-end}
 use Rattle.arrival_replay.specs.Replays.{BreaksOff}

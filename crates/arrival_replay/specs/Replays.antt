@@ -2,8 +2,8 @@
 use Rattle.std.specs.Prelude.{ℕ, ◌≤◌, ◌==◌, List, length, take, slice_get, Option, Some, None, if◌then◌else◌}
 use Rattle.slot_core.specs.declared.events.Arrival.{Arrival}
 use Rattle.slot_core.specs.declared.events.Entry.{Entry}
-use Rattle.slot_core.specs.Executives.{Executive, StandsFor}
-use Rattle.slot_core.specs.Traces.{Occurrence, arrive, slot, history_of}
+use Rattle.slot_core.specs.Keeping.Executives.{Executive, StandsFor}
+use Rattle.slot_core.specs.Runs.Traces.{Occurrence, arrive, slot, history_of}
 
 -- the arrival, where it is due at this time
 abbrev pub due_at : ℕ → Option Arrival → Option Arrival

@@ -5,19 +5,16 @@
 ghost use Rattle.std.specs.Prelude.{◌≡◌, ◌≤◌, ◌<◌, ◌^◌, [], ◌∷◌, true, OnErr, OnOk, IfSome};
 ghost use Rattle.std.specs.Io.KnownBytes.{Appends};
 ghost use Rattle.slot_core.specs.declared.TheConstants.{REPLAY_LIMIT};
-ghost use Rattle.slot_core.specs.Arrivals.{are_fitting, event_may_come, what_in_set};
-ghost use Rattle.slot_core.specs.Counts.{Rose};
-ghost use Rattle.slot_core.specs.Executives.{Does, StandsFor};
-ghost use Rattle.slot_core.specs.Histories.{History};
-ghost use Rattle.slot_core.specs.Plans.{IsPlan};
-ghost use Rattle.slot_core.specs.Texts.{trace_text};
-ghost use Rattle.slot_core.specs.Traces.{arrive, end_entry, history_of, shown_entry, slot, trace};
+ghost use Rattle.slot_core.specs.Runs.Arrivals.{are_fitting, event_may_come, what_in_set};
+ghost use Rattle.slot_core.specs.Calls.Counts.{Rose};
+ghost use Rattle.slot_core.specs.Keeping.Executives.{Does, StandsFor};
+ghost use Rattle.slot_core.specs.Runs.Histories.{History};
+ghost use Rattle.slot_core.specs.Keeping.Plans.{IsPlan};
+ghost use Rattle.slot_core.specs.Output.Texts.{trace_text};
+ghost use Rattle.slot_core.specs.Runs.Traces.{arrive, end_entry, history_of, shown_entry, slot, trace};
 ghost use Rattle.slot_io.specs.Sinks.{AppendsPart};
 ghost use Rattle.trace_text.specs.Takers.{AppendsBroken};
 ghost use Rattle.arrival_replay.specs.Replays.{due_arrival, next_occurrence, BreaksOff};
-
-#[cfg(test)]
-mod tests;
 
 use interval_row::SpareTable;
 use slot_core::{Arrival, Entry, Event, Failed, Ran, Shown, Steps, Taker, What};
@@ -50,6 +47,7 @@ pub fn drive<T: SpareTable, W: Taker>(
     ensures stands { OnOk result (StandsFor
         exec.new
         (history_of (trace exec.old.plan.tasks arrivals.now slots))) }
+    ensures time { OnOk result (exec.new.scene.time ≡ slots) }
 
     // Or the trace breaks off at an entry, and the executive stands for the history up to there.
     ensures broke { OnErr result (BreaksOff
@@ -83,6 +81,7 @@ pub fn replay<T: SpareTable, K: Sink>(
     ensures stands { OnOk result (StandsFor
         exec.new
         (history_of (trace exec.old.plan.tasks arrivals.now slots))) }
+    ensures time { OnOk result (exec.new.scene.time ≡ slots) }
     ensures broke { OnErr result (BreaksOff
         (AppendsBroken (K.written out.old) (K.written out.new) exec.old.plan.tasks)
         exec.new

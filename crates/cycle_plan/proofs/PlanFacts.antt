@@ -4,11 +4,11 @@ use Rattle.std.specs.List.Sorted.{IsPermutation}
 use Rattle.slot_core.specs.declared.jobs.Job.{Job}
 use Rattle.slot_core.specs.declared.jobs.Window.{Window}
 use Rattle.slot_core.specs.declared.tasks.TaskSet.{TaskSet}
-use Rattle.slot_core.specs.Cycles.{cycle_of}
-use Rattle.slot_core.specs.Ranges.{is_sound}
-use Rattle.slot_core.specs.OfflineJobs.{cycle_jobs}
-use Rattle.slot_core.specs.Plans.{AreInDeadlineOrder, PlanParts, plan_spans, IsPlan}
-use Rattle.slot_core.specs.Feasible.{IsFeasible, counterexample}
+use Rattle.slot_core.specs.Sets.Cycles.{cycle_of}
+use Rattle.slot_core.specs.Sets.Ranges.{is_sound}
+use Rattle.slot_core.specs.Offline.OfflineJobs.{cycle_jobs}
+use Rattle.slot_core.specs.Keeping.Plans.{AreInDeadlineOrder, PlanParts, plan_spans, IsPlan}
+use Rattle.slot_core.specs.Feasibility.Feasible.{IsFeasible, counterexample}
 use Rattle.demand_test.specs.declared.Verdict.{Verdict}
 use Rattle.demand_test.specs.declared.Verdict.TheVariants.{Fits}
 use Rattle.demand_test.specs.Verdicts.{verdict_of}

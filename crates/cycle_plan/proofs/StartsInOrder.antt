@@ -7,7 +7,7 @@ use Rattle.std.proofs.lemmas.Cmp.{nat_list_cmp_total}
 use Rattle.std.proofs.lemmas.List.Elements.{recursion_from_All}
 use Rattle.std.proofs.lemmas.List.Sorted.{ranks_by, sorted_far}
 use Rattle.slot_core.specs.declared.jobs.Job.{Job}
-use Rattle.slot_core.specs.Keys.{deadline_order}
+use Rattle.slot_core.specs.Offline.Keys.{deadline_order}
 use Rattle.cycle_plan.specs.StartOrder.{start_order, AreInStartOrder, StartsRise}
 
 -- what does not go before another starts no earlier

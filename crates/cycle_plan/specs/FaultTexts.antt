@@ -1,6 +1,6 @@
 -- The texts of faults.
 use Rattle.std.specs.Prelude.{ℕ, List, codes}
-use Rattle.slot_core.specs.FaultTexts.{infeasible_text}
+use Rattle.slot_core.specs.Output.FaultTexts.{infeasible_text}
 use Rattle.cycle_plan.specs.declared.plan.PlanFault.{PlanFault}
 use Rattle.cycle_plan.specs.declared.plan.PlanFault.TheVariants.{Memory, Infeasible}
 

@@ -5,8 +5,8 @@ use Rattle.std.specs.List.Sorted.{IsSortedByKey}
 use Rattle.std.specs.Ordering.{nat_cmp}
 use Rattle.std.specs.Cmp.Lexicographic.{slice_cmp}
 use Rattle.slot_core.specs.declared.jobs.Job.{Job}
-use Rattle.slot_core.specs.Keys.{deadline_order}
-use Rattle.slot_core.specs.Plans.{PlanParts, IsPlan}
+use Rattle.slot_core.specs.Offline.Keys.{deadline_order}
+use Rattle.slot_core.specs.Keeping.Plans.{PlanParts, IsPlan}
 
 -- by start, then by deadline and key
 abbrev pub start_order : Job → List ℕ

@@ -4,8 +4,8 @@ ghost use Rattle.std.specs.Prelude.{◌≡◌, ◌+◌, ◌*◌, ◌/◌, ◌≤
 ghost use Rattle.std.specs.Option.{option_map_or};
 ghost use Rattle.slot_core.specs.declared.TheConstants.{CYCLES_LIMIT, SLOT_LIMIT};
 ghost use Rattle.slot_core.specs.declared.tasks.Graph.{Graph};
-ghost use Rattle.slot_core.specs.OfflineJobs.{later_job, later_key};
-ghost use Rattle.slot_core.specs.Ranges.{is_sound};
+ghost use Rattle.slot_core.specs.Offline.OfflineJobs.{later_job, later_key};
+ghost use Rattle.slot_core.specs.Sets.Ranges.{is_sound};
 ghost use Rattle.cycle_plan.specs.NearJobs.{IsNear, instance_of};
 
 use slot_core::{Job, Key, TaskSet};
@@ -47,7 +47,7 @@ fn later_key(tasks: &TaskSet, cycle: u32, cycles: u64, key: Key) -> Key
 
 /// How many instances of the graph of this index start in a cycle; 0 where the set has no such
 /// graph.
-fn instances(tasks: &TaskSet, cycle: u32, graph: u16) -> u64
+pub fn instances(tasks: &TaskSet, cycle: u32, graph: u16) -> u64
     requires { is_sound tasks.now ≡ true }
     ensures count { result
         ≡ option_map_or (λ (g : Graph). cycle / g.period) (slice_get tasks.now.graphs graph) 0 }

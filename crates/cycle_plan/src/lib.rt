@@ -4,7 +4,6 @@
 mod later;
 pub mod plan;
 mod starts;
-#[cfg(test)]
-mod tests;
 
-pub use plan::{Plan, PlanFault, make_plan};
+pub use later::instances;
+pub use plan::{Plan, PlanFault, counterexample, make_plan};

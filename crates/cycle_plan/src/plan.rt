@@ -1,17 +1,18 @@
 //! Plans and how they are made.
 
-ghost use Rattle.std.specs.Prelude.{◌≡◌, ℕ, ◌≤◌, ◌<◌, true, All, Some, length, slice_get, IfOk, IfSome, IsPermutation};
+ghost use Rattle.std.specs.Prelude.{◌≡◌, ℕ, ◌≤◌, ◌<◌, true, All, Some, None, length, slice_get, IfOk, IfSome, IsPermutation};
 ghost use Rattle.slot_core.specs.declared.TheConstants.{CYCLES_LIMIT};
 ghost use Rattle.slot_core.specs.declared.jobs.Job.{Job};
 ghost use Rattle.slot_core.specs.declared.jobs.Window.{Window};
-ghost use Rattle.slot_core.specs.Cycles.{cycle_of};
-ghost use Rattle.slot_core.specs.Feasible.{counterexample, demand};
-ghost use Rattle.slot_core.specs.Futures.{CyclesCanBeServed, DensestLeavesNone};
-ghost use Rattle.slot_core.specs.OfflineJobs.{cycle_jobs, later_job};
-ghost use Rattle.slot_core.specs.Plans.{AreInDeadlineOrder, IsPlan};
-ghost use Rattle.slot_core.specs.Ranges.{is_sound};
+ghost use Rattle.slot_core.specs.Sets.Cycles.{cycle_of};
+ghost use Rattle.slot_core.specs.Feasibility.Feasible.{counterexample, demand};
+ghost use Rattle.slot_core.specs.Claims.Futures.{CyclesCanBeServed, DensestLeavesNone};
+ghost use Rattle.slot_core.specs.Offline.OfflineJobs.{cycle_jobs, later_job};
+ghost use Rattle.slot_core.specs.Keeping.Plans.{AreInDeadlineOrder, IsPlan};
+ghost use Rattle.slot_core.specs.Sets.Ranges.{is_sound};
 ghost use Rattle.demand_test.specs.Verdicts.{verdict_of};
 ghost use Rattle.cycle_plan.specs.NearJobs.{IsNear};
+ghost use Rattle.interval_build.specs.FirstJobs.{AreFirstJobs};
 ghost use Rattle.spare_capacity.specs.PlanSpans.{ArePlanSpans};
 ghost use Rattle.spare_capacity.specs.Recurrence.{last_end};
 ghost use Rattle.cycle_plan.specs.StartOrder.{AreInStartOrder, StartsRise};
@@ -42,7 +43,7 @@ pub struct Plan {
 }
 
 impl Model for Plan {
-    ghost use Rattle.slot_core.specs.Plans.{PlanParts};
+    ghost use Rattle.slot_core.specs.Keeping.Plans.{PlanParts};
     ghost use Rattle.cycle_plan.specs.StartOrder.{KeepsPlan};
 
     ghost Value = { PlanParts };
@@ -107,19 +108,7 @@ pub fn make_plan(alloc: Global, tasks: TaskSet) -> Result<Plan, PlanFault>
         → ¬ (CyclesCanBeServed tasks 3) × DensestLeavesNone tasks w.from }
 {
     let cycle = cycle_of(&tasks).unwrap();
-    let demand = total(&tasks, cycle);
-    if demand > u64::from(cycle) {
-        return Err(PlanFault::Infeasible(Window {
-            from: 0,
-            until: u64::from(cycle),
-            demand,
-        }));
-    }
-    let jobs = first_jobs(alloc, &tasks)?;
-    match verdict(alloc, &tasks, cycle, &jobs)? {
-        Verdict::Fits => {}
-        Verdict::Fails(window) => return Err(PlanFault::Infeasible(window)),
-    }
+    let jobs = feasible_jobs(alloc, &tasks, cycle)?;
     let by_start = sorted_by_start(alloc, &jobs)?;
     let spans = build(alloc, &jobs, cycle)?;
     Ok(Plan {
@@ -129,6 +118,44 @@ pub fn make_plan(alloc: Global, tasks: TaskSet) -> Result<Plan, PlanFault>
         by_start,
         spans,
     })
+}
+
+/// The counterexample to the feasibility of a sound set, or none.
+pub fn counterexample(alloc: Global, tasks: &TaskSet) -> Result<Option<Window>, Memory>
+    requires { is_sound tasks.now ≡ true }
+    ensures { IfOk result (λ window. window ≡ counterexample tasks.now (cycle_of tasks.now)) }
+{
+    let cycle = cycle_of(tasks).unwrap();
+    match feasible_jobs(alloc, tasks, cycle) {
+        Ok(_) => Ok(None),
+        Err(PlanFault::Infeasible(window)) => Ok(Some(window)),
+        Err(PlanFault::Memory) => Err(Memory),
+    }
+}
+
+/// The offline jobs of the first cycle of a sound and feasible set, by deadline and then by key, or
+/// the counterexample to its feasibility.
+fn feasible_jobs(alloc: Global, tasks: &TaskSet, cycle: u32) -> Result<Vec<Job>, PlanFault>
+    requires sound { is_sound tasks.now ≡ true }
+    requires cycle { cycle ≡ cycle_of tasks.now }
+    ensures listed { IfOk result (λ jobs. AreFirstJobs tasks.now jobs.items) }
+    ensures none { IfOk result (λ _. counterexample tasks.now cycle ≡ None) }
+    ensures infeasible { (w : Window) → result ≡ Err (PlanFault.Infeasible w)
+        → counterexample tasks.now cycle ≡ Some w }
+{
+    let demand = total(tasks, cycle);
+    if demand > u64::from(cycle) {
+        return Err(PlanFault::Infeasible(Window {
+            from: 0,
+            until: u64::from(cycle),
+            demand,
+        }));
+    }
+    let jobs = first_jobs(alloc, tasks)?;
+    match verdict(alloc, tasks, cycle, &jobs)? {
+        Verdict::Fits => Ok(jobs),
+        Verdict::Fails(window) => Err(PlanFault::Infeasible(window)),
+    }
 }
 
 /// The offline jobs of the first cycle, by deadline and then by key.

@@ -12,10 +12,10 @@ use Rattle.slot_core.specs.declared.tasks.Sporadic.{Sporadic}
 use Rattle.slot_core.specs.declared.tasks.Task.{Task}
 use Rattle.slot_core.specs.declared.tasks.Graph.{Graph}
 use Rattle.slot_core.specs.declared.tasks.TaskSet.{TaskSet}
-use Rattle.slot_core.specs.OfflineJobs.{raw_job, deadline_of, instance_jobs, graph_jobs, raw_jobs, derived_job, cycle_jobs}
-use Rattle.slot_core.specs.Sporadics.{sporadic_demand}
-use Rattle.slot_core.specs.Feasible.{declared_within, window_demand, demand}
-use Rattle.slot_core.specs.Ranges.{graph_in_range, is_sound}
+use Rattle.slot_core.specs.Offline.OfflineJobs.{raw_job, deadline_of, instance_jobs, graph_jobs, raw_jobs, derived_job, cycle_jobs}
+use Rattle.slot_core.specs.Feasibility.Sporadics.{sporadic_demand}
+use Rattle.slot_core.specs.Feasibility.Feasible.{declared_within, window_demand, demand}
+use Rattle.slot_core.specs.Sets.Ranges.{graph_in_range, is_sound}
 use Rattle.demand_test.specs.Totals.{graph_work}
 use Rattle.slot_facts.proofs.Sets.Ranges.{GraphFits-from_test}
 use Rattle.slot_facts.proofs.Sets.Sizes.{graphs-from_sound}
@@ -33,7 +33,7 @@ graph_jobs-slots cycle n (g, graph) =
     ∙ sum_by-constant slots range
     ∙ ap (λ m. m * slots) (length-range_with_len (n * count) count)
 
-cycle_jobs-slots : (set : TaskSet) (cycle n : ℕ) → sum_by (λ (j : Job). j.declared) (cycle_jobs set cycle n) ≡ sum_by (graph_work cycle) set.graphs
+pub cycle_jobs-slots : (set : TaskSet) (cycle n : ℕ) → sum_by (λ (j : Job). j.declared) (cycle_jobs set cycle n) ≡ sum_by (graph_work cycle) set.graphs
 cycle_jobs-slots set cycle n =
     let graphs = enumerate_from 0 set.graphs in
     sum_by-map (λ (j : Job). j.declared) (derived_job set) (raw_jobs set cycle n)

@@ -1,12 +1,13 @@
 -- The table of ends, and the demand of windows that its sums are.
-use Rattle.std.proofs.Common.{◌≡◌, ℕ, ◌+◌, ◌-◌, ◌*◌, ◌<◌, ◌≤◌, Bool, true, false, List, [], ◌∷◌, ◌++◌, length, take, drop, get_or, replicate, sum, Some, None, refl, arith}
+use Rattle.std.proofs.Common.{◌≡◌, ℕ, ◌+◌, ◌-◌, ◌*◌, ◌<◌, ◌≤◌, Bool, true, false, List, [], ◌∷◌, ◌++◌, length, take, get_or, replicate, Some, None, refl, arith}
 use Rattle.std.specs.Prelude.{All, sum_by, ◌==◌, nat_lt, if◌then◌else◌}
 use Rattle.std.proofs.lemmas.Bool.{lt-ltb, le-ltb}
 use Rattle.std.proofs.lemmas.Bool.Decides.{nat_tests}
-use Rattle.std.proofs.lemmas.List.{get_or-set_same, get_or-set_other, get_or-replicate, length-set, length-replicate, get_or_default, take_at, take_more}
+use Rattle.std.proofs.lemmas.List.{get_or-set_same, get_or-set_other, get_or-replicate, length-set, length-replicate, get_or_default, take_more}
 use Rattle.std.proofs.lemmas.List.Sums.{sum_by_push, sum_by-le-sum_by}
 use Rattle.slot_core.specs.declared.jobs.Job.{Job}
-use Rattle.demand_test.specs.EndTables.{ending_at, first_end, next_end, raised, IsEndTable, failing_in}
+use Rattle.demand_test.specs.declared.ends.Ends.{Ends}
+use Rattle.demand_test.specs.EndTables.{ending_at, first_end, next_end, raised, IsEndTable, needed_in, failing_in}
 
 -- a number that is added at one place
 get_or-raised : (xs : List ℕ) (e b d : ℕ) → e < length xs → get_or (raised xs e d) b 0 ≡ get_or xs b 0 + (if e == b then d else 0)
@@ -68,22 +69,12 @@ IsEndTable-next jobs i cycle d old new low positive within h is =
     let due = within i d low in
     rw (take_more jobs i d low, is) (IsEndTable-more (take i jobs) (take i jobs) cycle old j h (omega arith) (omega arith))
 
--- what is written back when jobs at the front of the rest are taken out of the table
-pub IsEndTable-taken_out : (jobs rest others : List Job) (cycle n : ℕ) (due old new : List ℕ) → IsEndTable rest jobs cycle due → old ≡ due → length old ≡ n → length new ≡ n → ((b : ℕ) → get_or new b 0 + ending_at first_end rest b ≡ get_or old b 0 + ending_at first_end others b) → IsEndTable others jobs cycle (take n (new ++ drop (length new) due))
-IsEndTable-taken_out jobs rest others cycle n due old new h same len_old len taken =
-    let before : IsEndTable rest jobs cycle old = rw same h in
-    let whole = before.len in
-    rw (take_at new (drop (length new) due) n len) (record {
-      len = omega arith;
-      ends = λ b low. omega (arith, before.ends b low, taken b);
-    })
-
--- the window whose demand is more than its slots
-pub failing_in-Some : (due arrivals : List ℕ) (a b needed : ℕ) → sum (take (b + 1) due) + get_or arrivals (b - a) 0 ≡ needed → b - a < needed → failing_in due arrivals a b ≡ Some (record { from = a; until = b; demand = needed })
-failing_in-Some due arrivals a b needed is more =
+-- the window that needs more than its slots
+pub failing_in-Some : (ends : Ends) (arrivals : List ℕ) (a b needed : ℕ) → needed_in ends arrivals a b ≡ needed → b - a < needed → failing_in ends arrivals a b ≡ Some (record { from = a; until = b; demand = needed })
+failing_in-Some ends arrivals a b needed is more =
     let fails : nat_lt (b - a) needed ≡ true = lt-ltb (b - a) needed more in
     rw (is, fails) refl
 
 -- the window whose slots are enough
-pub failing_in-None : (due arrivals : List ℕ) (a b needed : ℕ) → sum (take (b + 1) due) + get_or arrivals (b - a) 0 ≡ needed → needed ≤ b - a → failing_in due arrivals a b ≡ None
-failing_in-None due arrivals a b needed is fits = rw (is, le-ltb (b - a) needed fits) refl
+pub failing_in-None : (ends : Ends) (arrivals : List ℕ) (a b : ℕ) → needed_in ends arrivals a b ≤ b - a → failing_in ends arrivals a b ≡ None
+failing_in-None ends arrivals a b fits = rw (le-ltb (b - a) (needed_in ends arrivals a b) fits) refl

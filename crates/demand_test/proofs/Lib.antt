@@ -1,5 +1,7 @@
+pub mod ArrivalsGrow
+pub mod Blocks
 pub mod CycleTotals
 pub mod EndCounts
-pub mod QuietStarts
+pub mod EndSums
 pub mod Schedules
 pub mod WindowSums

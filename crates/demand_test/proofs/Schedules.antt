@@ -4,11 +4,11 @@ use Rattle.slot_core.specs.declared.jobs.Job.{Job}
 use Rattle.slot_core.specs.declared.jobs.Window.{Window}
 use Rattle.slot_core.specs.declared.tasks.Sporadic.{Sporadic}
 use Rattle.slot_core.specs.declared.tasks.TaskSet.{TaskSet}
-use Rattle.slot_core.specs.Cycles.{cycle_of}
-use Rattle.slot_core.specs.Feasible.{IsFeasible, counterexample_in, counterexample}
-use Rattle.slot_core.specs.Futures.{CyclesCanBeServed, DensestLeavesNone}
-use Rattle.slot_core.specs.OfflineJobs.{cycle_jobs}
-use Rattle.slot_core.specs.Ranges.{is_sound}
+use Rattle.slot_core.specs.Sets.Cycles.{cycle_of}
+use Rattle.slot_core.specs.Feasibility.Feasible.{IsFeasible, counterexample_in, counterexample}
+use Rattle.slot_core.specs.Claims.Futures.{CyclesCanBeServed, DensestLeavesNone}
+use Rattle.slot_core.specs.Offline.OfflineJobs.{cycle_jobs}
+use Rattle.slot_core.specs.Sets.Ranges.{is_sound}
 use Rattle.slot_facts.proofs.Offline.Jobs.{cycle-positive}
 use Rattle.slot_facts.proofs.Demand.Feasible.{IsFeasible-from_none, counterexample-fails, counterexample_in-permutation}
 use Rattle.slot_facts.proofs.Offers.Verdicts.{the_verdict_means_schedules, feasible_sets_can_be_served_for_ever, the_densest_pattern_shows_the_failure}

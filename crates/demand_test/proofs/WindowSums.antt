@@ -1,79 +1,41 @@
--- The sums of the table of ends are the offline demand of the windows from a start.
-use Rattle.std.proofs.Common.{◌≡◌, ℕ, zero, suc, ◌+◌, ◌-◌, ◌*◌, ◌<◌, ◌≤◌, ◌≢◌, max, Bool, true, false, List, [], length, map, take, drop, get_or, sum, Some, None, sym, ap, ◌∙◌, inl, inr, arith}
-use Rattle.std.specs.Prelude.{All, sum_by, nat_le, nat_lt, ◌==◌, ◌&&◌, if◌then◌else◌}
+-- What the tables of ends and arrivals say of the windows from a start is their demand.
+use borrow.Author.Count.{below_more}
+use Rattle.std.proofs.Common.{◌≡◌, ℕ, zero, suc, ◌+◌, ◌-◌, ◌*◌, ◌<◌, ◌≤◌, max, false, List, [], length, map, take, drop, get_or, Some, None, refl, sym, subst, ap, ◌∙◌, inl, inr, arith}
+use Rattle.std.specs.Prelude.{sum_by, nat_le, nat_lt, ◌&&◌, if◌then◌else◌}
 use Rattle.std.specs.List.{AllWithin, prefix_len, range_with_len}
 use Rattle.std.specs.List.Sorted.{IsNonDecreasingBy}
 use Rattle.std.proofs.lemmas.Bool.{cases_lt, le-ltb, lt-ltb, leb-true, leb-false}
 use Rattle.std.proofs.lemmas.Bool.Decides.{nat_tests}
-use Rattle.std.proofs.lemmas.List.{get_or-take, get_or-drop, length-take, length-drop, drop-drop, take_all}
+use Rattle.std.proofs.lemmas.List.{get_or-take, get_or-drop, length-take, length-drop, drop-drop}
 use Rattle.std.proofs.lemmas.List.FromFn.{get_or-map-range_with_len}
-use Rattle.std.proofs.lemmas.List.Sums.{sum_by_more, sum_by-take-drop, sum_by-le-sum_by, prefix_len-le-length, prefix_len_passes, prefix_len_stops}
+use Rattle.std.proofs.lemmas.List.Sums.{sum_by-take-drop, prefix_len-le-length, prefix_len_passes, prefix_len_stops}
+use Rattle.slot_core.specs.declared.TheConstants.{SLOT_LIMIT}
 use Rattle.slot_core.specs.declared.jobs.Job.{Job}
 use Rattle.slot_core.specs.declared.jobs.Window.{Window}
 use Rattle.slot_core.specs.declared.tasks.Sporadic.{Sporadic}
-use Rattle.slot_core.specs.Sporadics.{sporadic_demand}
-use Rattle.slot_core.specs.Feasible.{declared_within, window_demand, failing_window, first_some, first_failing_from}
-use Rattle.demand_test.specs.EndTables.{ending_at, first_end, next_end, IsEndTable, failing_in}
+use Rattle.slot_core.specs.Feasibility.Sporadics.{sporadic_demand}
+use Rattle.slot_core.specs.Feasibility.Feasible.{declared_within, window_demand, failing_window, first_some, first_failing_from}
+use Rattle.demand_test.specs.declared.ends.Ends.{Ends}
+use Rattle.demand_test.specs.EndTables.{first_end, next_end, ending_by, HasBlocks, ArePassed, AreEnds, AreReadable, needed_in, failing_in}
 use Rattle.slot_facts.proofs.Demand.Arrivals.{sporadic_demand-shifted_to_zero}
 use Rattle.slot_facts.proofs.Demand.Feasible.{fits-from_first_failing}
+use Rattle.slot_facts.proofs.Demand.OneSlot.{sporadic_demand-later}
 use Rattle.slot_facts.proofs.Lists.FirstSome.{first_some-agree}
-use Rattle.slot_facts.proofs.Lists.Sums.{sum_by-agree, sum_by-none, sum_by-plus}
-
--- the declared slots of the jobs whose end is at most b
-ending_by : (Job → ℕ) → List Job → ℕ → ℕ
-ending_by end jobs b = sum_by (λ (j : Job). if nat_le (end j) b then j.declared else 0) jobs
-
--- by the first end, and by one end more
-by_zero : (e d : ℕ) → (if e == 0 then d else 0) ≡ (if nat_le e 0 then d else 0)
-by_zero e d = grind (arith, nat_tests)
-
-by_more : (e d b : ℕ) → (if nat_le e b then d else 0) + (if e == b + 1 then d else 0) ≡ (if nat_le e (b + 1) then d else 0)
-by_more e d b = grind (arith, nat_tests)
-
-ending_by-zero : (end : Job → ℕ) (jobs : List Job) → ending_at end jobs 0 ≡ ending_by end jobs 0
-unfolding ending_by
-ending_by-zero end jobs =
-    sum_by-agree (λ (j : Job). if end j == 0 then j.declared else 0) (λ (j : Job). if nat_le (end j) 0 then j.declared else 0) jobs (λ k d low. by_zero (end (get_or jobs k d)) (get_or jobs k d).declared)
-
-ending_by-more : (end : Job → ℕ) (jobs : List Job) (b : ℕ) → ending_by end jobs b + ending_at end jobs (b + 1) ≡ ending_by end jobs (b + 1)
-unfolding ending_by
-ending_by-more end jobs b =
-    sum_by-plus
-    (λ (j : Job). if nat_le (end j) b then j.declared else 0)
-    (λ (j : Job). if end j == b + 1 then j.declared else 0)
-    (λ (j : Job). if nat_le (end j) (b + 1) then j.declared else 0)
-    jobs
-    (λ j. by_more (end j) j.declared b)
-
--- what begins to count up to an end is what is due by it
-sum_take-IsEndTable : (first next : List Job) (cycle : ℕ) (due : List ℕ) → IsEndTable first next cycle due → (b : ℕ) → b ≤ 2 * cycle → sum (take (b + 1) due) ≡ ending_by first_end first b + ending_by (next_end cycle) next b
-sum_take-IsEndTable first next cycle due h zero low =
-    let len = h.len in
-    let step = sum_by_more (λ x. x) due 0 0 (omega arith) in
-    omega (arith, h.ends 0 low, ending_by-zero first_end first, ending_by-zero (next_end cycle) next)
-sum_take-IsEndTable first next cycle due h (suc b) low =
-    let len = h.len in
-    let before = sum_take-IsEndTable first next cycle due h b (omega arith) in
-    let step = sum_by_more (λ x. x) due (b + 1) 0 (omega arith) in
-    let here = h.ends (b + 1) (omega arith) in
-    let one = ending_by-more first_end first b in
-    let two = ending_by-more (next_end cycle) next b in
-    let same : suc b ≡ b + 1 = omega arith in
-    rw same (omega arith)
+use Rattle.slot_facts.proofs.Lists.Sums.{sum_by-agree, sum_by-none}
+use Rattle.demand_test.proofs.ArrivalsGrow.{sporadic_demand-grows}
+use Rattle.demand_test.proofs.EndSums.{ending_by-rises, ending_by-le, ending_by-parts, ending_by-twice}
 
 -- of jobs in the order of their starts, the rest starts at a or later, and those before it start before a
-pub record IsStart (jobs rest : List Job) (a : ℕ) : Type 0 where
-  pub started : ℕ
+pub record IsStart (jobs rest : List Job) (a started : ℕ) : Type 0 where
   pub rest_is : rest ≡ drop started jobs
   pub within : started ≤ length jobs
   pub before : AllWithin (λ (j : Job). j.est < a) jobs 0 started
   pub later : AllWithin (λ (j : Job). a ≤ j.est) jobs started (length jobs)
 
 -- past the jobs at the front of the rest that start by a, all start later
-pub later-IsStart : (jobs rest : List Job) (a n : ℕ) → IsNonDecreasingBy (λ (j : Job). j.est) jobs → (h : IsStart jobs rest a) → n ≡ prefix_len (λ (j : Job). nat_le j.est a) rest → AllWithin (λ (j : Job). a + 1 ≤ j.est) jobs (h.started + n) (length jobs)
-later-IsStart jobs rest a n ordered start count = λ k d from upto.
+later-IsStart : (jobs rest : List Job) (a p n : ℕ) → IsNonDecreasingBy (λ (j : Job). j.est) jobs → IsStart jobs rest a p → n ≡ prefix_len (λ (j : Job). nat_le j.est a) rest → AllWithin (λ (j : Job). a + 1 ≤ j.est) jobs (p + n) (length jobs)
+later-IsStart jobs rest a p n ordered start count = λ k d from upto.
     let starts = λ (j : Job). nat_le j.est a in
-    let p = start.started in
     let left = ap length start.rest_is in
     let len = length-drop p jobs in
     let stops : nat_le (get_or rest n d).est a ≡ false = rw count (prefix_len_stops starts rest d (omega arith)) in
@@ -84,16 +46,14 @@ later-IsStart jobs rest a n ordered start count = λ k d from upto.
     omega arith
 
 -- the rest after the jobs that start by a
-pub IsStart-next : (jobs rest later : List Job) (a n : ℕ) → IsNonDecreasingBy (λ (j : Job). j.est) jobs → IsStart jobs rest a → n ≡ prefix_len (λ (j : Job). nat_le j.est a) rest → later ≡ drop n rest → IsStart jobs later (a + 1)
-IsStart-next jobs rest later a n ordered start count back =
+pub IsStart-next : (jobs rest later : List Job) (a p n : ℕ) → IsNonDecreasingBy (λ (j : Job). j.est) jobs → IsStart jobs rest a p → n ≡ prefix_len (λ (j : Job). nat_le j.est a) rest → later ≡ drop n rest → IsStart jobs later (a + 1) (p + n)
+IsStart-next jobs rest later a p n ordered start count back =
     let starts = λ (j : Job). nat_le j.est a in
-    let p = start.started in
     let fit = prefix_len-le-length starts rest in
     let left = ap length start.rest_is in
     let len = length-drop p jobs in
     let within = start.within in
     record {
-      started = p + n;
       rest_is = back ∙ ap (drop n) start.rest_is ∙ drop-drop n p jobs;
       within = omega arith;
       before = λ k d from upto.
@@ -107,16 +67,8 @@ IsStart-next jobs rest later a n ordered start count back =
                 let same = ap (λ (j : Job). j.est) (at ∙ ap (λ i. get_or jobs i d) place) in
                 omega arith
           ];
-      later = later-IsStart jobs rest a n ordered start count;
+      later = later-IsStart jobs rest a p n ordered start count;
     }
-
--- where none of the rest starts by a, no job starts at a
-pub quiet-IsStart : (jobs rest : List Job) (a : ℕ) → IsNonDecreasingBy (λ (j : Job). j.est) jobs → IsStart jobs rest a → 0 ≡ prefix_len (λ (j : Job). nat_le j.est a) rest → All (λ (j : Job). j.est ≢ a) jobs
-quiet-IsStart jobs rest a ordered start none = λ k d low.
-    elim (cases_lt k start.started) [
-      | inl front ↦ let early = start.before k d (omega arith) front in omega arith
-      | inr past ↦ let late = later-IsStart jobs rest a 0 ordered start none k d (omega arith) low in omega arith
-    ]
 
 -- the first jobs, which start before a, do not count from a on, and the others all do
 before_start : (est a dl b d : ℕ) → est < a → (if nat_le a (est + 0) && nat_le (dl + 0) b then d else 0) ≡ 0
@@ -125,10 +77,10 @@ before_start est a dl b d low = grind (arith, nat_tests)
 after_start : (est a dl b d : ℕ) → a ≤ est → (if nat_le a (est + 0) && nat_le (dl + 0) b then d else 0) ≡ (if nat_le dl b then d else 0)
 after_start est a dl b d low = grind (arith, nat_tests)
 
-declared_within-IsStart : (jobs rest : List Job) (a b : ℕ) → IsStart jobs rest a → declared_within jobs 0 a b ≡ ending_by first_end rest b
+declared_within-IsStart : (jobs rest : List Job) (a p b : ℕ) → IsStart jobs rest a p → declared_within jobs 0 a b ≡ ending_by first_end rest b
 unfolding ending_by
-declared_within-IsStart jobs rest a b start =
-    let n = start.started in
+declared_within-IsStart jobs rest a p b start =
+    let n = p in
     let f = λ (j : Job). if nat_le a (j.est + 0) && nat_le (j.dl + 0) b then j.declared else 0 in
     let g = λ (j : Job). if nat_le j.dl b then j.declared else 0 in
     let within = start.within in
@@ -141,13 +93,13 @@ declared_within-IsStart jobs rest a b start =
     omega (arith, sum_by-take-drop f jobs n, ap (sum_by g) start.rest_is)
 
 -- all jobs of the next cycle start at a or later, and count in the windows that end past the first cycle
-next_past : (est dl a b cycle d : ℕ) → a < cycle → cycle < b → (if nat_le a (est + cycle) && nat_le (dl + cycle) b then d else 0) ≡ (if nat_le (max (dl + cycle) (cycle + 1)) b then d else 0)
+next_past : (est dl a b cycle d : ℕ) → a ≤ cycle → cycle < b → (if nat_le a (est + cycle) && nat_le (dl + cycle) b then d else 0) ≡ (if nat_le (max (dl + cycle) (cycle + 1)) b then d else 0)
 next_past est dl a b cycle d low past = grind (arith, nat_tests)
 
 next_not_past : (dl b cycle d : ℕ) → b ≤ cycle → (if nat_le (max (dl + cycle) (cycle + 1)) b then d else 0) ≡ 0
 next_not_past dl b cycle d within = grind (arith, nat_tests)
 
-declared_within-next : (jobs : List Job) (cycle a b : ℕ) → a < cycle → (if nat_lt cycle b then declared_within jobs cycle a b else 0) ≡ ending_by (next_end cycle) jobs b
+declared_within-next : (jobs : List Job) (cycle a b : ℕ) → a ≤ cycle → (if nat_lt cycle b then declared_within jobs cycle a b else 0) ≡ ending_by (next_end cycle) jobs b
 unfolding ending_by
 declared_within-next jobs cycle a b low =
     let f = λ (j : Job). if nat_le a (j.est + cycle) && nat_le (j.dl + cycle) b then j.declared else 0 in
@@ -157,15 +109,39 @@ declared_within-next jobs cycle a b low =
       | inr within ↦ rw (le-ltb cycle b within) (sym (sum_by-none g jobs (λ k d _. next_not_past (get_or jobs k d).dl b cycle (get_or jobs k d).declared within)))
     ]
 
--- the sums of the table are the offline demand
-pub offline-IsEndTable : (jobs rest : List Job) (cycle a : ℕ) (due : List ℕ) → IsEndTable rest jobs cycle due → IsStart jobs rest a → a < cycle → (b : ℕ) → b ≤ 2 * cycle → sum (take (b + 1) due) ≡ declared_within jobs 0 a b + (if nat_lt cycle b then declared_within jobs cycle a b else 0)
-offline-IsEndTable jobs rest cycle a due h start low b high =
+-- so the demand of a window is what is due by its end of the jobs that start at its start or later, and the arrivals
+pub window_demand-IsStart : (jobs rest : List Job) (ss : List Sporadic) (cycle a p b : ℕ) → IsStart jobs rest a p → a ≤ cycle → window_demand jobs ss cycle a b ≡ ending_by first_end rest b + ending_by (next_end cycle) jobs b + sporadic_demand ss [] a b
+window_demand-IsStart jobs rest ss cycle a p b start low =
+    omega (arith, declared_within-IsStart jobs rest a p b start, declared_within-next jobs cycle a b low)
+
+-- a longer window from a start needs no less
+pub window_demand-rises : (jobs rest : List Job) (ss : List Sporadic) (cycle a p b c : ℕ) → IsStart jobs rest a p → a ≤ cycle → b ≤ c → window_demand jobs ss cycle a b ≤ window_demand jobs ss cycle a c
+window_demand-rises jobs rest ss cycle a p b c start low later =
     omega (
       arith,
-      sum_take-IsEndTable rest jobs cycle due h b high,
-      declared_within-IsStart jobs rest a b start,
-      declared_within-next jobs cycle a b low,
+      window_demand-IsStart jobs rest ss cycle a p b start low,
+      window_demand-IsStart jobs rest ss cycle a p c start low,
+      ending_by-rises first_end rest b c later,
+      ending_by-rises (next_end cycle) jobs b c later,
+      sporadic_demand-grows ss a b c later,
     )
+
+-- the window from the next start to the same end needs the slots no more of the jobs that started and are due by it
+pub window_demand-next : (jobs rest others : List Job) (ss : List Sporadic) (cycle a p n b : ℕ) → IsStart jobs rest a p → IsStart jobs others (a + 1) (p + n) → others ≡ drop n rest → a < cycle → window_demand jobs ss cycle (a + 1) b + ending_by first_end (take n rest) b ≤ window_demand jobs ss cycle a b
+window_demand-next jobs rest others ss cycle a p n b start next back low =
+    omega (
+      arith,
+      window_demand-IsStart jobs rest ss cycle a p b start (omega arith),
+      window_demand-IsStart jobs others ss cycle (a + 1) (p + n) b next (omega arith),
+      ending_by-parts first_end rest n b,
+      ap (λ xs. ending_by first_end xs b) back,
+      sporadic_demand-later ss [] a (a + 1) b (omega arith),
+    )
+
+-- a window with slots for its demand does not fail
+pub none-from_fits : (jobs : List Job) (ss : List Sporadic) (cycle a b : ℕ) → window_demand jobs ss cycle a b ≤ b - a → failing_window jobs ss cycle a b ≡ None
+none-from_fits jobs ss cycle a b fits =
+    rw (le-ltb (b - a) (window_demand jobs ss cycle a b) fits) refl
 
 -- where no window from an earlier start fails, the arrivals from a on need what those from 0 on need
 arrivals-from_zero : (jobs : List Job) (ss : List Sporadic) (cycle a b : ℕ) → ((k : ℕ) → k < a → first_failing_from jobs ss cycle k ≡ None) → a ≤ b → b ≤ 2 * cycle → 0 < cycle → sporadic_demand ss [] a b ≡ sporadic_demand ss [] 0 (b - a)
@@ -183,57 +159,105 @@ arrivals-from_zero jobs ss cycle (suc a) b none low high positive =
     (omega arith)
     (λ x some most. omega (arith, fits-from_first_failing jobs ss cycle 0 (none 0 (omega arith)) x some most))
 
--- the tables at a start: the ends of the jobs that start at a or later, the arrivals, and no failing window
--- from an earlier start
-pub record AreTables (jobs rest : List Job) (ss : List Sporadic) (cycle a : ℕ) (due arrivals : List ℕ) : Type 0 where
-  pub ends : IsEndTable rest jobs cycle due
-  pub start : IsStart jobs rest a
+-- the tables at a start: the ends of the jobs, of which those that start before are passed, the arrivals, and no
+-- failing window from an earlier start
+pub record AreTables (jobs rest : List Job) (ss : List Sporadic) (cycle a : ℕ) (ends : Ends) (arrivals : List ℕ) : Type 0 where
+  pub started : ℕ
+  pub start : IsStart jobs rest a started
+  pub passed : AreEnds jobs (take started jobs) cycle ends
   pub needs : arrivals ≡ map (λ x. sporadic_demand ss [] 0 x) (range_with_len 0 (2 * cycle + 1))
   pub none : (k : ℕ) → k < a → first_failing_from jobs ss cycle k ≡ None
 
-window_demand-AreTables : (jobs rest : List Job) (ss : List Sporadic) (cycle a : ℕ) (due arrivals : List ℕ) → AreTables jobs rest ss cycle a due arrivals → a < cycle → (b : ℕ) → a < b → b ≤ 2 * cycle → sum (take (b + 1) due) + get_or arrivals (b - a) 0 ≡ window_demand jobs ss cycle a b
-window_demand-AreTables jobs rest ss cycle a due arrivals h start b low high =
+-- the tables at the next start, where no window from this one fails and the jobs that start at it are passed
+abbrev pub AreTables-next : (jobs rest front others : List Job) (ss : List Sporadic) (cycle a n : ℕ) (ends later : Ends) (arrivals : List ℕ) → IsNonDecreasingBy (λ (j : Job). j.est) jobs → AreTables jobs rest ss cycle a ends arrivals → n ≡ prefix_len (λ (j : Job). nat_le j.est a) rest → front ≡ take n rest → others ≡ drop n rest → ArePassed ends later (ending_by first_end front) → first_failing_from jobs ss cycle a ≡ None → AreTables jobs others ss cycle (a + 1) later arrivals
+AreTables-next jobs rest front others ss cycle a n ends later arrivals ordered h count at_front back moved here =
+    let start = h.start in
+    let inner = h.passed.blocks.inner in
+    record {
+      started = h.started + n;
+      start = IsStart-next jobs rest others a h.started n ordered start count back;
+      passed = record {
+        len = ap length moved.sums ∙ h.passed.len;
+        blocks = record {
+          inner = moved.inner ∙ h.passed.blocks.inner;
+          blocks = moved.blocks ∙ h.passed.blocks.blocks;
+        };
+        sums = λ b low. ap (λ xs. get_or xs b 0) moved.sums ∙ h.passed.sums b low;
+        passed = λ b low.
+            omega (
+              arith,
+              moved.more b (omega arith),
+              h.passed.passed b low,
+              ap (λ xs. ending_by first_end xs b) at_front,
+              ending_by-twice first_end jobs rest h.started n b start.rest_is,
+            );
+      };
+      needs = h.needs;
+      none = below_more (λ k. first_failing_from jobs ss cycle k ≡ None) a h.none here;
+    }
+
+-- the tables at slot 0
+pub AreTables-first : (jobs : List Job) (ss : List Sporadic) (cycle : ℕ) (ends : Ends) (arrivals : List ℕ) → AreEnds jobs [] cycle ends → arrivals ≡ map (λ x. sporadic_demand ss [] 0 x) (range_with_len 0 (2 * cycle + 1)) → AreTables jobs jobs ss cycle 0 ends arrivals
+AreTables-first jobs ss cycle ends arrivals h needs =
+    record {
+      started = 0;
+      start = record {
+        rest_is = refl;
+        within = omega arith;
+        before = λ k d from upto. absurd (omega arith);
+        later = λ k d from upto. omega arith;
+      };
+      passed = h;
+      needs = needs;
+      none = λ k low. absurd (omega arith);
+    }
+
+-- what the tables say that a window needs is its demand
+pub needed_in-AreTables : (jobs rest : List Job) (ss : List Sporadic) (cycle a : ℕ) (ends : Ends) (arrivals : List ℕ) → AreTables jobs rest ss cycle a ends arrivals → a < cycle → (b : ℕ) → a < b → b ≤ 2 * cycle → needed_in ends arrivals a b ≡ window_demand jobs ss cycle a b
+needed_in-AreTables jobs rest ss cycle a ends arrivals h start b low high =
     let at : get_or arrivals (b - a) 0 ≡ sporadic_demand ss [] 0 (b - a) = ap (λ xs. get_or xs (b - a) 0) h.needs ∙ get_or-map-range_with_len (λ x. sporadic_demand ss [] 0 x) 0 (2 * cycle + 1) (b - a) (b - a) 0 (omega arith) (omega arith) in
     omega (
       arith,
-      offline-IsEndTable jobs rest cycle a due h.ends h.start start b high,
+      h.passed.sums b high,
+      h.passed.passed b high,
+      ending_by-parts first_end jobs h.started b,
+      ap (λ xs. ending_by first_end xs b) h.start.rest_is,
+      window_demand-IsStart jobs rest ss cycle a h.started b h.start (omega arith),
       arrivals-from_zero jobs ss cycle a b h.none (omega arith) high (omega arith),
     )
 
--- where the sums of tables are the demand of the windows from a start, the search in the tables is the
--- search among those windows
+-- the tables can be read
+pub AreReadable-from_AreTables : (jobs rest : List Job) (ss : List Sporadic) (cycle a : ℕ) (ends : Ends) (arrivals : List ℕ) → AreTables jobs rest ss cycle a ends arrivals → cycle ≤ SLOT_LIMIT → sum_by (λ (j : Job). j.declared) jobs ≤ cycle → AreReadable ends
+AreReadable-from_AreTables jobs rest ss cycle a ends arrivals h small few =
+    let len = h.passed.len in
+    let last : length ends.sums.items - 1 ≡ 2 * cycle = omega arith in
+    record {
+      blocks = subst (HasBlocks ends) (sym last) h.passed.blocks;
+      fewer = λ b low.
+          omega (
+            arith,
+            h.passed.sums b (omega arith),
+            h.passed.passed b (omega arith),
+            ending_by-parts first_end jobs h.started b,
+          );
+      small = λ b low.
+          omega (
+            arith,
+            h.passed.sums b (omega arith),
+            ending_by-le first_end jobs b,
+            ending_by-le (next_end cycle) jobs b,
+          );
+    }
+
+-- the search in the tables is the search among the windows
 abbrev window : ℕ → ℕ → ℕ → Window
 window a b needed = record { from = a; until = b; demand = needed }
 
-pub first_failing_from-sums : (jobs : List Job) (ss : List Sporadic) (cycle a : ℕ) (due arrivals : List ℕ) → length due ≡ 2 * cycle + 1 → a < cycle → ((b : ℕ) → a < b → b ≤ 2 * cycle → sum (take (b + 1) due) + get_or arrivals (b - a) 0 ≡ window_demand jobs ss cycle a b) → first_some (failing_in due arrivals a) (range_with_len (a + 1) (length due - 1 - a)) ≡ first_failing_from jobs ss cycle a
-first_failing_from-sums jobs ss cycle a due arrivals len start sums =
-    let count : length due - 1 - a ≡ 2 * cycle - a = omega arith in
-    rw count (first_some-agree (failing_in due arrivals a) (failing_window jobs ss cycle a) (a + 1) (2 * cycle - a) (λ b low high.
+pub first_failing_from-AreTables : (jobs rest : List Job) (ss : List Sporadic) (cycle a : ℕ) (ends : Ends) (arrivals : List ℕ) → AreTables jobs rest ss cycle a ends arrivals → a < cycle → first_some (failing_in ends arrivals a) (range_with_len (a + 1) (length ends.sums.items - 1 - a)) ≡ first_failing_from jobs ss cycle a
+first_failing_from-AreTables jobs rest ss cycle a ends arrivals h start =
+    let len = h.passed.len in
+    let count : length ends.sums.items - 1 - a ≡ 2 * cycle - a = omega arith in
+    rw count (first_some-agree (failing_in ends arrivals a) (failing_window jobs ss cycle a) (a + 1) (2 * cycle - a) (λ b low high.
     ap
     (λ (needed : ℕ). if nat_lt (b - a) needed then Some (window a b needed) else None)
-    (sums b (omega arith) (omega arith))))
-
-pub first_failing_from-AreTables : (jobs rest : List Job) (ss : List Sporadic) (cycle a : ℕ) (due arrivals : List ℕ) → AreTables jobs rest ss cycle a due arrivals → a < cycle → first_some (failing_in due arrivals a) (range_with_len (a + 1) (length due - 1 - a)) ≡ first_failing_from jobs ss cycle a
-first_failing_from-AreTables jobs rest ss cycle a due arrivals h start =
-    first_failing_from-sums jobs ss cycle a due arrivals h.ends.len start (window_demand-AreTables jobs rest ss cycle a due arrivals h start)
-
--- the whole table sums to little
-sum-IsEndTable-le : (first next : List Job) (cycle m : ℕ) (due : List ℕ) → IsEndTable first next cycle due → sum_by (λ (j : Job). j.declared) first ≤ m → sum_by (λ (j : Job). j.declared) next ≤ m → sum due ≤ 2 * m
-unfolding ending_by
-sum-IsEndTable-le first next cycle m due h few_first few_next =
-    let len = h.len in
-    let whole = ap sum (take_all (2 * cycle + 1) due (omega arith)) in
-    let most = λ (end : Job → ℕ) (jobs : List Job). sum_by-le-sum_by (λ (j : Job). if nat_le (end j) (2 * cycle) then j.declared else 0) (λ (j : Job). j.declared) jobs (λ j. part (nat_le (end j) (2 * cycle)) j.declared) in
-    omega (arith, sum_take-IsEndTable first next cycle due h (2 * cycle) (omega arith), most first_end first, most (next_end cycle) next)
-  where
-    part : (test : Bool) (n : ℕ) → (if test then n else 0) ≤ n
-    part true n = omega arith
-    part false n = omega arith
-
--- and so does the table at a start
-pub sum-IsStart-le : (jobs rest : List Job) (cycle a m : ℕ) (due : List ℕ) → IsEndTable rest jobs cycle due → IsStart jobs rest a → sum_by (λ (j : Job). j.declared) jobs ≤ m → sum due ≤ 2 * m
-sum-IsStart-le jobs rest cycle a m due ends start few =
-    let declared = λ (j : Job). j.declared in
-    let left = sum_by-take-drop declared jobs start.started in
-    let same = ap (sum_by declared) start.rest_is in
-    sum-IsEndTable-le rest jobs cycle m due ends (omega arith) few
+    (needed_in-AreTables jobs rest ss cycle a ends arrivals h start b (omega arith) (omega arith))))

@@ -2,7 +2,7 @@
 
 ghost use Rattle.std.specs.Prelude.{◌≡◌, ◌+◌, ◌-◌, ◌*◌, ◌^◌, ◌<◌, ◌≤◌, [], All, IfOk, MatchOption, map};
 ghost use Rattle.std.specs.List.{range_with_len};
-ghost use Rattle.slot_core.specs.Sporadics.{arrivals_due, sporadic_demand};
+ghost use Rattle.slot_core.specs.Feasibility.Sporadics.{arrivals_due, sporadic_demand};
 
 use slot_core::{List, Memory, Sporadic};
 use std::alloc::Global;
@@ -11,7 +11,7 @@ use std::alloc::Global;
 const DEMAND_LIMIT: u64 = 1 << 63;
 
 /// How many arrivals from slot 0 on, each a separation after the one before, are due by `end`.
-fn arrivals_by(task: &Sporadic, end: u32) -> u64
+pub fn arrivals_by(task: &Sporadic, end: u32) -> u64
     ensures { result ≡ arrivals_due task.now 0 0 end }
 {
     if task.deadline > end {

@@ -5,17 +5,19 @@ ghost use Rattle.std.specs.Prelude.{◌≡◌, ◌≤◌, true, All, IfOk};
 ghost use Rattle.slot_core.specs.declared.TheConstants.{SLOT_LIMIT};
 ghost use Rattle.slot_core.specs.declared.jobs.Job.{Job};
 ghost use Rattle.slot_core.specs.declared.tasks.TaskSet.{TaskSet};
-ghost use Rattle.slot_core.specs.Cycles.{cycle_of};
-ghost use Rattle.slot_core.specs.Feasible.{demand, window_demand, counterexample_in};
-ghost use Rattle.slot_core.specs.Ranges.{is_sound};
+ghost use Rattle.slot_core.specs.Sets.Cycles.{cycle_of};
+ghost use Rattle.slot_core.specs.Feasibility.Feasible.{demand, window_demand, counterexample_in};
+ghost use Rattle.slot_core.specs.Sets.Ranges.{is_sound};
 ghost use Rattle.demand_test.specs.Verdicts.{verdict_of, AreOfSet, MeansSchedules};
 
 mod arrivals;
+mod ends;
 mod offline;
 #[cfg(test)]
 mod tests;
 mod windows;
 
+pub use arrivals::arrivals_by;
 use arrivals::needed_by;
 use offline::offline_slots;
 use slot_core::{Job, Memory, Sporadic, TaskSet, Window};

@@ -3,7 +3,7 @@
 ghost use Rattle.std.specs.Prelude.{◌≡◌, ◌^◌, ◌<◌, ◌≤◌, true, All, length, sum_by};
 ghost use Rattle.slot_core.specs.declared.TheConstants.{GRAPH_LIMIT};
 ghost use Rattle.slot_core.specs.declared.tasks.Task.{Task};
-ghost use Rattle.slot_core.specs.Ranges.{graph_in_range};
+ghost use Rattle.slot_core.specs.Sets.Ranges.{graph_in_range};
 ghost use Rattle.demand_test.specs.Totals.{graph_work};
 
 use slot_core::{Graph, Task};

@@ -1,49 +1,24 @@
 //! The search for a window with more demand than slots.
 
-ghost use Rattle.std.specs.Prelude.{◌≡◌, ℕ, ◌+◌, ◌-◌, ◌*◌, ◌^◌, ◌<◌, ◌≤◌, [], All, IfOk, drop, is_none, length, nat_le, sum, sum_by, slice_index};
+ghost use Rattle.std.specs.Prelude.{◌≡◌, ℕ, ◌+◌, ◌-◌, ◌*◌, ◌^◌, ◌<◌, ◌≤◌, ◌↔◌, All, IfOk, IsTrue, length, max, nat_le, sum_by, slice_index};
 ghost use Rattle.std.specs.List.{prefix_len, range_with_len};
 ghost use Rattle.std.specs.List.Sorted.{IsNonDecreasingBy};
 ghost use Rattle.slot_core.specs.declared.TheConstants.{SLOT_LIMIT};
 ghost use Rattle.slot_core.specs.declared.jobs.Job.{Job};
-ghost use Rattle.slot_core.specs.Feasible.{first_some, first_failing_from};
-ghost use Rattle.demand_test.specs.EndTables.{ending_at, first_end, next_end, raised, IsEndTable, failing_in};
+ghost use Rattle.slot_core.specs.Feasibility.Feasible.{first_some, first_failing_from};
+ghost use Rattle.demand_test.specs.EndTables.{first_end, ending_by, needed_in, failing_in, AreReadable, HasSpare};
 
 use crate::arrivals::needed_table;
+use crate::ends::Ends;
 use slot_core::{Job, Memory, Sporadic, Window};
 use std::alloc::Global;
 
-/// Adds the declared slots of a job at its ends: its deadline in the first cycle, and its deadline
-/// in the next, past the end of the first.
-fn count_job(due: &mut [u64], job: &Job, cycle: usize)
-    requires positive { 0 < cycle }
-    requires len { length due.old ≡ 2 * cycle + 1 }
-    requires within { job.now.dl ≤ cycle }
-    requires small { All (λ n. n < 2 ^ 63) due.old }
-    ensures { due.new ≡ raised
-        (raised due.old (first_end job.now) job.now.declared)
-        (next_end cycle job.now) job.now.declared }
-{
-    let end = job.dl as usize;
-    let next = (end + cycle).max(cycle + 1);
-    due[end] += u64::from(job.declared);
-    due[next] += u64::from(job.declared);
-}
-
-/// For each end, 0 to two cycles, the slots of the jobs of the first cycle and of the next that
-/// begin to count there.
-fn due_table(alloc: Global, jobs: &[Job], cycle: u32) -> Result<Vec<u64>, Memory>
-    requires positive { 0 < cycle }
-    requires cycle { cycle ≤ SLOT_LIMIT }
-    requires within { All (λ (j : Job). j.dl ≤ cycle) jobs.now }
-    requires few { sum_by (λ (j : Job). j.declared) jobs.now ≤ cycle }
-    ensures { IfOk result (λ due. IsEndTable jobs.now jobs.now cycle due.items) }
-{
-    let length = cycle as usize;
-    let mut due = vec![in alloc; 0u64; 2 * length + 1]?;
-    for job in jobs {
-        count_job(&mut due, job, length);
-    }
-    Ok(due)
+/// What is known of the windows from one start: those that end after `after` have at least `spare`
+/// slots more than they need.
+#[derive(Clone, Copy)]
+struct Known {
+    after: usize,
+    spare: u64,
 }
 
 /// The number of jobs at the front that start by `from`.
@@ -56,47 +31,44 @@ fn count_started(jobs: &[Job], from: u32) -> usize
         .count()
 }
 
-/// Takes the first `count` jobs of the first cycle out of the table, and gives the others.
-fn take_out<'a>(due: &mut [u64], jobs: &'a [Job], count: usize) -> &'a [Job]
-    requires count { count ≤ length jobs.now }
-    requires within { All (λ (j : Job). j.dl < length due.old) jobs.now }
-    requires counted { (b : ℕ)
-        → b < length due.old
-        → ending_at first_end jobs.now b ≤ slice_index due.old b }
-    ensures others { result.now ≡ drop count jobs.now }
-    ensures table { (b : ℕ) → slice_index due.new b + ending_at first_end jobs.now b
-        ≡ slice_index due.old b + ending_at first_end result.now b }
+/// Whether no window from `from` that ends by `last` fails. A longer window needs no less, so where
+/// the need of one fits it, each shorter one that has so many slots fits too: the next to look at
+/// is the longest that has fewer.
+fn fits_by(ends: &Ends, arrivals: &[u64], from: usize, last: usize) -> bool
+    requires last { last < length ends.now.sums.items }
+    requires same { length arrivals.now ≡ length ends.now.sums.items }
+    requires readable { AreReadable ends.now }
+    requires small { All (λ n. n < 2 ^ 63) arrivals.now }
+    requires rising { (b c : ℕ) → from < b → b ≤ c → c ≤ last
+        → needed_in ends.now arrivals.now from b ≤ needed_in ends.now arrivals.now from c }
+    ensures { IsTrue result ↔ ((b : ℕ) → from < b → b ≤ last
+        → needed_in ends.now arrivals.now from b ≤ b - from) }
 {
-    let (first, others) = jobs.split_at(count);
-    for job in first {
-        due[job.dl as usize] -= u64::from(job.declared);
+    let mut until = last;
+    while until > from {
+        let slots = until - from;
+        let needed = ends.due_by(until) + arrivals[slots];
+        if needed > slots as u64 {
+            return false;
+        }
+        until = (from + needed as usize).min(until - 1);
     }
-    others
+    true
 }
 
-/// The sum of the numbers.
-fn sum_of(numbers: &[u64]) -> u64
-    requires { sum numbers.now < 2 ^ 64 }
-    ensures { result ≡ sum numbers.now }
-{
-    numbers.iter().sum()
-}
-
-/// The failing window of least end that starts at `from`, or none.
-fn failing_from(due: &[u64], arrivals: &[u64], from: usize) -> Option<Window>
-    requires within { from < length due.now }
-    requires same { length arrivals.now ≡ length due.now }
-    requires few { sum due.now < 2 ^ 63 }
+/// The failing window of least end from `from`, or none: every end is tried.
+fn first_by_ends(ends: &Ends, arrivals: &[u64], from: usize) -> Option<Window>
+    requires from { from < length ends.now.sums.items }
+    requires same { length arrivals.now ≡ length ends.now.sums.items }
+    requires readable { AreReadable ends.now }
     requires small { All (λ n. n < 2 ^ 63) arrivals.now }
     ensures { result ≡ first_some
-        (failing_in due.now arrivals.now from)
-        (range_with_len (from + 1) (length due.now - 1 - from)) }
+        (failing_in ends.now arrivals.now from)
+        (range_with_len (from + 1) (length ends.now.sums.items - 1 - from)) }
 {
-    let mut sum = sum_of(&due[..from + 1]);
-    for until in from + 1..due.len() {
-        sum += due[until];
+    for until in from + 1..arrivals.len() {
         let slots = until - from;
-        let needed = sum + arrivals[slots];
+        let needed = ends.due_by(until) + arrivals[slots];
         if (slots as u64) < needed {
             return Some(Window {
                 from: from as u64,
@@ -108,84 +80,101 @@ fn failing_from(due: &[u64], arrivals: &[u64], from: usize) -> Option<Window>
     None
 }
 
-/// Whether no window that starts at `start` fails, where no arrivals come.
-fn fits_from(due: &[u64], start: usize) -> bool
-    requires within { start < length due.now }
-    requires few { sum due.now < 2 ^ 63 }
-    ensures { result ≡ is_none (first_some
-        (failing_in due.now [] start)
-        (range_with_len (start + 1) (length due.now - 1 - start))) }
+/// The failing window of least end from `from`, or none, where no window from `from` that ends after
+/// `last` fails.
+fn failing_from(ends: &Ends, arrivals: &[u64], from: usize, last: usize) -> Option<Window>
+    requires from { from < length ends.now.sums.items }
+    requires last { last < length ends.now.sums.items }
+    requires same { length arrivals.now ≡ length ends.now.sums.items }
+    requires readable { AreReadable ends.now }
+    requires small { All (λ n. n < 2 ^ 63) arrivals.now }
+    requires rising { (b c : ℕ) → from < b → b ≤ c → c ≤ last
+        → needed_in ends.now arrivals.now from b ≤ needed_in ends.now arrivals.now from c }
+    requires known { (b : ℕ) → last < b → from < b → b < length ends.now.sums.items
+        → needed_in ends.now arrivals.now from b ≤ b - from }
+    ensures { result ≡ first_some
+        (failing_in ends.now arrivals.now from)
+        (range_with_len (from + 1) (length ends.now.sums.items - 1 - from)) }
 {
-    let mut needed = sum_of(&due[..start + 1]);
-    let rest = &due[start..];
-    for slots in 1..rest.len() {
-        needed += rest[slots];
-        if needed > slots as u64 {
-            return false;
-        }
+    if fits_by(ends, arrivals, from, last) {
+        return None;
     }
-    true
+    first_by_ends(ends, arrivals, from)
 }
 
-/// Whether no window fails, where no arrivals come. The jobs are in the order of their starts.
-fn starts_fit(alloc: Global, jobs: &[Job], cycle: u32) -> Result<bool, Memory>
-    requires positive { 0 < cycle }
-    requires cycle { cycle ≤ SLOT_LIMIT }
-    requires within { All (λ (j : Job). j.dl ≤ cycle) jobs.now }
-    requires few { sum_by (λ (j : Job). j.declared) jobs.now ≤ cycle }
-    requires ordered { IsNonDecreasingBy (λ (j : Job). j.est) jobs.now }
-    ensures { IfOk result (λ fits. fits ≡ is_none (first_some
-        (first_failing_from jobs.now [] cycle) (range_with_len 0 cycle))) }
+/// The declared slots of the jobs.
+fn slots_of(jobs: &[Job]) -> u64
+    requires { sum_by (λ (j : Job). j.declared) jobs.now < 2 ^ 64 }
+    ensures { result ≡ sum_by (λ (j : Job). j.declared) jobs.now }
 {
-    let mut due = due_table(alloc, jobs, cycle)?;
-    let mut rest = jobs;
-    for start in 0..cycle {
-        let started = count_started(rest, start);
-        // Where no job starts, a window fails only if one from the next start does.
-        if started == 0 && start + 1 < cycle {
-            continue;
-        }
-        if !fits_from(due.as_slice(), start as usize) {
-            return Ok(false);
-        }
-        rest = take_out(&mut due, rest, started);
+    jobs.iter().map(|job| u64::from(job.declared)).sum()
+}
+
+/// The latest deadline of the jobs, or `least` where it is later.
+fn latest_of(jobs: &[Job], least: usize) -> usize
+    ensures least { least ≤ result }
+    ensures among { (m : ℕ) → least ≤ m → All (λ (j : Job). j.dl ≤ m) jobs.now → result ≤ m }
+    ensures latest { All (λ (j : Job). j.dl ≤ result) jobs.now }
+{
+    let mut latest = least;
+    for job in jobs {
+        latest = latest.max(job.dl as usize);
     }
-    Ok(true)
+    latest
+}
+
+/// What is known, where no window from `from` fails: where the known windows have no slot to spare,
+/// that holds of all.
+fn held(known: Known, from: usize) -> Known
+    ensures spare { result.spare ≡ known.spare }
+    ensures after { result.after ≤ max from known.after }
+    ensures holds { (need : ℕ → ℕ) (last : ℕ)
+        → HasSpare need from last known
+        → ((b : ℕ) → from < b → b ≤ last → need b ≤ b - from)
+        → HasSpare need from last result }
+{
+    if known.spare > 0 {
+        return known;
+    }
+    Known {
+        after: from,
+        spare: 0,
+    }
+}
+
+/// What is known of the windows from the next start, where no window from `from` fails and these
+/// jobs start at `from`: a window from the next start is one slot shorter, and where it ends after
+/// the deadlines of the jobs, it needs their slots no more.
+fn next_known(known: Known, from: usize, last: usize, started: &[Job]) -> Known
+    requires after { known.after ≤ last }
+    requires from { from < last }
+    requires few { known.spare + sum_by (λ (j : Job). j.declared) started.now < 2 ^ 63 }
+    requires within { All (λ (j : Job). j.dl ≤ last) started.now }
+    ensures after { result.after ≤ last }
+    ensures few { result.spare ≤ known.spare + sum_by (λ (j : Job). j.declared) started.now }
+    ensures spare { (need next : ℕ → ℕ)
+        → HasSpare need from last known
+        → ((b : ℕ) → from < b → b ≤ last → need b ≤ b - from)
+        → ((b : ℕ) → from < b → b ≤ last
+        → next b + ending_by first_end started.now b ≤ need b)
+        → HasSpare next (from + 1) last result }
+{
+    let held = held(known, from);
+    let spare = held.spare + slots_of(started);
+    if spare == 0 {
+        return Known {
+            after: last,
+            spare: 0,
+        };
+    }
+    Known {
+        after: latest_of(started, held.after),
+        spare: spare - 1,
+    }
 }
 
 /// The failing window of least start, and then of least end, or none: every start is tried. The
 /// jobs are in the order of their starts.
-fn first_of_all_starts(
-    alloc: Global,
-    jobs: &[Job],
-    sporadics: &[Sporadic],
-    cycle: u32,
-) -> Result<Option<Window>, Memory>
-    requires positive { 0 < cycle }
-    requires cycle { cycle ≤ SLOT_LIMIT }
-    requires within { All (λ (j : Job). j.dl ≤ cycle) jobs.now }
-    requires few { sum_by (λ (j : Job). j.declared) jobs.now ≤ cycle }
-    requires ordered { IsNonDecreasingBy (λ (j : Job). j.est) jobs.now }
-    ensures { IfOk result (λ w. w ≡ first_some
-        (first_failing_from jobs.now sporadics.now cycle) (range_with_len 0 cycle)) }
-{
-    let mut due = due_table(alloc, jobs, cycle)?;
-    let needed = needed_table(alloc, sporadics, 2 * cycle)?;
-    let arrivals = needed.items();
-    let mut rest = jobs;
-    for from in 0..cycle {
-        let failing = failing_from(due.as_slice(), arrivals, from as usize);
-        if failing.is_some() {
-            return Ok(failing);
-        }
-        let started = count_started(rest, from);
-        rest = take_out(&mut due, rest, started);
-    }
-    Ok(None)
-}
-
-/// The failing window of least start, and then of least end, or none. The jobs are in the order of
-/// their starts.
 pub fn first_failing(
     alloc: Global,
     jobs: &[Job],
@@ -200,8 +189,24 @@ pub fn first_failing(
     ensures { IfOk result (λ w. w ≡ first_some
         (first_failing_from jobs.now sporadics.now cycle) (range_with_len 0 cycle)) }
 {
-    if sporadics.is_empty() && starts_fit(alloc, jobs, cycle)? {
-        return Ok(None);
+    let last = 2 * cycle as usize;
+    let needed = needed_table(alloc, sporadics, 2 * cycle)?;
+    let mut ends = Ends::of(alloc, jobs, cycle)?;
+    let arrivals = needed.items();
+    let mut known = Known {
+        after: last,
+        spare: 0,
+    };
+    let mut rest = jobs;
+    for from in 0..cycle {
+        let failing = failing_from(&ends, arrivals, from as usize, known.after);
+        if failing.is_some() {
+            return Ok(failing);
+        }
+        let (started, others) = rest.split_at(count_started(rest, from));
+        ends.pass_all(started, last);
+        known = next_known(known, from as usize, last, started);
+        rest = others;
     }
-    first_of_all_starts(alloc, jobs, sporadics, cycle)
+    Ok(None)
 }

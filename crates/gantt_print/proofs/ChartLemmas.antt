@@ -11,9 +11,9 @@ use Rattle.slot_core.specs.declared.tasks.Task.{Task}
 use Rattle.slot_core.specs.declared.tasks.Graph.{Graph}
 use Rattle.slot_core.specs.declared.tasks.Sporadic.{Sporadic}
 use Rattle.slot_core.specs.declared.tasks.TaskSet.{TaskSet}
-use Rattle.slot_core.specs.OfflineJobs.{tasks_of}
-use Rattle.slot_core.specs.Texts.{worded}
-use Rattle.slot_core.specs.Charts.{ChartRow, task_row, sporadic_row, firm_row, soft_row, chart_line, chart_of, chart_rows, graph_rows, label_width, mark_at, row_label}
+use Rattle.slot_core.specs.Offline.OfflineJobs.{tasks_of}
+use Rattle.slot_core.specs.Output.Texts.{worded}
+use Rattle.slot_core.specs.Output.Charts.{ChartRow, task_row, sporadic_row, firm_row, soft_row, chart_line, chart_of, chart_rows, graph_rows, label_width, mark_at, row_label}
 use Rattle.slot_facts.proofs.Lists.Members.{Has, Has-append_cases, Has-enumerate_from_at, Has-flat_map_cases, Has-map_cases}
 use Rattle.slot_facts.proofs.Lists.Tests.{list_all-from_Has}
 use Rattle.gantt_print.specs.Drawings.{Drawing, IsChartOf, MarkedRow, HasMarks, drawing_text, drawing_with, empty_chart, marks_with, row_line, rows_text, rows_width, unmarked, with_runs}

@@ -4,7 +4,7 @@ use Rattle.std.proofs.lemmas.Bool.Decides.{nat_tests}
 use Rattle.slot_core.specs.declared.jobs.Key.{Key}
 use Rattle.slot_core.specs.declared.events.What.{What}
 use Rattle.slot_core.specs.declared.events.What.TheVariants.{Start, Soft, Firm, Sporadic, Done, Withdraw, Run, Idle, End}
-use Rattle.slot_core.specs.Charts.{ChartRow, is_in_row, run_at}
+use Rattle.slot_core.specs.Output.Charts.{ChartRow, is_in_row, run_at}
 use Rattle.gantt_print.specs.Drawings.{MarkedRow, has_run, marks_with, with_runs}
 
 -- marks with no run at their slots stay

@@ -5,7 +5,7 @@ use Rattle.std.proofs.lemmas.Grind.{flat_map-append}
 use Rattle.std.proofs.lemmas.List.Folds.{list_any-append}
 use Rattle.slot_core.specs.declared.jobs.Key.{Key}
 use Rattle.slot_core.specs.declared.events.Entry.{Entry}
-use Rattle.slot_core.specs.Charts.{ChartRow, is_in_row, run_at, runs_of}
+use Rattle.slot_core.specs.Output.Charts.{ChartRow, is_in_row, run_at, runs_of}
 use Rattle.gantt_print.specs.Drawings.{Drawing, MarkedRow, drawing_with, has_run, marks_with, with_runs}
 
 -- no runs mark nothing

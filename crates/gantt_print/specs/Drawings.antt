@@ -3,8 +3,8 @@ use Rattle.std.specs.Prelude.{◌≡◌, ℕ, ◌+◌, ◌-◌, Bool, ◌&&◌, 
 use Rattle.std.specs.List.{list_any}
 use Rattle.slot_core.specs.declared.jobs.Key.{Key}
 use Rattle.slot_core.specs.declared.tasks.TaskSet.{TaskSet}
-use Rattle.slot_core.specs.Charts.{ChartRow, chart_rows, is_in_row, row_label}
-use Rattle.slot_core.specs.Texts.{worded}
+use Rattle.slot_core.specs.Output.Charts.{ChartRow, chart_rows, is_in_row, row_label}
+use Rattle.slot_core.specs.Output.Texts.{worded}
 
 -- a row with its marks, one a slot
 pub record MarkedRow : Type 0 where

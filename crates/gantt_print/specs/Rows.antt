@@ -1,8 +1,8 @@
 -- The rows of a chart in code.
 use Rattle.std.specs.Prelude.{Bool, true, ◌&&◌, length, nat_lt}
 use Rattle.slot_core.specs.declared.tasks.TaskSet.{TaskSet}
-use Rattle.slot_core.specs.Charts.{ChartRow, task_row, sporadic_row, firm_row, soft_row}
-use Rattle.slot_core.specs.OfflineJobs.{tasks_of}
+use Rattle.slot_core.specs.Output.Charts.{ChartRow, task_row, sporadic_row, firm_row, soft_row}
+use Rattle.slot_core.specs.Offline.OfflineJobs.{tasks_of}
 use Rattle.gantt_print.specs.declared.rows.Row.{Row}
 use Rattle.gantt_print.specs.declared.rows.Row.TheVariants.{Task, Sporadic, Firm, Soft}
 

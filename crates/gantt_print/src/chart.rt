@@ -7,9 +7,9 @@ ghost use Rattle.slot_core.specs.declared.TheConstants.{CHART_LIMIT, GRAPH_LIMIT
 ghost use Rattle.slot_core.specs.declared.tasks.Graph.{Graph};
 ghost use Rattle.slot_core.specs.declared.tasks.Sporadic.{Sporadic};
 ghost use Rattle.slot_core.specs.declared.jobs.Key.{Key};
-ghost use Rattle.slot_core.specs.Charts.{chart_of, graph_rows, sporadic_row};
-ghost use Rattle.slot_core.specs.Counts.{Rose};
-ghost use Rattle.slot_core.specs.Ranges.{is_sound};
+ghost use Rattle.slot_core.specs.Output.Charts.{chart_of, graph_rows, sporadic_row};
+ghost use Rattle.slot_core.specs.Calls.Counts.{Rose};
+ghost use Rattle.slot_core.specs.Sets.Ranges.{is_sound};
 ghost use Rattle.slot_io.specs.Sinks.{AppendsPart};
 ghost use Rattle.gantt_print.specs.Drawings.{IsChartOf, MarkedRow, drawing_text, drawing_with, empty_chart, head_line, row_line, rows_text, unmarked, with_runs};
 ghost use Rattle.gantt_print.specs.Rows.{is_row_of};
@@ -95,7 +95,7 @@ impl Chart {
 
 impl Taker for Chart {
     ghost use Rattle.std.specs.Prelude.{◌≡◌};
-    ghost use Rattle.slot_core.specs.Charts.{runs_of};
+    ghost use Rattle.slot_core.specs.Output.Charts.{runs_of};
     ghost use Rattle.gantt_print.specs.Drawings.{drawing_with};
     ghost use Rattle.gantt_print.specs.DrawingLaws.{drawing_with-more, drawing_with-none};
 

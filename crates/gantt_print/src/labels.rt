@@ -3,7 +3,7 @@
 ghost use Rattle.std.specs.Prelude.{◌≡◌, ◌≤◌, ◌+◌, ◌++◌, true, length};
 ghost use Rattle.std.specs.List.{list_all};
 ghost use Rattle.slot_core.specs.declared.TheConstants.{NAME_LIMIT};
-ghost use Rattle.slot_core.specs.Charts.{row_label, task_row};
+ghost use Rattle.slot_core.specs.Output.Charts.{row_label, task_row};
 ghost use Rattle.gantt_print.specs.Drawings.{MarkedRow, rows_width};
 ghost use Rattle.gantt_print.specs.Rows.{is_row_of, row_of};
 

@@ -4,7 +4,7 @@
 mod chart;
 mod labels;
 mod rows;
-#[cfg(test)]
-mod tests;
 
 pub use chart::Chart;
+pub use labels::push_label;
+pub use rows::Row;

@@ -1,7 +1,7 @@
 //! The rows of a chart.
 
 ghost use Rattle.std.specs.Prelude.{◌≡◌, [], ◌∷◌, IfOk};
-ghost use Rattle.slot_core.specs.Charts.{is_in_row};
+ghost use Rattle.slot_core.specs.Output.Charts.{is_in_row};
 ghost use Rattle.gantt_print.specs.Rows.{row_of};
 ghost use Rattle.gantt_print.specs.Drawings.{unmarked, with_runs};
 
@@ -10,7 +10,7 @@ use std::alloc::Global;
 use std::marker::Model;
 
 /// Whose runs a row shows.
-#[derive(Clone, Copy, PartialEq, Eq, Debug)]
+#[derive(Clone, Copy, PartialEq, Eq)]
 pub enum Row {
     /// A task, by the indexes of its graph and of the task.
     Task(u16, u16),

@@ -9,8 +9,8 @@ use Rattle.std.proofs.lemmas.Bool.{and_parts, and_from, leb-true, ltb-true, le-l
 use Rattle.std.proofs.lemmas.Bool.Decides.{nat_tests}
 use Rattle.std.proofs.Math.Nat.{le-mul_of_pos_right}
 use Rattle.slot_core.specs.declared.TheConstants.{SLOT_LIMIT}
-use Rattle.slot_core.specs.Cycles.{least_common_multiple, first_multiple_above}
-use Rattle.slot_core.specs.Ranges.{is_between}
+use Rattle.slot_core.specs.Sets.Cycles.{least_common_multiple, first_multiple_above}
+use Rattle.slot_core.specs.Sets.Ranges.{is_between}
 use Rattle.slot_facts.proofs.Sets.Ranges.{bounds}
 use Rattle.graph_unroll.proofs.RangeLemmas.{list_all_get_or}
 use Rattle.graph_unroll.specs.Multiples.{multiple_along, times_to_common, is_common, within_limit}

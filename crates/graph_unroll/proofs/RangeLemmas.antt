@@ -9,8 +9,8 @@ use Rattle.slot_core.specs.declared.TheConstants.{SLOT_LIMIT}
 use Rattle.slot_core.specs.declared.tasks.Graph.{Graph}
 use Rattle.slot_core.specs.declared.tasks.Sporadic.{Sporadic}
 use Rattle.slot_core.specs.declared.tasks.TaskSet.{TaskSet}
-use Rattle.slot_core.specs.Cycles.{cycle_lengths}
-use Rattle.slot_core.specs.Ranges.{is_between, is_in_range, graph_in_range, sporadic_in_range}
+use Rattle.slot_core.specs.Sets.Cycles.{cycle_lengths}
+use Rattle.slot_core.specs.Sets.Ranges.{is_between, is_in_range, graph_in_range, sporadic_in_range}
 use Rattle.slot_facts.proofs.Sets.Ranges.{GraphRanges-from_test, SporadicRanges-from_test, SetRanges-from_test}
 use Rattle.graph_unroll.specs.Multiples.{periods_of, separations_of}
 

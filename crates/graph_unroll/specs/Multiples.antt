@@ -4,7 +4,7 @@ use Rattle.std.specs.List.{range_with_len}
 use Rattle.slot_core.specs.declared.TheConstants.{SLOT_LIMIT}
 use Rattle.slot_core.specs.declared.tasks.Graph.{Graph}
 use Rattle.slot_core.specs.declared.tasks.Sporadic.{Sporadic}
-use Rattle.slot_core.specs.Cycles.{least_common_multiple}
+use Rattle.slot_core.specs.Sets.Cycles.{least_common_multiple}
 
 -- the periods of graphs
 abbrev pub periods_of : List Graph → List ℕ

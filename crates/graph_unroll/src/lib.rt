@@ -3,13 +3,10 @@
 
 ghost use Rattle.std.specs.Prelude.{◌≡◌, ◌≤◌, ◌<◌, ◌↔◌, ◌++◌, true, Some, IsOk, IfOk, IfErr, OnOk};
 ghost use Rattle.std.specs.List.{list_all};
-ghost use Rattle.slot_core.specs.Cycles.{cycle_lengths, cycle_of, first_multiple_above, least_common_multiple};
-ghost use Rattle.slot_core.specs.OfflineJobs.{raw_jobs, graph_jobs, instance_jobs};
-ghost use Rattle.slot_core.specs.Ranges.{graph_in_range, is_between, is_sound};
+ghost use Rattle.slot_core.specs.Sets.Cycles.{cycle_lengths, cycle_of, first_multiple_above, least_common_multiple};
+ghost use Rattle.slot_core.specs.Offline.OfflineJobs.{raw_jobs, graph_jobs, instance_jobs};
+ghost use Rattle.slot_core.specs.Sets.Ranges.{graph_in_range, is_between, is_sound};
 ghost use Rattle.graph_unroll.specs.Multiples.{periods_of, separations_of, within_limit, multiple_along, times_to_common};
-
-#[cfg(test)]
-mod tests;
 
 use slot_core::{Graph, Key, Memory, RawJob, SLOT_LIMIT, Sporadic, TaskSet};
 use std::alloc::Global;

@@ -7,11 +7,11 @@ use Rattle.std.proofs.lemmas.Bool.{cases_lt, lt-ltb, le-ltb, ltb-false}
 use Rattle.std.proofs.lemmas.Int.{ints}
 use Rattle.slot_core.specs.declared.jobs.Evidence.{Evidence}
 use Rattle.slot_core.specs.declared.jobs.Span.{Span}
-use Rattle.slot_core.specs.Sporadics.{sporadic_demand}
+use Rattle.slot_core.specs.Feasibility.Sporadics.{sporadic_demand}
 use Rattle.slot_facts.proofs.Sets.Faults.{option_map-None}
 use Rattle.spare_capacity.specs.Recurrence.{filled, last_end, FollowOn}
 use Rattle.spare_capacity.specs.Laws.{work_until}
-use Rattle.sporadic_reserve.specs.Reserves.{Reserved, IsNextRise}
+use Rattle.sporadic_reserve.specs.Reserves.{demand_limit, Reserved, IsNextRise}
 use Rattle.guarantee.specs.Offers.{evidence_at, first_short, is_short, need_until}
 use Rattle.guarantee.specs.declared.search.Level.{Level}
 use Rattle.guarantee.specs.declared.search.Ask.{Ask}
@@ -100,7 +100,7 @@ IsLevelFrom-later reserve r from later level le is =
     }
 
 -- up to the next rise the demand is level
-pub IsLevelFrom-rise : (reserve : Reserved) (r at : ℕ) (level : Level) (rise : Option ℕ) → level.demand ≡ demand reserve r at → level.demand ≤ 2 ^ 56 → MatchOption rise (reserve.sporadics ≡ []) (λ y. IsNextRise (λ z. demand reserve r z) at y) → MatchOption rise (level.until ≡ 2 ^ 64 - 1) (λ y. level.until ≡ y) → IsLevelFrom reserve r at level
+pub IsLevelFrom-rise : (reserve : Reserved) (r at : ℕ) (level : Level) (rise : Option ℕ) → level.demand ≡ demand reserve r at → level.demand ≤ demand_limit → MatchOption rise (reserve.sporadics ≡ []) (λ y. IsNextRise (λ z. demand reserve r z) at y) → MatchOption rise (level.until ≡ 2 ^ 64 - 1) (λ y. level.until ≡ y) → IsLevelFrom reserve r at level
 IsLevelFrom-rise reserve r at level None is few none ends =
     let no_task : (x : ℕ) → demand reserve r x ≡ 0 = λ x. rw none refl in
     record {

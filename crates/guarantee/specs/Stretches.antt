@@ -2,9 +2,9 @@
 use Rattle.std.specs.Prelude.{◌≡◌, ℕ, ◌+◌, ◌-◌, ◌≤◌, ◌<◌, ◌^◌, Bool, List, nat_lt}
 use Rattle.slot_core.specs.declared.jobs.Evidence.{Evidence}
 use Rattle.slot_core.specs.declared.jobs.Span.{Span}
-use Rattle.slot_core.specs.Sporadics.{sporadic_demand}
+use Rattle.slot_core.specs.Feasibility.Sporadics.{sporadic_demand}
 use Rattle.spare_capacity.specs.Recurrence.{last_end}
-use Rattle.sporadic_reserve.specs.Reserves.{Reserved}
+use Rattle.sporadic_reserve.specs.Reserves.{demand_limit, Reserved}
 use Rattle.guarantee.specs.declared.search.Ask.{Ask}
 use Rattle.guarantee.specs.declared.search.Level.{Level}
 use Rattle.guarantee.specs.Offers.{need_until}
@@ -32,7 +32,7 @@ NeedsNone reserve r last =
 pub record IsLevelFrom (reserve : Reserved) (r from : ℕ) (level : Level) : Type 0 where
   pub flat : (x : ℕ) → from ≤ x → x < level.until
       → sporadic_demand reserve.sporadics reserve.nexts r x ≡ level.demand
-  pub small : level.demand ≤ 2 ^ 56
+  pub small : level.demand ≤ demand_limit
 
 -- at each time from a to before b by which something is needed, so many slots are left beside that
 -- and `slots` more

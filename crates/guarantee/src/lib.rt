@@ -14,8 +14,6 @@ ghost use Rattle.interval_row.specs.Tables.{spans_of_pairs, IsTable};
 ghost use Rattle.guarantee.specs.Offers.{answer_to, first_short, lets_run, soft_fits, LeavesFree};
 
 mod search;
-#[cfg(test)]
-mod tests;
 mod walk;
 
 use interval_row::SpareTable;
@@ -25,7 +23,7 @@ use sporadic_reserve::Reserve;
 use std::sync::ledger::Ledger;
 
 /// The answer to an offer.
-#[derive(Clone, Copy, PartialEq, Eq, Debug)]
+#[derive(Clone, Copy, PartialEq, Eq)]
 pub enum Answer {
     /// Up to each time there is room for it.
     Accept,
@@ -34,7 +32,7 @@ pub enum Answer {
 }
 
 /// What is known of the room for soft work in a slot.
-#[derive(Clone, Copy, PartialEq, Eq, Debug)]
+#[derive(Clone, Copy, PartialEq, Eq)]
 pub enum SoftRoom {
     /// Soft work may take the slot. Up to each later time by which something is needed, so many
     /// slots are free, this one among them.

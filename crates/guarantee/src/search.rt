@@ -8,7 +8,7 @@ ghost use Rattle.slot_core.specs.declared.TheConstants.{OFFER_LIMIT};
 ghost use Rattle.spare_capacity.specs.Recurrence.{last_end};
 ghost use Rattle.interval_row.specs.Changes.{ends_before};
 ghost use Rattle.interval_row.specs.Tables.{spans_of_pairs, IsTable};
-ghost use Rattle.sporadic_reserve.specs.Reserves.{Reserved};
+ghost use Rattle.sporadic_reserve.specs.Reserves.{demand_limit, Reserved};
 ghost use Rattle.guarantee.specs.Offers.{evidence_at, first_short};
 ghost use Rattle.guarantee.specs.Places.{IsPlace};
 ghost use Rattle.guarantee.specs.Stretches.{exceeds, evidence_of, IsLevelFrom, LeavesBetween, LeavesFrom, NeedsNone};
@@ -21,7 +21,7 @@ use std::sync::ledger::Ledger;
 
 /// What a search asks: whether there is room for `slots` slots more, counted from `now` on, where
 /// sporadic tasks arrive from `arrivals` on.
-#[derive(Clone, Copy, PartialEq, Eq, Debug)]
+#[derive(Clone, Copy, PartialEq, Eq)]
 struct Ask {
     now: u64,
     arrivals: u64,
@@ -29,7 +29,7 @@ struct Ask {
 }
 
 /// The sporadic demand from a time up to the next time at which it may be more.
-#[derive(Clone, Copy, PartialEq, Eq, Debug)]
+#[derive(Clone, Copy, PartialEq, Eq)]
 struct Level {
     demand: u64,
     until: u64,
@@ -37,7 +37,7 @@ struct Level {
 
 /// What a search keeps from one time to the next: the level, and the least that is left beside the
 /// slots asked for at the times so far by which something is needed.
-#[derive(Clone, Copy, PartialEq, Eq, Debug)]
+#[derive(Clone, Copy, PartialEq, Eq)]
 struct Tried {
     level: Level,
     left: u64,
@@ -333,7 +333,7 @@ fn short_by_levels(
 fn short_at(ask: Ask, due: u64, at: u64, tried: &mut Tried) -> Option<Evidence>
     requires from { ask.now ≤ at }
     requires few { ask.slots + due < 2 ^ 62 }
-    requires small { tried.old.level.demand ≤ 2 ^ 56 }
+    requires small { tried.old.level.demand ≤ demand_limit }
     ensures short { let need = ask.slots + due + tried.old.level.demand in
         let room = at - ask.now in
         MatchOption result (need ≤ room) (λ evidence. (room < need)

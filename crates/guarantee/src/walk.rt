@@ -10,7 +10,7 @@ use slot_core::{Span, Steps};
 use std::sync::ledger::Ledger;
 
 /// A place in a table: a span, and what is due before it.
-#[derive(Clone, Copy, PartialEq, Eq, Debug)]
+#[derive(Clone, Copy, PartialEq, Eq)]
 pub struct Place {
     /// The spot of the span.
     pub at: Spot,

@@ -6,8 +6,8 @@ use Rattle.std.proofs.lemmas.Bool.{cases_lt}
 use Rattle.std.proofs.lemmas.Bool.Decides.{nat_tests}
 use Rattle.std.proofs.lemmas.Int.{ints, clamps, by_lt_z}
 use Rattle.slot_core.specs.declared.jobs.Job.{Job}
-use Rattle.slot_core.specs.Demand.{work_between}
-use Rattle.slot_core.specs.Spans.{slack, spare_capacity}
+use Rattle.slot_core.specs.Runs.Demand.{work_between}
+use Rattle.slot_core.specs.Runs.Spans.{slack, spare_capacity}
 use Rattle.interval_build.proofs.Due.{work_of_first, work_between-cons}
 use Rattle.interval_build.proofs.Least.{IsLeast, IsLeast-unique, IsLeast-least}
 

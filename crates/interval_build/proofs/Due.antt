@@ -4,9 +4,9 @@ use Rattle.std.specs.List.{AllByRecursion, prefix_len}
 use Rattle.std.proofs.lemmas.Bool.{cases_lt, cond_both, le-leb, lt-leb, lt-ltb, le-ltb}
 use Rattle.std.proofs.lemmas.List.Sums.{sum_by-cons, sum_by-le-sum_by}
 use Rattle.slot_core.specs.declared.jobs.Job.{Job}
-use Rattle.slot_core.specs.Keys.{is_earlier}
-use Rattle.slot_core.specs.Plans.{AreInDeadlineOrder}
-use Rattle.slot_core.specs.Demand.{work_between}
+use Rattle.slot_core.specs.Offline.Keys.{is_earlier}
+use Rattle.slot_core.specs.Keeping.Plans.{AreInDeadlineOrder}
+use Rattle.slot_core.specs.Runs.Demand.{work_between}
 use Rattle.slot_facts.proofs.Plans.DeadlineOrder.{is_earlier-le}
 
 abbrev pub is_due_by : ℕ → Job → Bool

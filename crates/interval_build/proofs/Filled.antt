@@ -6,11 +6,11 @@ use Rattle.std.proofs.lemmas.Int.{ints}
 use Rattle.std.proofs.lemmas.List.Elements.{recursion_from_All}
 use Rattle.slot_core.specs.declared.jobs.Job.{Job}
 use Rattle.slot_core.specs.declared.jobs.Span.{Span}
-use Rattle.slot_core.specs.Demand.{work_between}
-use Rattle.slot_core.specs.Spans.{slack, spans_between}
+use Rattle.slot_core.specs.Runs.Demand.{work_between}
+use Rattle.slot_core.specs.Runs.Spans.{slack, spans_between}
 use Rattle.slot_facts.proofs.Lists.Members.{Has, Has-from_Contains}
 use Rattle.spare_capacity.specs.Recurrence.{filled, first_spare, FollowOn, AreConsecutive}
-use Rattle.slot_core.specs.Rising.{AreRising, last_point}
+use Rattle.slot_core.specs.Runs.Rising.{AreRising, last_point}
 use Rattle.interval_build.specs.Rows.{rows_between}
 use Rattle.interval_build.proofs.Due.{left_of, work_between-le}
 use Rattle.interval_build.proofs.Capacities.{NoneBetween, capacity_before, capacity_of_last}

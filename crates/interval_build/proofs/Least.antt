@@ -4,7 +4,7 @@ use Rattle.std.specs.Int.{int_min}
 use Rattle.std.specs.List.{range_with_len}
 use Rattle.std.proofs.lemmas.Bool.{cases_order}
 use Rattle.std.proofs.lemmas.Int.{ints, clamps, by_lt_z}
-use Rattle.slot_core.specs.Spans.{least}
+use Rattle.slot_core.specs.Runs.Spans.{least}
 
 -- z is the least of f over the numbers from a to b
 pub record IsLeast (f : ℕ → ℤ) (a b : ℕ) (z : ℤ) : Type 0 where

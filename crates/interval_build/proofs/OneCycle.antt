@@ -8,13 +8,13 @@ use Rattle.std.proofs.lemmas.Int.{ints}
 use Rattle.std.proofs.lemmas.List.Sums.{sum_by-append}
 use Rattle.slot_core.specs.declared.jobs.Job.{Job}
 use Rattle.slot_core.specs.declared.tasks.TaskSet.{TaskSet}
-use Rattle.slot_core.specs.Cycles.{cycle_of}
-use Rattle.slot_core.specs.Ranges.{is_sound}
-use Rattle.slot_core.specs.OfflineJobs.{cycle_jobs, offline_jobs, later_job}
-use Rattle.slot_core.specs.Feasible.{IsFeasible}
-use Rattle.slot_core.specs.Demand.{work_between, work_from}
-use Rattle.slot_core.specs.Rising.{AreRising, last_point}
-use Rattle.slot_core.specs.Spans.{slack, spare_capacity, spans_between}
+use Rattle.slot_core.specs.Sets.Cycles.{cycle_of}
+use Rattle.slot_core.specs.Sets.Ranges.{is_sound}
+use Rattle.slot_core.specs.Offline.OfflineJobs.{cycle_jobs, offline_jobs, later_job}
+use Rattle.slot_core.specs.Feasibility.Feasible.{IsFeasible}
+use Rattle.slot_core.specs.Runs.Demand.{work_between, work_from}
+use Rattle.slot_core.specs.Runs.Rising.{AreRising, last_point}
+use Rattle.slot_core.specs.Runs.Spans.{slack, spare_capacity, spans_between}
 use Rattle.slot_facts.proofs.Lists.Members.{Has, Has-map_cases, Contains-from_Has, AllByRecursion-from_Has, AllByRecursion-append}
 use Rattle.slot_facts.proofs.Lists.Sums.{sum_by-le-where}
 use Rattle.slot_facts.proofs.Offline.LaterJobs.{FitsInCycle-from_first, cycle_jobs-are_later}

@@ -8,12 +8,12 @@ use Rattle.std.proofs.lemmas.List.Sorted.{IsPermutation-sym, Contains-permutatio
 use Rattle.slot_core.specs.declared.jobs.Job.{Job}
 use Rattle.slot_core.specs.declared.jobs.Span.{Span}
 use Rattle.slot_core.specs.declared.tasks.TaskSet.{TaskSet}
-use Rattle.slot_core.specs.Cycles.{cycle_of}
-use Rattle.slot_core.specs.OfflineJobs.{cycle_jobs, offline_jobs}
-use Rattle.slot_core.specs.Points.{plan_points}
-use Rattle.slot_core.specs.Scenes.{horizon}
-use Rattle.slot_core.specs.Spans.{spans_between}
-use Rattle.slot_core.specs.Plans.{plan_spans}
+use Rattle.slot_core.specs.Sets.Cycles.{cycle_of}
+use Rattle.slot_core.specs.Offline.OfflineJobs.{cycle_jobs, offline_jobs}
+use Rattle.slot_core.specs.Runs.Points.{plan_points}
+use Rattle.slot_core.specs.Runs.Scenes.{horizon}
+use Rattle.slot_core.specs.Runs.Spans.{spans_between}
+use Rattle.slot_core.specs.Keeping.Plans.{plan_spans}
 use Rattle.slot_facts.proofs.Lists.Members.{Has, Has-from_Contains, Contains-from_Has, Has-filter_passes, Has-range_with_len_bounds}
 use Rattle.slot_facts.proofs.Histories.Unended.{remaining-start}
 use Rattle.slot_facts.proofs.Offline.Jobs.{cycle-positive}
@@ -25,7 +25,7 @@ use Rattle.slot_facts.proofs.Offline.LaterJobs.{FitsInCycle-from_first}
 use Rattle.slot_facts.proofs.Lists.RangeFilters.{filter-parts}
 use Rattle.interval_build.proofs.RisingPoints.{AreRising-filter, last_point-filter}
 use Rattle.slot_facts.proofs.Plans.SpanSums.{spans_between-permutation}
-use Rattle.slot_core.specs.Rising.{AreRising, last_point}
+use Rattle.slot_core.specs.Runs.Rising.{AreRising, last_point}
 use Rattle.slot_facts.proofs.Plans.FirstSpans.{first_spans}
 use Rattle.slot_facts.proofs.Plans.SetPoints.{points_of-start}
 use Rattle.interval_build.proofs.OneCycle.{spans_of_one_cycle}

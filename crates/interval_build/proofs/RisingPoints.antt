@@ -1,7 +1,7 @@
 -- The numbers of a range that pass a test rise, to the last one where it passes.
 use Rattle.std.proofs.Common.{◌≡◌, ℕ, zero, suc, ◌+◌, ◌<◌, ◌≤◌, Bool, true, false, cond, List, [], ◌∷◌, ◌++◌, filter, refl, ap, ◌∙◌, arith}
 use Rattle.std.specs.List.{range_with_len}
-use Rattle.slot_core.specs.Rising.{AreRising, last_point}
+use Rattle.slot_core.specs.Runs.Rising.{AreRising, last_point}
 use Rattle.slot_facts.proofs.Lists.RangeFilters.{filter-parts, filter-last}
 
 -- one number more in front, where it passes

@@ -3,8 +3,8 @@ use Rattle.std.proofs.Common.{◌≡◌, ℕ, ◌+◌, ◌<◌, pos, List, [], �
 use Rattle.std.proofs.lemmas.List.{drop_more}
 use Rattle.slot_core.specs.declared.jobs.Job.{Job}
 use Rattle.slot_core.specs.declared.jobs.Span.{Span}
-use Rattle.slot_core.specs.Demand.{work_between}
-use Rattle.slot_core.specs.Rising.{AreRising}
+use Rattle.slot_core.specs.Runs.Demand.{work_between}
+use Rattle.slot_core.specs.Runs.Rising.{AreRising}
 use Rattle.interval_build.specs.Rows.{rows_between}
 
 -- points that rise from a time on: the next is above it, and the others rise from that one

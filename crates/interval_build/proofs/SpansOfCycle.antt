@@ -7,12 +7,12 @@ use Rattle.std.proofs.lemmas.List.Sums.{sum_by-le-sum_by}
 use Rattle.slot_core.specs.declared.TheConstants.{SLOT_LIMIT}
 use Rattle.slot_core.specs.declared.jobs.Job.{Job}
 use Rattle.slot_core.specs.declared.tasks.TaskSet.{TaskSet}
-use Rattle.slot_core.specs.Cycles.{cycle_of}
-use Rattle.slot_core.specs.OfflineJobs.{cycle_jobs}
-use Rattle.slot_core.specs.Demand.{work_between, work_from}
-use Rattle.slot_core.specs.Plans.{PlanParts, plan_spans, IsPlan}
-use Rattle.slot_core.specs.Rising.{AreRising, last_point}
-use Rattle.slot_core.specs.Spans.{slack, spans_between}
+use Rattle.slot_core.specs.Sets.Cycles.{cycle_of}
+use Rattle.slot_core.specs.Offline.OfflineJobs.{cycle_jobs}
+use Rattle.slot_core.specs.Runs.Demand.{work_between, work_from}
+use Rattle.slot_core.specs.Keeping.Plans.{PlanParts, plan_spans, IsPlan}
+use Rattle.slot_core.specs.Runs.Rising.{AreRising, last_point}
+use Rattle.slot_core.specs.Runs.Spans.{slack, spans_between}
 use Rattle.slot_facts.proofs.Bounds.SafeStart.{offline_jobs-fit}
 use Rattle.slot_facts.proofs.Lists.SameItems.{same-from_permutation}
 use Rattle.slot_facts.proofs.Offline.Jobs.{cycle-positive, cycle-at_most}

@@ -2,11 +2,11 @@
 use Rattle.std.specs.Prelude.{◌≡◌, ℕ, true, List, IsPermutation}
 use Rattle.slot_core.specs.declared.jobs.Job.{Job}
 use Rattle.slot_core.specs.declared.tasks.TaskSet.{TaskSet}
-use Rattle.slot_core.specs.Cycles.{cycle_of}
-use Rattle.slot_core.specs.Ranges.{is_sound}
-use Rattle.slot_core.specs.OfflineJobs.{cycle_jobs}
-use Rattle.slot_core.specs.Plans.{AreInDeadlineOrder}
-use Rattle.slot_core.specs.Feasible.{IsFeasible}
+use Rattle.slot_core.specs.Sets.Cycles.{cycle_of}
+use Rattle.slot_core.specs.Sets.Ranges.{is_sound}
+use Rattle.slot_core.specs.Offline.OfflineJobs.{cycle_jobs}
+use Rattle.slot_core.specs.Keeping.Plans.{AreInDeadlineOrder}
+use Rattle.slot_core.specs.Feasibility.Feasible.{IsFeasible}
 
 -- the offline jobs of the first cycle of a sound and feasible set, in deadline order
 pub record AreFirstJobs (set : TaskSet) (jobs : List Job) : Type 0 where

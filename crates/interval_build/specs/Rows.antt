@@ -2,7 +2,7 @@
 use Rattle.std.specs.Prelude.{ℕ, pos, List, [], ◌∷◌}
 use Rattle.slot_core.specs.declared.jobs.Job.{Job}
 use Rattle.slot_core.specs.declared.jobs.Span.{Span}
-use Rattle.slot_core.specs.Demand.{work_between}
+use Rattle.slot_core.specs.Runs.Demand.{work_between}
 
 -- the spans between neighbouring points, the first from s, each with the work due in it
 abbrev pub rows_between : List Job → ℕ → List ℕ → List Span

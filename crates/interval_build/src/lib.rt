@@ -1,22 +1,20 @@
 //! Spans built from the points and the jobs due in them (Fohler 1995). All times are in slots.
 #![tactic(auto)]
 
-ghost use Rattle.std.specs.Prelude.{◌≡◌, ◌≤◌, ◌<◌, ◌^◌, length, sum_by, nat_le, All, Contains, IfOk};
+ghost use Rattle.std.specs.Prelude.{◌≡◌, ◌≤◌, ◌<◌, ◌^◌, length, sum_by, filter, nat_le, nat_lt, All, Contains, IfOk};
 ghost use Rattle.std.specs.List.{prefix_len};
 ghost use Rattle.slot_core.specs.declared.jobs.Job.{Job};
 ghost use Rattle.slot_core.specs.declared.tasks.TaskSet.{TaskSet};
-ghost use Rattle.slot_core.specs.Cycles.{cycle_of};
-ghost use Rattle.slot_core.specs.Plans.{AreInDeadlineOrder, plan_spans};
-ghost use Rattle.slot_core.specs.Spans.{spans_between};
-ghost use Rattle.slot_core.specs.Rising.{AreRising, last_point};
+ghost use Rattle.slot_core.specs.Sets.Cycles.{cycle_of};
+ghost use Rattle.slot_core.specs.Keeping.Plans.{AreInDeadlineOrder, plan_spans};
+ghost use Rattle.slot_core.specs.Runs.Spans.{spans_between};
+ghost use Rattle.slot_core.specs.Runs.Rising.{AreRising, last_point};
 ghost use Rattle.spare_capacity.specs.PlanSpans.{ArePlanSpans};
 ghost use Rattle.spare_capacity.specs.Recurrence.{last_end};
 ghost use Rattle.interval_build.specs.FirstJobs.{AreFirstJobs, IsFirstCycle};
 ghost use Rattle.interval_build.specs.Rows.{rows_between};
 
 mod points;
-#[cfg(test)]
-mod tests;
 
 use crate::points::cycle_points;
 use slot_core::{Job, Memory, Span};
@@ -61,17 +59,22 @@ pub fn spans_until(
     Ok(rows)
 }
 
-/// The spans between neighbouring points with the work due in each, and with no capacities yet.
-fn rows_until(alloc: Global, start: u64, points: &[u64], jobs: &[Job]) -> Result<Vec<Span>, Memory>
+/// The spans between neighbouring points with the work due in each, and with no capacities yet. A
+/// job that is due by the start lies in none.
+pub fn rows_until(
+    alloc: Global,
+    start: u64,
+    points: &[u64],
+    jobs: &[Job],
+) -> Result<Vec<Span>, Memory>
     requires rising { AreRising start points.now }
     requires ordered { AreInDeadlineOrder jobs.now }
-    requires later { All (λ (j : Job). start < j.dl) jobs.now }
     requires small { sum_by (λ (j : Job). j.left) jobs.now ≤ 2 ^ 40 }
     ensures { IfOk result (λ rows. rows.items ≡ rows_between jobs.now start points.now) }
 {
     let mut rows = Vec::new(alloc);
     let mut from = start;
-    let mut rest = jobs;
+    let mut rest = due_after(jobs, start);
     for point in points {
         let (due, later) = rest.split_at(count_due(rest, *point));
         rows.push(Span {
@@ -84,6 +87,16 @@ fn rows_until(alloc: Global, start: u64, points: &[u64], jobs: &[Job]) -> Result
         rest = later;
     }
     Ok(rows)
+}
+
+/// Of jobs in deadline order, those that are due after `point`.
+pub fn due_after(jobs: &[Job], point: u64) -> &[Job]
+    requires { AreInDeadlineOrder jobs.now }
+    ensures jobs { result.now ≡ filter (λ (j : Job). nat_lt point j.dl) jobs.now }
+    ensures ordered { AreInDeadlineOrder result.now }
+{
+    let (_due, after) = jobs.split_at(count_due(jobs, point));
+    after
 }
 
 /// The number of jobs at the front that are due by `point`.

@@ -3,7 +3,7 @@
 ghost use Rattle.std.specs.Prelude.{◌≡◌, ◌+◌, ◌<◌, ◌≤◌, ◌++◌, ◌∷◌, [], All, Contains, cond, filter, length, map, nat_lt, slice_index, IfOk, OnOk};
 ghost use Rattle.std.specs.List.{range_with_len};
 ghost use Rattle.slot_core.specs.declared.jobs.Job.{Job};
-ghost use Rattle.slot_core.specs.Points.{is_point, least_start, plan_points};
+ghost use Rattle.slot_core.specs.Runs.Points.{is_point, least_start, plan_points};
 
 use slot_core::{Job, Memory};
 use std::alloc::Global;

@@ -6,16 +6,12 @@
 #![tactic(auto)]
 
 pub mod chain_table;
-#[cfg(test)]
-mod drawn_calls;
 mod live;
 mod nodes;
 pub mod row_table;
 mod rows;
 mod spares;
 pub mod table;
-#[cfg(test)]
-mod tests;
 mod walk;
 
 pub use chain_table::ChainTable;

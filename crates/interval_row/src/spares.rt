@@ -5,6 +5,7 @@ ghost use Rattle.spare_capacity.specs.Recurrence.{with_spare};
 ghost use Rattle.spare_capacity.specs.Refill.{IsShort};
 
 use slot_core::Span;
+use spare_capacity::with_spare;
 
 /// The span with its capacity, where this is the span after it.
 pub fn refilled(row: Span, after: Span) -> Span
@@ -12,11 +13,7 @@ pub fn refilled(row: Span, after: Span) -> Span
     requires borrows_few { neg_ℤ (pos (2 ^ 61)) ≤ℤ after.spare }
     ensures { result ≡ with_spare row after.spare }
 {
-    let slots = row.end - row.start;
-    Span {
-        spare: (slots as i64 - row.work as i64) + after.spare.min(0),
-        ..row
-    }
+    with_spare(row, after.spare)
 }
 
 /// The span with so many slots less to spare.

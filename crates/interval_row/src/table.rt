@@ -13,7 +13,7 @@ use std::alloc::Global;
 use std::sync::ledger::Ledger;
 
 /// The name of a span in a table. It stays good until the table changes.
-#[derive(Clone, Copy, PartialEq, Eq, Debug)]
+#[derive(Clone, Copy, PartialEq, Eq)]
 pub struct Spot(pub u32);
 
 /// A table of consecutive spans from a time on, with their capacities by the recurrence. All times,

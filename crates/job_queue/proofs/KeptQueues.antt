@@ -11,8 +11,8 @@ use Rattle.std.proofs.lemmas.List.Sorted.{All-permutation, length_permutation}
 use Rattle.std.proofs.lemmas.List.Sums.{sum_by-cons, sum_by-append, sum_by_push, sum_by-remove, sum_by-swap_remove}
 use Rattle.slot_core.specs.declared.jobs.Key.{Key}
 use Rattle.slot_core.specs.declared.jobs.Job.{Job}
-use Rattle.slot_core.specs.Keys.{same_key, is_soft}
-use Rattle.slot_core.specs.Matches.{HaveSameItems}
+use Rattle.slot_core.specs.Offline.Keys.{same_key, is_soft}
+use Rattle.slot_core.specs.Runs.Matches.{HaveSameItems}
 use Rattle.slot_facts.proofs.Choice.Earliest.{same_from_key}
 use Rattle.slot_facts.proofs.Lists.SameItems.{jobs-same_items}
 use Rattle.job_queue.specs.Queues.{QueueParts, IsQueue, KeepsQueue, after_run_at}

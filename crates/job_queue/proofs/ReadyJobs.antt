@@ -10,7 +10,7 @@ use Rattle.std.proofs.lemmas.List.Folds.{find-append}
 use Rattle.std.proofs.lemmas.List.Sums.{length-filter, count_by-le-length}
 use Rattle.slot_core.specs.declared.jobs.Key.{Key}
 use Rattle.slot_core.specs.declared.jobs.Job.{Job}
-use Rattle.slot_core.specs.Choice.{ready}
+use Rattle.slot_core.specs.Runs.Choice.{ready}
 use Rattle.slot_facts.proofs.Sets.Faults.{cond-None}
 use Rattle.job_queue.specs.Queues.{search_steps}
 use Rattle.job_queue.proofs.Searches.{has_key}

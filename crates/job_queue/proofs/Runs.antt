@@ -8,8 +8,8 @@ use Rattle.std.proofs.lemmas.List.Elements.{Contains-get_or, recursion_from_All}
 use Rattle.std.proofs.lemmas.List.Quantifiers.{position-Some}
 use Rattle.slot_core.specs.declared.jobs.Key.{Key}
 use Rattle.slot_core.specs.declared.jobs.Job.{Job}
-use Rattle.slot_core.specs.Choice.{ready}
-use Rattle.slot_core.specs.Safety.{after_run}
+use Rattle.slot_core.specs.Runs.Choice.{ready}
+use Rattle.slot_core.specs.Claims.Safety.{after_run}
 use Rattle.slot_facts.proofs.Choice.Earliest.{same_from_key}
 use Rattle.slot_facts.proofs.Choice.Runs.{run_of_first, run_of_another, run_of_later}
 use Rattle.slot_facts.proofs.Lists.Apart.{count-none}

@@ -11,7 +11,7 @@ use Rattle.std.proofs.lemmas.Option.{slice_get-get_or, slice_get_past}
 use Rattle.slot_core.specs.declared.jobs.Key.{Key}
 use Rattle.slot_core.specs.declared.jobs.Key.TheVariants.{Soft}
 use Rattle.slot_core.specs.declared.jobs.Job.{Job}
-use Rattle.slot_core.specs.Keys.{same_key}
+use Rattle.slot_core.specs.Offline.Keys.{same_key}
 use Rattle.slot_facts.proofs.Sets.Faults.{cond-None}
 use Rattle.job_queue.specs.Queues.{search_steps}
 

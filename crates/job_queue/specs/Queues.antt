@@ -4,8 +4,8 @@ use Rattle.std.specs.List.{position_or_len}
 use Rattle.std.specs.List.Sorted.{IsNonDecreasingBy}
 use Rattle.slot_core.specs.declared.jobs.Key.{Key}
 use Rattle.slot_core.specs.declared.jobs.Job.{Job}
-use Rattle.slot_core.specs.Keys.{same_key, is_soft}
-use Rattle.slot_core.specs.Kept.{AreApart}
+use Rattle.slot_core.specs.Offline.Keys.{same_key, is_soft}
+use Rattle.slot_core.specs.Keeping.Kept.{AreApart}
 
 -- what contracts see of a queue: its jobs, and how many it has places for
 pub record QueueParts : Type 0 where

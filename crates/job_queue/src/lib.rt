@@ -8,7 +8,5 @@
 
 mod order;
 pub mod queue;
-#[cfg(test)]
-mod tests;
 
 pub use queue::JobQueue;

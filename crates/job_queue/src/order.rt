@@ -2,8 +2,8 @@
 
 ghost use Rattle.std.specs.Prelude.{◌≡◌};
 ghost use Rattle.std.specs.Option.{option_copied};
-ghost use Rattle.slot_core.specs.Choice.{earlier_of};
-ghost use Rattle.slot_core.specs.Keys.{is_earlier, same_key};
+ghost use Rattle.slot_core.specs.Runs.Choice.{earlier_of};
+ghost use Rattle.slot_core.specs.Offline.Keys.{is_earlier, same_key};
 
 use slot_core::{Job, Key};
 

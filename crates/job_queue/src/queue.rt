@@ -1,13 +1,13 @@
 //! A queue of jobs in two parts.
 
-ghost use Rattle.std.specs.Prelude.{◌≡◌, ℕ, ◌+◌, ◌<◌, ◌≤◌, ◌^◌, [], ◌∷◌, ◌++◌, false, not, filter, find, fold, length, count_by, position, remove, slice_index_or, None, Some, IfOk, IsTrue};
+ghost use Rattle.std.specs.Prelude.{◌≡◌, ℕ, ◌+◌, ◌<◌, ◌≤◌, ◌^◌, [], ◌∷◌, ◌++◌, false, not, filter, find, fold, length, count_by, position, remove, slice_get, slice_index_or, None, Some, IfOk, IsTrue};
 ghost use Rattle.std.specs.List.Sorted.{IsNonDecreasingBy};
 ghost use Rattle.std.specs.Option.{option_copied, option_map};
 ghost use Rattle.slot_core.specs.declared.jobs.Job.{Job};
-ghost use Rattle.slot_core.specs.Keys.{is_soft, same_key};
-ghost use Rattle.slot_core.specs.Choice.{earlier_of, earliest, ready};
-ghost use Rattle.slot_core.specs.Matches.{HaveSameItems};
-ghost use Rattle.slot_core.specs.Safety.{after_run};
+ghost use Rattle.slot_core.specs.Offline.Keys.{is_soft, same_key};
+ghost use Rattle.slot_core.specs.Runs.Choice.{earlier_of, earliest, ready};
+ghost use Rattle.slot_core.specs.Runs.Matches.{HaveSameItems};
+ghost use Rattle.slot_core.specs.Claims.Safety.{after_run};
 ghost use Rattle.job_queue.specs.Queues.{IsQueue, after_run_at, search_steps};
 
 use crate::order::{earlier_of, is_same_key};
@@ -73,6 +73,16 @@ impl JobQueue {
         ensures { result ≡ self.now.capacity }
     {
         self.capacity
+    }
+
+    /// The job with so many others before it. One step.
+    pub fn at<L: Ledger>(&self, i: u32, steps: &mut Steps<L>) -> Job
+        requires { i < length self.now.jobs }
+        ensures job { slice_get self.now.jobs i ≡ Some result }
+        ensures one_step { steps.new ≡ steps.old + 1 }
+    {
+        steps.tick();
+        *self.job(i as usize)
     }
 
     /// Adds a job. One step: it looks at the last listed job.

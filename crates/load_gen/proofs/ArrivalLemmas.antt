@@ -9,7 +9,7 @@ use Rattle.slot_core.specs.declared.events.Event.{Event}
 use Rattle.slot_core.specs.declared.events.Event.TheVariants.{Soft, Firm, Sporadic}
 use Rattle.slot_core.specs.declared.events.Arrival.{Arrival}
 use Rattle.slot_core.specs.declared.tasks.TaskSet.{TaskSet}
-use Rattle.slot_core.specs.Arrivals.{are_fitting, arrivals_follow, event_fits}
+use Rattle.slot_core.specs.Runs.Arrivals.{are_fitting, arrivals_follow, event_fits}
 use Rattle.load_gen.specs.Loads.{load_set}
 use Rattle.load_gen.specs.LoadArrivals.{arrivals_at, arrivals_from, firm_of, load_arrivals, load_event, next_number, soft_of}
 

@@ -9,12 +9,12 @@ use Rattle.std.proofs.lemmas.List.Sums.{sum_by-cons, sum_by-append}
 use Rattle.slot_core.specs.declared.jobs.Job.{Job}
 use Rattle.slot_core.specs.declared.jobs.RawJob.{RawJob}
 use Rattle.slot_core.specs.declared.tasks.Graph.{Graph}
-use Rattle.slot_core.specs.Cycles.{cycle_of}
-use Rattle.slot_core.specs.Feasible.{IsFeasible, declared_within}
-use Rattle.slot_core.specs.OfflineJobs.{cycle_jobs, derived_job, graph_jobs, instance_jobs, raw_jobs, tasks_of}
-use Rattle.slot_core.specs.Precedence.{longest_after, longest_before}
-use Rattle.slot_core.specs.Ranges.{is_sound}
-use Rattle.slot_core.specs.Sporadics.{sporadic_demand}
+use Rattle.slot_core.specs.Sets.Cycles.{cycle_of}
+use Rattle.slot_core.specs.Feasibility.Feasible.{IsFeasible, declared_within}
+use Rattle.slot_core.specs.Offline.OfflineJobs.{cycle_jobs, derived_job, graph_jobs, instance_jobs, raw_jobs, tasks_of}
+use Rattle.slot_core.specs.Offline.Precedence.{longest_after, longest_before}
+use Rattle.slot_core.specs.Sets.Ranges.{is_sound}
+use Rattle.slot_core.specs.Feasibility.Sporadics.{sporadic_demand}
 use Rattle.slot_facts.proofs.Demand.Arrivals.{arrivals_due-none, arrivals_due-spaced}
 use Rattle.slot_facts.proofs.Lists.Members.{Has, Has-range_with_len_bounds}
 use Rattle.slot_facts.proofs.Lists.RangeFilters.{range-parts}

@@ -7,8 +7,8 @@ use Rattle.std.proofs.lemmas.Bool.Decides.{nat_tests}
 use Rattle.std.proofs.lemmas.Fmt.{decimal_digit, decimal_step}
 use Rattle.slot_core.specs.declared.tasks.Graph.{Graph}
 use Rattle.slot_core.specs.declared.tasks.TaskSet.{TaskSet}
-use Rattle.slot_core.specs.Names.{is_name}
-use Rattle.slot_core.specs.Ranges.{is_sound}
+use Rattle.slot_core.specs.Sets.Names.{is_name}
+use Rattle.slot_core.specs.Sets.Ranges.{is_sound}
 use Rattle.slot_facts.proofs.Lists.Members.{Has-range_with_len, passes_from_list_all}
 use Rattle.load_gen.specs.Loads.{load_graph, load_set}
 

@@ -2,7 +2,7 @@
 use Rattle.std.proofs.Common.{◌≡◌, ℕ, ◌^◌, ◌<◌, List, length, ◌∙◌, arith}
 use Rattle.std.proofs.lemmas.List.Sums.{count_by-le-length}
 use Rattle.slot_core.specs.declared.events.Entry.{Entry}
-use Rattle.slot_core.specs.Charts.{Kind, is_of_kind, number_of, tally_line, tally_text, soft_taken, soft_full, firm_accepted, firm_late, firm_far, firm_no_room, sporadic_taken, sporadic_soon, ran_offline, ran_sporadic, ran_firm, ran_soft, idle}
+use Rattle.slot_core.specs.Output.Charts.{Kind, is_of_kind, number_of, tally_line, tally_text, soft_taken, soft_full, firm_accepted, firm_late, firm_far, firm_no_room, sporadic_taken, sporadic_soon, ran_offline, ran_sporadic, ran_firm, ran_soft, idle}
 use Rattle.load_gen.specs.Tallies.{grown}
 
 -- the line of the same numbers

@@ -1,7 +1,7 @@
 -- The counts of a tally.
 use Rattle.std.specs.Prelude.{ℕ, ◌+◌, ◌-◌, ◌^◌, max, min, Bool, if◌then◌else◌}
 use Rattle.slot_core.specs.declared.events.What.{What}
-use Rattle.slot_core.specs.Charts.{Kind, is_of_kind, soft_taken, soft_full, firm_accepted, firm_late, firm_far, firm_no_room, sporadic_taken, sporadic_soon, ran_offline, ran_sporadic, ran_firm, ran_soft, idle}
+use Rattle.slot_core.specs.Output.Charts.{Kind, is_of_kind, soft_taken, soft_full, firm_accepted, firm_late, firm_far, firm_no_room, sporadic_taken, sporadic_soon, ran_offline, ran_sporadic, ran_firm, ran_soft, idle}
 use Rattle.load_gen.specs.declared.tally.Tally.{Tally}
 
 -- how many entries of a kind are counted

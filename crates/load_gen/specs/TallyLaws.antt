@@ -3,7 +3,7 @@ use Rattle.std.specs.Prelude.{◌≡◌, ℕ, ◌+◌, Bool, cond, List, ◌++�
 use Rattle.std.proofs.Common.{ap, sym, ◌∙◌, arith}
 use Rattle.std.proofs.lemmas.List.Sums.{sum_by-append}
 use Rattle.slot_core.specs.declared.events.Entry.{Entry}
-use Rattle.slot_core.specs.Charts.{Kind, is_of_kind, number_of}
+use Rattle.slot_core.specs.Output.Charts.{Kind, is_of_kind, number_of}
 use Rattle.load_gen.specs.Tallies.{count_of, grown}
 use Rattle.load_gen.specs.declared.tally.Tally.{Tally}
 

@@ -2,7 +2,7 @@
 
 ghost use Rattle.std.specs.Prelude.{◌≡◌, ◌≤◌, ◌<◌, ◌+◌, ◌^◌, ◌++◌, true, length, IfOk, OnOk};
 ghost use Rattle.slot_core.specs.declared.TheConstants.{ARRIVAL_LIMIT, LOAD_LIMIT};
-ghost use Rattle.slot_core.specs.Arrivals.{are_fitting};
+ghost use Rattle.slot_core.specs.Runs.Arrivals.{are_fitting};
 ghost use Rattle.load_gen.specs.Loads.{load_set};
 ghost use Rattle.load_gen.specs.LoadArrivals.{arrivals_at, firm_of, load_arrivals, load_event, next_number, soft_of};
 

@@ -4,8 +4,6 @@
 mod arrivals;
 mod sets;
 mod tally;
-#[cfg(test)]
-mod tests;
 
 pub use arrivals::arrivals_of;
 pub use sets::tasks_of;

@@ -3,10 +3,10 @@
 ghost use Rattle.std.specs.Prelude.{◌≡◌, ◌≤◌, ◌<◌, ◌++◌, ◌∷◌, [], true, codes, decimal, map, IfOk};
 ghost use Rattle.std.specs.List.{range_with_len};
 ghost use Rattle.slot_core.specs.declared.TheConstants.{LOAD_LIMIT};
-ghost use Rattle.slot_core.specs.Cycles.{cycle_of};
-ghost use Rattle.slot_core.specs.Feasible.{IsFeasible};
-ghost use Rattle.slot_core.specs.Names.{is_name};
-ghost use Rattle.slot_core.specs.Ranges.{is_sound};
+ghost use Rattle.slot_core.specs.Sets.Cycles.{cycle_of};
+ghost use Rattle.slot_core.specs.Feasibility.Feasible.{IsFeasible};
+ghost use Rattle.slot_core.specs.Sets.Names.{is_name};
+ghost use Rattle.slot_core.specs.Sets.Ranges.{is_sound};
 ghost use Rattle.load_gen.specs.Loads.{load_graph, load_period, load_set, load_sporadic, load_task, load_tasks};
 
 use slot_core::{Afters, Graph, Graphs, Memory, Name, Sporadic, Sporadics, Task, TaskSet, Tasks};

@@ -3,8 +3,8 @@
 ghost use Rattle.std.specs.Prelude.{◌≡◌, ℕ, ◌≤◌, ◌<◌, ◌+◌, ◌^◌, ◌++◌, List, length};
 ghost use Rattle.slot_core.specs.declared.events.Entry.{Entry};
 ghost use Rattle.slot_core.specs.declared.events.What.TheVariants.{Firm as FirmEntry, Run, Soft as SoftEntry, Sporadic as SporadicEntry};
-ghost use Rattle.slot_core.specs.Charts.{Kind, number_of, tally_line, tally_text};
-ghost use Rattle.slot_core.specs.Texts.{worded};
+ghost use Rattle.slot_core.specs.Output.Charts.{Kind, number_of, tally_line, tally_text};
+ghost use Rattle.slot_core.specs.Output.Texts.{worded};
 ghost use Rattle.load_gen.specs.Tallies.{count_of, grown, with_entry};
 
 use slot_core::{Entry, Failed, Firm, Key, Soft, Spo, Taker, TaskSet, What};
@@ -144,7 +144,7 @@ impl Tally {
 
 impl Taker for Tally {
     ghost use Rattle.std.specs.Prelude.{◌≡◌};
-    ghost use Rattle.slot_core.specs.Charts.{Kind, number_of};
+    ghost use Rattle.slot_core.specs.Output.Charts.{Kind, number_of};
     ghost use Rattle.load_gen.specs.Tallies.{count_of, grown};
     ghost use Rattle.load_gen.specs.TallyLaws.{counts-more, counts-none};
 

@@ -13,7 +13,7 @@ use std::marker::Model;
 use std::sync::ledger::Ledger;
 
 /// The name of a span in a chain. It stays good until the span is taken out.
-#[derive(Clone, Copy, PartialEq, Eq, Debug)]
+#[derive(Clone, Copy, PartialEq, Eq)]
 pub struct NodeId(pub u32);
 
 /// Spans in order, each with an id of its own. All memory is taken when the chain is made, and

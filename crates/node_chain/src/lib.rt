@@ -14,8 +14,6 @@ pub mod front;
 mod links;
 mod order;
 mod raw;
-#[cfg(test)]
-mod tests;
 mod words;
 
 pub use chain::{Chain, NodeId};

@@ -1,21 +1,21 @@
 -- How a run comes out: done, or refused, with a status and the line that tells why.
 use Rattle.std.specs.Prelude.{ℕ, Bool, true, false, List, [], ◌∷◌, ◌++◌, Result, Ok, Err, codes, slice_get, unwrap_or}
-use Rattle.slot_core.specs.FaultTexts.{task_fault_text, infeasible_text}
-use Rattle.slot_core.specs.Texts.{worded}
+use Rattle.slot_core.specs.Output.FaultTexts.{task_fault_text, infeasible_text}
+use Rattle.slot_core.specs.Output.Texts.{worded}
 use Rattle.slot_core.specs.declared.faults.TaskFault.{TaskFault}
 use Rattle.slot_core.specs.declared.faults.TaskFault.TheVariants.{Memory as TasksMemory}
 use Rattle.arrival_csv.specs.FaultTexts.{arrival_fault_text}
 use Rattle.arrival_csv.specs.declared.faults.ArrivalFault.{ArrivalFault}
 use Rattle.arrival_csv.specs.declared.faults.ArrivalFault.TheVariants.{Memory as ArrivalsMemory}
-use Rattle.table_codec.specs.FaultTexts.{table_fault_text}
-use Rattle.table_codec.specs.declared.faults.TableFault.{TableFault}
-use Rattle.table_codec.specs.declared.faults.TableFault.TheVariants.{Memory as TableMemory}
+use Rattle.table_faults.specs.FaultTexts.{table_fault_text}
+use Rattle.table_faults.specs.declared.faults.TableFault.{TableFault}
+use Rattle.table_faults.specs.declared.faults.TableFault.TheVariants.{Memory as TableMemory}
 use Rattle.run_outcome.specs.declared.status.Status.{Status}
 use Rattle.run_outcome.specs.declared.file.File.{File}
-use Rattle.run_outcome.specs.declared.file.File.TheVariants.{Tasks, Table, Arrivals}
+use Rattle.run_outcome.specs.declared.file.File.TheVariants.{Tasks, Table, Arrivals, Trace}
 use Rattle.run_outcome.specs.declared.refusal.Refusal.{Refusal}
-use Rattle.run_outcome.specs.declared.refusal.Refusal.TheVariants.{Usage, Unreadable, TooLarge, BadTasks, Infeasible, BadTable, BadArrivals, WriteFault, Memory}
-use Rattle.slot_core.specs.declared.TheConstants.{TASK_FILE_LIMIT, TABLE_FILE_LIMIT, ARRIVALS_FILE_LIMIT}
+use Rattle.run_outcome.specs.declared.refusal.Refusal.TheVariants.{Usage, Unreadable, TooLarge, BadTasks, Infeasible, BadTable, BadArrivals, NotVerified, WriteFault, Memory}
+use Rattle.slot_core.specs.declared.TheConstants.{TASK_FILE_LIMIT, TABLE_FILE_LIMIT, ARRIVALS_FILE_LIMIT, READ_LIMIT}
 
 -- how a step of the work, or a whole run, comes out: a value, or the refusal that ends the run
 abbrev pub Outcome : Type 0 → Type 0
@@ -30,6 +30,7 @@ abbrev pub same_file : File → File → Bool
 same_file Tasks Tasks = true
 same_file Table Table = true
 same_file Arrivals Arrivals = true
+same_file Trace Trace = true
 same_file _ _ = false
 
 -- the name of a file among the words
@@ -37,12 +38,14 @@ abbrev pub name_of : List (List ℕ) → File → List ℕ
 name_of words Tasks = word_at words 1
 name_of words Table = word_at words 1
 name_of words Arrivals = word_at words 2
+name_of words Trace = word_at words 3
 
 -- the most bytes that it may have
 abbrev pub limit_of : File → ℕ
 limit_of Tasks = TASK_FILE_LIMIT
 limit_of Table = TABLE_FILE_LIMIT
 limit_of Arrivals = ARRIVALS_FILE_LIMIT
+limit_of Trace = READ_LIMIT
 
 -- the refusal of a fault of the task file
 abbrev pub refusal_of_task_fault : TaskFault → Refusal
@@ -68,6 +71,7 @@ refusal_status (BadTasks fault) = Status.BadTasks
 refusal_status (Infeasible window) = Status.Infeasible
 refusal_status (BadTable fault) = Status.BadTable
 refusal_status (BadArrivals fault) = Status.BadArrivals
+refusal_status (NotVerified reason) = Status.NotVerified
 refusal_status WriteFault = Status.WriteFault
 refusal_status Memory = Status.Memory
 
@@ -80,13 +84,14 @@ status_of (Err refusal) = refusal_status refusal
 abbrev pub reason_of : List (List ℕ) → Refusal → List ℕ
 reason_of words Usage =
     codes "usage: slotshift check T, table T, show B, replay T A N, "
-    ++ codes "replay-table B A N, gantt T A N, selfrun N"
+    ++ codes "replay-table B A N, gantt T A N, selfrun N, migrate B, verify T A X N, margin T"
 reason_of words (Unreadable file) = codes "cannot read " ++ name_of words file
 reason_of words (TooLarge file) = codes "too large " ++ worded (name_of words file) (limit_of file)
 reason_of words (BadTasks fault) = codes "tasks " ++ task_fault_text fault
 reason_of words (Infeasible window) = infeasible_text window
 reason_of words (BadTable fault) = codes "table " ++ table_fault_text fault
 reason_of words (BadArrivals fault) = codes "arrivals " ++ arrival_fault_text fault
+reason_of words (NotVerified reason) = reason
 reason_of words WriteFault = codes "cannot write"
 reason_of words Memory = codes "out of memory"
 
@@ -95,11 +100,13 @@ abbrev pub file_text : File → List ℕ
 file_text Tasks = codes "task file"
 file_text Table = codes "table file"
 file_text Arrivals = codes "arrivals file"
+file_text Trace = codes "trace file"
 
--- the reason where the words are not known: a file is told by what it is
+-- the reason in short, where the words are not known: a file is told by what it is
 abbrev pub refusal_text : Refusal → List ℕ
 refusal_text (Unreadable file) = codes "cannot read " ++ file_text file
 refusal_text (TooLarge file) = codes "too large " ++ worded (file_text file) (limit_of file)
+refusal_text (NotVerified reason) = codes "trace not verified"
 refusal_text refusal = reason_of [] refusal
 
 -- the line of a refusal
@@ -118,6 +125,7 @@ is_found (BadTasks fault) = true
 is_found (Infeasible window) = true
 is_found (BadTable fault) = true
 is_found (BadArrivals fault) = true
+is_found (NotVerified reason) = true
 is_found _ = false
 
 -- the refusal leaves the output as it was

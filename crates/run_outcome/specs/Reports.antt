@@ -1,7 +1,7 @@
 -- What standard error is told.
 use Rattle.std.specs.Prelude.{◌≡◌, ◌⊎◌, ℕ, List, Option, false}
 use Rattle.std.specs.Io.KnownBytes.{Appends}
-use Rattle.slot_core.specs.Counts.{Rose}
+use Rattle.slot_core.specs.Calls.Counts.{Rose}
 use Rattle.slot_io.specs.Sinks.{AppendsPart}
 use Rattle.run_outcome.specs.declared.refusal.Refusal.{Refusal}
 use Rattle.run_outcome.specs.declared.refusal.Refusal.TheVariants.{Memory}

@@ -1,8 +1,8 @@
 //! Texts at the end of a line.
 
 ghost use Rattle.std.specs.Prelude.{◌≡◌, ◌∷◌, ◌++◌, OnOk, decimal};
-ghost use Rattle.slot_core.specs.FaultTexts.{infeasible_text};
-ghost use Rattle.slot_core.specs.Texts.{worded};
+ghost use Rattle.slot_core.specs.Output.FaultTexts.{infeasible_text};
+ghost use Rattle.slot_core.specs.Output.Texts.{worded};
 
 use itoa::Buffer;
 use slot_core::{Memory, Window};

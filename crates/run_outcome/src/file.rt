@@ -15,6 +15,8 @@ pub enum File {
     Table,
     /// The arrivals file, the third word.
     Arrivals,
+    /// The file of a recorded trace, the fourth word.
+    Trace,
 }
 
 impl fmt::Display for File {
@@ -28,6 +30,7 @@ impl fmt::Display for File {
             File::Tasks => write!(f, "task file"),
             File::Table => write!(f, "table file"),
             File::Arrivals => write!(f, "arrivals file"),
+            File::Trace => write!(f, "trace file"),
         }
     }
 }
@@ -40,6 +43,7 @@ impl File {
         match self {
             File::Tasks | File::Table => word_or_nothing(words, 1),
             File::Arrivals => word_or_nothing(words, 2),
+            File::Trace => word_or_nothing(words, 3),
         }
     }
 
@@ -52,6 +56,7 @@ impl File {
             File::Tasks => TASK_FILE_LIMIT,
             File::Table => TABLE_FILE_LIMIT,
             File::Arrivals => ARRIVALS_FILE_LIMIT,
+            File::Trace => READ_LIMIT,
         }
     }
 }

@@ -3,13 +3,13 @@
 
 pub mod append;
 pub mod file;
+pub mod reason;
 pub mod refusal;
 pub mod reports;
 pub mod status;
-#[cfg(test)]
-mod tests;
 
 pub use file::File;
+pub use reason::{REASON_LIMIT, Reason};
 pub use refusal::Refusal;
 pub use reports::report;
 pub use status::Status;

@@ -4,15 +4,15 @@ ghost use Rattle.std.specs.Prelude.{◌≡◌};
 ghost use Rattle.run_outcome.specs.Refusals.{refusal_status, refusal_of_task_fault, refusal_of_table_fault, refusal_of_arrival_fault};
 ghost use Rattle.run_outcome.specs.declared.refusal.Refusal.TheVariants.{WriteFault as WriteRefusal, Memory as MemoryRefusal};
 
-use crate::{File, Status};
+use crate::{File, Reason, Status};
 use arrival_csv::ArrivalFault;
 use slot_core::{Failed, Memory, TaskFault, Window};
 use std::error::Error;
 use std::fmt;
-use table_codec::TableFault;
+use table_faults::TableFault;
 
 /// Why a run is not done, with the values that its line on standard error tells.
-#[derive(Clone, Copy, PartialEq, Eq, Debug)]
+#[derive(Debug, Drop)]
 pub enum Refusal {
     /// The words are none of the forms.
     Usage,
@@ -28,6 +28,8 @@ pub enum Refusal {
     BadTable(TableFault),
     /// The bytes of the arrivals file write no arrivals that fit the set and the slots.
     BadArrivals(ArrivalFault),
+    /// The bytes of the trace file are no lawful trace, for this reason.
+    NotVerified(Reason),
     /// The output takes no more.
     WriteFault,
     /// Memory ran out.
@@ -36,8 +38,8 @@ pub enum Refusal {
 
 impl Refusal {
     /// The status of the run.
-    pub fn status(self) -> Status
-        ensures { result ≡ refusal_status self }
+    pub fn status(&self) -> Status
+        ensures { result ≡ refusal_status self.now }
     {
         match self {
             Refusal::Usage => Status::Usage,
@@ -47,6 +49,7 @@ impl Refusal {
             Refusal::Infeasible(_) => Status::Infeasible,
             Refusal::BadTable(_) => Status::BadTable,
             Refusal::BadArrivals(_) => Status::BadArrivals,
+            Refusal::NotVerified(_) => Status::NotVerified,
             Refusal::WriteFault => Status::WriteFault,
             Refusal::Memory => Status::Memory,
         }
@@ -64,7 +67,7 @@ impl fmt::Display for Refusal {
             Refusal::Usage => write!(
                 f,
                 "usage: slotshift check T, table T, show B, replay T A N, \
-                 replay-table B A N, gantt T A N, selfrun N"
+                 replay-table B A N, gantt T A N, selfrun N, migrate B, verify T A X N, margin T"
             ),
             Refusal::Unreadable(file) => write!(f, "cannot read {file}"),
             Refusal::TooLarge(file) => write!(f, "too large {file} {}", file.limit()),
@@ -72,6 +75,7 @@ impl fmt::Display for Refusal {
             Refusal::Infeasible(w) => write!(f, "infeasible {} {} {}", w.from, w.until, w.demand),
             Refusal::BadTable(fault) => write!(f, "table {fault}"),
             Refusal::BadArrivals(fault) => write!(f, "arrivals {fault}"),
+            Refusal::NotVerified(_) => write!(f, "trace not verified"),
             Refusal::WriteFault => write!(f, "cannot write"),
             Refusal::Memory => write!(f, "out of memory"),
         }

@@ -1,10 +1,10 @@
 //! The line that tells why a run is refused.
 
 ghost use Rattle.std.specs.Prelude.{◌≡◌, ◌++◌, ℕ, List, false, IfOk, IfSome, OnOk, codes, is_some, string_bytes};
-ghost use Rattle.slot_core.specs.FaultTexts.{task_fault_text};
-ghost use Rattle.slot_core.specs.Texts.{worded};
+ghost use Rattle.slot_core.specs.Output.FaultTexts.{task_fault_text};
+ghost use Rattle.slot_core.specs.Output.Texts.{worded};
 ghost use Rattle.arrival_csv.specs.FaultTexts.{arrival_fault_text};
-ghost use Rattle.table_codec.specs.FaultTexts.{table_fault_text};
+ghost use Rattle.table_faults.specs.FaultTexts.{table_fault_text};
 ghost use Rattle.run_outcome.specs.Refusals.{reason_of, refusal_line, has_fixed_line};
 ghost use Rattle.run_outcome.specs.Reports.{IsTold, IsReport};
 
@@ -14,7 +14,7 @@ use arrival_csv::ArrivalFault;
 use slot_core::{Memory, TaskFault, Words};
 use slot_io::Sink;
 use std::alloc::Global;
-use table_codec::TableFault;
+use table_faults::TableFault;
 
 /// Puts the line of the refusal on `err`, in one put, and answers why the run is refused: as it
 /// was, or for want of memory where there is none for the line. A failing put changes nothing of
@@ -23,11 +23,11 @@ pub fn report<E: Sink>(alloc: Global, words: &Words, refusal: Refusal, err: &mut
     ensures { IsReport words.now refusal result
         (E.written err.old) (E.written err.new) (E.faults err.old) (E.faults err.new) }
 {
-    if let Some(line) = fixed_line(refusal) {
+    if let Some(line) = fixed_line(&refusal) {
         put_line(err, line);
         return refusal;
     }
-    match refusal_line(alloc, words, refusal) {
+    match refusal_line(alloc, words, &refusal) {
         Ok(line) => {
             put_line(err, line.as_slice());
             refusal
@@ -50,15 +50,15 @@ fn put_line<E: Sink>(err: &mut E, line: &[u8])
 }
 
 /// The line of a refusal without values.
-fn fixed_line(refusal: Refusal) -> Option<&'static [u8]>
+fn fixed_line(refusal: &Refusal) -> Option<&'static [u8]>
     ensures line { IfSome result
-        (λ line. (words : List (List ℕ)) → line.now ≡ refusal_line words refusal) }
-    ensures none { has_fixed_line refusal ≡ is_some result }
+        (λ line. (words : List (List ℕ)) → line.now ≡ refusal_line words refusal.now) }
+    ensures none { has_fixed_line refusal.now ≡ is_some result }
 {
     match refusal {
         Refusal::Usage => Some(
             b"usage: slotshift check T, table T, show B, replay T A N, \
-              replay-table B A N, gantt T A N, selfrun N\n",
+              replay-table B A N, gantt T A N, selfrun N, migrate B, verify T A X N, margin T\n",
         ),
         Refusal::WriteFault => Some(b"cannot write\n"),
         Refusal::Memory => Some(OUT_OF_MEMORY),
@@ -67,9 +67,9 @@ fn fixed_line(refusal: Refusal) -> Option<&'static [u8]>
 }
 
 /// The line of a refusal with values.
-fn refusal_line(alloc: Global, words: &Words, refusal: Refusal) -> Result<Vec<u8>, Memory>
-    requires { has_fixed_line refusal ≡ false }
-    ensures { IfOk result (λ line. line.items ≡ refusal_line words.now refusal) }
+fn refusal_line(alloc: Global, words: &Words, refusal: &Refusal) -> Result<Vec<u8>, Memory>
+    requires { has_fixed_line refusal.now ≡ false }
+    ensures { IfOk result (λ line. line.items ≡ refusal_line words.now refusal.now) }
 {
     let mut line = Vec::new(alloc);
     push_reason(alloc, &mut line, words, refusal)?;
@@ -82,18 +82,19 @@ fn push_reason(
     alloc: Global,
     line: &mut Vec<u8>,
     words: &Words,
-    refusal: Refusal,
+    refusal: &Refusal,
 ) -> Result<(), Memory>
-    requires { has_fixed_line refusal ≡ false }
-    ensures { OnOk result (line.new.items ≡ line.old.items ++ reason_of words.now refusal) }
+    requires { has_fixed_line refusal.now ≡ false }
+    ensures { OnOk result (line.new.items ≡ line.old.items ++ reason_of words.now refusal.now) }
 {
     match refusal {
         Refusal::Unreadable(file) => push_both(line, b"cannot read ", file.name(words).as_bytes()),
         Refusal::TooLarge(file) => push_too_large(line, file.name(words).as_bytes(), file.limit()),
-        Refusal::BadTasks(fault) => push_bad_tasks(alloc, line, fault),
-        Refusal::BadTable(fault) => push_bad_table(alloc, line, fault),
-        Refusal::BadArrivals(fault) => push_bad_arrivals(alloc, line, fault),
-        Refusal::Infeasible(window) => push_window(line, window),
+        Refusal::BadTasks(fault) => push_bad_tasks(alloc, line, *fault),
+        Refusal::BadTable(fault) => push_bad_table(alloc, line, *fault),
+        Refusal::BadArrivals(fault) => push_bad_arrivals(alloc, line, *fault),
+        Refusal::Infeasible(window) => push_window(line, *window),
+        Refusal::NotVerified(reason) => push(line, reason.bytes()),
         _ => Ok(()),
     }
 }

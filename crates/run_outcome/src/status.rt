@@ -16,6 +16,7 @@ pub enum Status {
     WriteFault,
     Memory,
     BadTable,
+    NotVerified,
 }
 
 impl Status {

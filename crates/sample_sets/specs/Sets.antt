@@ -120,6 +120,20 @@ long_chain_set =
     } ∷ [])
     []
 
+-- two tasks in a row with a deadline that leaves no slot for the first, which is due at 0
+abbrev pub cut_deadline_set : TaskSet
+cut_deadline_set =
+    set_of
+    64
+    (record {
+      name = codes "g";
+      period = 4;
+      offset = 0;
+      deadline = 2;
+      tasks = task (codes "a") 1 [] ∷ task (codes "b") 2 (0 ∷ []) ∷ [];
+    } ∷ [])
+    []
+
 -- work in the second half of a cycle that takes all of it, beside a sporadic alarm
 abbrev pub late_half_set : TaskSet
 late_half_set = set_of 64 (lone_task (codes "g") 10 5 5 5 ∷ []) (sporadic (codes "s") 1 10 5 ∷ [])

@@ -1,8 +1,8 @@
 //! Tasks and graphs.
 
 ghost use Rattle.std.specs.Prelude.{◌≡◌, ◌<◌, ℕ, [], ◌∷◌, true, codes, length, All, IfOk};
-ghost use Rattle.slot_core.specs.Names.{is_name};
-ghost use Rattle.slot_core.specs.Precedence.{comes_after};
+ghost use Rattle.slot_core.specs.Sets.Names.{is_name};
+ghost use Rattle.slot_core.specs.Offline.Precedence.{comes_after};
 ghost use Rattle.sample_sets.specs.Sets.{lone_task, plain_graph, task};
 
 use slot_core::{Afters, Graph, Memory, Name, Task, Tasks};

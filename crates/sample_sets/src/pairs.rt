@@ -1,7 +1,7 @@
 //! Sets of two graphs, each of two tasks, that are in range and may have a fault.
 
 ghost use Rattle.std.specs.Prelude.{◌≡◌, true, IfOk};
-ghost use Rattle.slot_core.specs.Ranges.{graph_in_range, is_in_range, task_in_range};
+ghost use Rattle.slot_core.specs.Sets.Ranges.{graph_in_range, is_in_range, task_in_range};
 
 use crate::sets::set_of_two;
 use slot_core::{AFTER_LIMIT, Afters, Graph, Memory, Name, SLOT_LIMIT, Task, TaskSet, Tasks};

@@ -1,8 +1,8 @@
 //! Task sets.
 
 ghost use Rattle.std.specs.Prelude.{◌≡◌, [], ◌∷◌, true, codes, IfOk};
-ghost use Rattle.slot_core.specs.Names.{is_name};
-ghost use Rattle.sample_sets.specs.Sets.{alarm_set, borrowing_set, crowded_set, gps_graph, imu_graph, link_graph, long_names_set, offset_set, overlong_set, pair_set, set_of, sporadic, two_periods_set, unmanned_flight_set};
+ghost use Rattle.slot_core.specs.Sets.Names.{is_name};
+ghost use Rattle.sample_sets.specs.Sets.{alarm_set, borrowing_set, crowded_set, gps_graph, imu_graph, link_graph, long_names_set, offset_set, overlong_set, pair_set, plain_graph, set_of, sporadic, task, two_periods_set, unmanned_flight_set};
 
 use crate::graphs::{graph_of_three, graph_of_two, lone_task, task};
 use slot_core::{Graph, Graphs, Memory, Name, Sporadic, Sporadics, TaskSet};
@@ -151,17 +151,29 @@ fn sporadic(name: &[u8]) -> Sporadic
     }
 }
 
+/// A graph of two tasks of one slot, the first of them a.
+fn pair(alloc: Global, name: &[u8], second: &[u8]) -> Result<Graph, Memory>
+    requires name { is_name name.now ≡ true }
+    requires second { is_name second.now ≡ true }
+    ensures { IfOk result (λ g. g
+        ≡ plain_graph name.now 8 (task (codes "a") 1 [] ∷ task second.now 1 [] ∷ [])) }
+{
+    let a = task(alloc, b"a", 1, &[])?;
+    let b = task(alloc, second, 1, &[])?;
+    graph_of_two(alloc, name, 8, a, b)
+}
+
 /// Two graphs of two tasks, and two sporadic tasks. Of each two the second has the longest name.
 pub fn long_names_set(alloc: Global) -> Result<TaskSet, Memory>
     ensures { IfOk result (λ set. set ≡ long_names_set) }
 {
-    let a = task(alloc, b"a", 1, &[])?;
-    let b = task(alloc, b"b", 1, &[])?;
-    let g = graph_of_two(alloc, b"g", 8, a, b)?;
-    let short = task(alloc, b"a", 1, &[])?;
-    let long = task(alloc, b"Task_name-of-24-bytes-yz", 1, &[])?;
-    let graph = graph_of_two(alloc, b"graph-name-of-24-bytes_x", 8, short, long)?;
-    let mut set = set_of_two(alloc, g, graph)?;
+    let g = pair(alloc, b"g", b"b")?;
+    let h = pair(
+        alloc,
+        b"graph-name-of-24-bytes_x",
+        b"Task_name-of-24-bytes-yz",
+    )?;
+    let mut set = set_of_two(alloc, g, h)?;
     set.sporadics.push(sporadic(b"alarm"))?;
     set.sporadics.push(sporadic(b"sporadic-of-24-bytes_abc"))?;
     Ok(set)

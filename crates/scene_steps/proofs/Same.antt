@@ -4,6 +4,7 @@ pub mod Events
 pub mod FirstScene
 pub mod SameAnswers
 pub mod SameChoices
+pub mod SameLawful
 pub mod SameNeeds
 pub mod SameScenes
 pub mod SameSearches

@@ -8,8 +8,8 @@ use Rattle.slot_core.specs.declared.jobs.SoftJob.{SoftJob}
 use Rattle.slot_core.specs.declared.jobs.Span.{Span}
 use Rattle.slot_core.specs.declared.events.Done.{Done}
 use Rattle.slot_core.specs.declared.events.Done.TheVariants.{Freed, NotRunning}
-use Rattle.slot_core.specs.Choice.{ready}
-use Rattle.slot_core.specs.Keys.{is_soft, same_key}
+use Rattle.slot_core.specs.Runs.Choice.{ready}
+use Rattle.slot_core.specs.Offline.Keys.{is_soft, same_key}
 use Rattle.spare_capacity.specs.Recurrence.{filled}
 use Rattle.interval_row.specs.Changes.{span_ending, with_less}
 

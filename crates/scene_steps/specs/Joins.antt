@@ -2,8 +2,8 @@
 use Rattle.std.specs.Prelude.{◌≡◌, ℕ, ◌+◌, ◌-◌, ◌≤◌, ◌<◌, ◌^◌, false, List, [], ◌∷◌, ◌++◌, count_by, length, sum_by, IsSomeAnd}
 use Rattle.slot_core.specs.declared.jobs.Job.{Job}
 use Rattle.slot_core.specs.declared.jobs.Span.{Span}
-use Rattle.slot_core.specs.Keys.{is_soft, same_key}
-use Rattle.slot_core.specs.Scenes.{Scene, horizon}
+use Rattle.slot_core.specs.Offline.Keys.{is_soft, same_key}
+use Rattle.slot_core.specs.Runs.Scenes.{Scene, horizon}
 use Rattle.spare_capacity.specs.Recurrence.{filled, last_end}
 use Rattle.interval_row.specs.Changes.{cut, span_ending, with_more}
 

@@ -2,8 +2,8 @@
 use Rattle.std.specs.Prelude.{ℕ, List, All, Contains}
 use Rattle.slot_core.specs.declared.jobs.Job.{Job}
 use Rattle.slot_core.specs.declared.jobs.Span.{Span}
-use Rattle.slot_core.specs.Rising.{last_point}
-use Rattle.slot_core.specs.Spans.{spans_between}
+use Rattle.slot_core.specs.Runs.Rising.{last_point}
+use Rattle.slot_core.specs.Runs.Spans.{spans_between}
 
 -- the spans from a time on between points, up to the last of them
 abbrev pub spans : List Job → ℕ → List ℕ → List Span

@@ -1,8 +1,8 @@
 -- What an executive's scene is like.
 use Rattle.std.specs.Prelude.{◌≡◌, ℕ, ◌-◌, ◌≤◌, length, sum_by, All, Contains}
 use Rattle.slot_core.specs.declared.jobs.Job.{Job}
-use Rattle.slot_core.specs.Rising.{AreRising, last_point}
-use Rattle.slot_core.specs.Scenes.{Scene, horizon}
+use Rattle.slot_core.specs.Runs.Rising.{AreRising, last_point}
+use Rattle.slot_core.specs.Runs.Scenes.{Scene, horizon}
 
 -- what an executive's scene is like, beside what it keeps
 pub record IsProperScene (cycle : ℕ) (scene : Scene) : Type 0 where

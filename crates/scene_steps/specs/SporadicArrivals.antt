@@ -5,7 +5,7 @@ use Rattle.slot_core.specs.declared.jobs.Span.{Span}
 use Rattle.slot_core.specs.declared.tasks.Sporadic.{Sporadic}
 use Rattle.slot_core.specs.declared.events.Spo.{Spo}
 use Rattle.slot_core.specs.declared.events.Spo.TheVariants.{Soon, Taken}
-use Rattle.slot_core.specs.Answers.{relative_deadline}
+use Rattle.slot_core.specs.Runs.Answers.{relative_deadline}
 use Rattle.scene_steps.specs.Joins.{spans_with_job}
 use Rattle.scene_steps.specs.Steps.{separation_of}
 

@@ -17,16 +17,16 @@ use Rattle.slot_core.specs.declared.events.Done.TheVariants.{Freed}
 use Rattle.slot_core.specs.declared.events.Gone.TheVariants.{Freed as GoneFreed}
 use Rattle.slot_core.specs.declared.events.Ran.{Ran}
 use Rattle.slot_core.specs.declared.events.Ran.TheVariants.{Idle as RanIdle, Key as RanKey}
-use Rattle.slot_core.specs.Keys.{same_key}
-use Rattle.slot_core.specs.Arrivals.{event_may_come}
-use Rattle.slot_core.specs.OfflineJobs.{cycle_jobs}
-use Rattle.slot_core.specs.Histories.{offered_job, sporadic_job}
-use Rattle.slot_core.specs.Points.{plan_points, is_point}
-use Rattle.slot_core.specs.Safety.{after_slot}
-use Rattle.slot_core.specs.Scenes.{Scene}
-use Rattle.slot_core.specs.Choice.{choice}
-use Rattle.slot_core.specs.Answers.{answer}
-use Rattle.slot_core.specs.Traces.{Occurrence, arrive, slot, told_of_slot}
+use Rattle.slot_core.specs.Offline.Keys.{same_key}
+use Rattle.slot_core.specs.Runs.Arrivals.{event_may_come}
+use Rattle.slot_core.specs.Offline.OfflineJobs.{cycle_jobs}
+use Rattle.slot_core.specs.Runs.Histories.{offered_job, sporadic_job}
+use Rattle.slot_core.specs.Runs.Points.{plan_points, is_point}
+use Rattle.slot_core.specs.Claims.Safety.{after_slot}
+use Rattle.slot_core.specs.Runs.Scenes.{Scene}
+use Rattle.slot_core.specs.Runs.Choice.{choice}
+use Rattle.slot_core.specs.Runs.Answers.{answer}
+use Rattle.slot_core.specs.Runs.Traces.{Occurrence, arrive, slot, told_of_slot}
 
 -- the soft jobs after the job of this key has run one slot; one without a slot left has ended
 abbrev pub soft_after_run : Key → List SoftJob → List SoftJob

@@ -6,7 +6,7 @@ use Rattle.slot_core.specs.declared.jobs.Job.{Job}
 use Rattle.slot_core.specs.declared.jobs.Span.{Span}
 use Rattle.slot_core.specs.declared.events.Gone.{Gone}
 use Rattle.slot_core.specs.declared.events.Gone.TheVariants.{Freed, NoJob}
-use Rattle.slot_core.specs.Keys.{same_key}
+use Rattle.slot_core.specs.Offline.Keys.{same_key}
 use Rattle.spare_capacity.specs.Recurrence.{filled}
 use Rattle.interval_row.specs.Changes.{with_less}
 

@@ -6,6 +6,8 @@
 #![tactic(auto)]
 
 pub mod bounds;
+pub mod lawful;
+pub mod lines;
 pub mod offers;
 pub mod patterns;
 pub mod schedules;

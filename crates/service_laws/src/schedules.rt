@@ -1,7 +1,7 @@
 //! Slot schedules of lists of jobs, whatever the scheduler: safe jobs have one, and one fits its
 //! work.
 
-ghost use Rattle.slot_facts.specs.Schedules.{SafeJobsHaveASchedule, SlotsLieBeforeDerivedDeadlines, SlotsLieAfterDerivedStarts, AScheduleFitsItsWork};
+ghost use Rattle.slot_facts.specs.Schedules.{SafeJobsHaveASchedule, SlotsLieBeforeDerivedDeadlines, SlotsLieAfterDerivedStarts, SlotsLieAfterDerivedStartsAtLegalHistories, AScheduleFitsItsWork};
 
 /// Jobs of which no deadline is at risk have a slot schedule, precedence included: the one of
 /// earliest deadline first over derived windows (Dertouzos 1974; Chetto, Silly and Bouchentouf
@@ -20,6 +20,13 @@ pub fn slots_lie_before_derived_deadlines()
 /// start: the longest chain before it has to come first (Chetto, Silly and Bouchentouf 1990).
 pub fn slots_lie_after_derived_starts()
     ensures { SlotsLieAfterDerivedStarts }
+{}
+
+/// At every legal history of a feasible set, in any slot schedule of the remaining jobs and of
+/// others beside them, a remaining job's slots lie at or after its derived start, whether its
+/// predecessors wait, run or have ended, where no job of a chain before it was ended early.
+pub fn slots_lie_after_derived_starts_at_legal_histories()
+    ensures { SlotsLieAfterDerivedStartsAtLegalHistories }
 {}
 
 /// Where jobs have a slot schedule, what is due by a time is at most the slots up to it: processor

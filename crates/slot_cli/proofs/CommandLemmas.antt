@@ -1,104 +1,112 @@
--- Which files a command reads, and where its arrivals come from.
-use Rattle.std.proofs.Common.{◌≡◌, ◌≢◌, ℕ, ◌≤◌, Bool, true, false, ◌&&◌, nat_le, List, [], length, Option, None, Some, Ok, refl, ap, subst, arith}
-use Rattle.std.specs.Prelude.{codes, if◌then◌else◌, option_map, ◌==◌}
+-- Which files a command reads, and the ranges of its numbers.
+use Rattle.std.proofs.Common.{◌≡◌, ℕ, ◌≤◌, Bool, true, false, ◌&&◌, nat_le, List, length, Option, None, Some, refl, ap, subst, arith}
+use Rattle.std.specs.Prelude.{codes, if◌then◌else◌, ◌==◌}
 use Rattle.std.specs.Str.{bytes_eq}
 use Rattle.std.specs.Str.Parse.{digits_value}
 use Rattle.std.proofs.lemmas.Bool.{and_parts}
 use Rattle.std.proofs.lemmas.Bool.Decides.{nat_tests}
 use Rattle.slot_core.specs.declared.TheConstants.{CHART_LIMIT, LOAD_LIMIT, REPLAY_LIMIT}
-use Rattle.slot_core.specs.declared.tasks.TaskSet.{TaskSet}
-use Rattle.slot_io.specs.Files.{Held}
 use Rattle.run_outcome.specs.declared.file.File.{File}
-use Rattle.run_outcome.specs.declared.file.File.TheVariants.{Tasks as TaskFile, Table as TableFile, Arrivals as ArrivalsFile}
+use Rattle.run_outcome.specs.declared.file.File.TheVariants.{Tasks as TaskFile, Table as TableFile, Arrivals as ArrivalsFile, Trace as TraceFile}
+use Rattle.run_outcome.specs.declared.refusal.Refusal.TheVariants.{Unreadable}
 use Rattle.run_outcome.specs.Refusals.{same_file, word_at}
+use Rattle.slot_cli.specs.declared.command.Arrivals.{Arrivals}
+use Rattle.slot_cli.specs.declared.command.Arrivals.TheVariants.{Absent, Recorded, Generated}
 use Rattle.slot_cli.specs.declared.command.Command.{Command}
-use Rattle.slot_cli.specs.declared.command.Command.TheVariants.{Check, Table, Show, Replay, ReplayTable, Gantt, Selfrun}
+use Rattle.slot_cli.specs.declared.command.Output.{Output}
+use Rattle.slot_cli.specs.declared.command.Output.TheVariants.{Counts, Table, Listing, Margins, Trace, Chart, Lines}
+use Rattle.slot_cli.specs.declared.command.Recording.{Recording}
+use Rattle.slot_cli.specs.declared.command.Recording.TheVariants.{Unread, Verified}
 use Rattle.slot_cli.specs.declared.command.Source.{Source}
 use Rattle.slot_cli.specs.declared.command.Source.TheVariants.{Tasks, Spelled, Load}
-use Rattle.slot_cli.specs.Commands.{is_number, number_up_to, command_of_two, command_of_four, command_of, IsInRange, source_of, recorded_for, is_file_of, is_recorded_in, reads}
-use Rattle.slot_cli.specs.Due.{arrivals_for, recorded_arrivals}
+use Rattle.slot_cli.specs.Commands.{is_number, number_up_to, of_plan, over_slots, of_trace, of_load, command_of_two, command_of_four, command_of_five, command_of, IsLoadNumber, IsOutputInRange, IsInRange, is_file_of, is_recorded_in, is_verified_in, reads}
 use Rattle.slot_cli.specs.Runs.{stage_of}
 use Rattle.slot_cli.proofs.NumberLemmas.{some_number}
-use Rattle.run_outcome.specs.declared.refusal.Refusal.TheVariants.{Unreadable}
 
 -- the file of a plan is that of its source
 pub file-of_tasks : (file : File) → same_file TaskFile file ≡ true → is_file_of Tasks file ≡ true
 file-of_tasks TaskFile is = refl
 file-of_tasks TableFile is = cc
 file-of_tasks ArrivalsFile is = cc
+file-of_tasks TraceFile is = cc
 
 pub file-of_spelled : (file : File) → same_file TableFile file ≡ true → is_file_of Spelled file ≡ true
 file-of_spelled TaskFile is = cc
 file-of_spelled TableFile is = refl
 file-of_spelled ArrivalsFile is = cc
+file-of_spelled TraceFile is = cc
 
-pub file-recorded : (slots : ℕ) (file : File) → same_file ArrivalsFile file ≡ true → is_recorded_in (Some slots) file ≡ true
+pub file-recorded : (slots : ℕ) (file : File) → same_file ArrivalsFile file ≡ true → is_recorded_in (Recorded slots) file ≡ true
 file-recorded slots TaskFile is = cc
 file-recorded slots TableFile is = cc
 file-recorded slots ArrivalsFile is = refl
+file-recorded slots TraceFile is = cc
+
+pub file-verified : (file : File) → same_file TraceFile file ≡ true → is_verified_in Verified file ≡ true
+file-verified TaskFile is = cc
+file-verified TableFile is = cc
+file-verified ArrivalsFile is = cc
+file-verified TraceFile is = refl
+
+-- no plan is read from an arrivals file or a trace file
+no-plan : (source : Source) → is_file_of source ArrivalsFile ≡ true → ⊥
+no-plan Tasks is = cc
+no-plan Spelled is = cc
+no-plan (Load n) is = cc
+
+no-plan_of_trace : (source : Source) → is_file_of source TraceFile ≡ true → ⊥
+no-plan_of_trace Tasks is = cc
+no-plan_of_trace Spelled is = cc
+no-plan_of_trace (Load n) is = cc
 
 -- the command reads them
-reads-source : (source : Source) (command : Command) (file : File) → source_of command ≡ source → is_file_of source file ≡ true → reads command file ≡ true
-reads-source source command TaskFile same is = rw (same) is
-reads-source source command TableFile same is = rw (same) is
-reads-source Tasks command ArrivalsFile same is = cc
-reads-source Spelled command ArrivalsFile same is = cc
-reads-source (Load n) command ArrivalsFile same is = cc
+pub reads-plan : (command : Command) (file : File) → is_file_of command.source file ≡ true → reads command file ≡ true
+reads-plan command TaskFile is = is
+reads-plan command TableFile is = is
+reads-plan command ArrivalsFile is = absurd (no-plan command.source is)
+reads-plan command TraceFile is = absurd (no-plan_of_trace command.source is)
 
-pub reads-plan : (command : Command) (file : File) → is_file_of (source_of command) file ≡ true → reads command file ≡ true
-reads-plan command file is = reads-source (source_of command) command file refl is
+recorded-there : (command : Command) (arrivals : Arrivals) (file : File) → is_recorded_in arrivals file ≡ true → (is_recorded_in arrivals ArrivalsFile ≡ true → reads command ArrivalsFile ≡ true) → reads command file ≡ true
+recorded-there command Absent file is there = cc
+recorded-there command (Generated n) file is there = cc
+recorded-there command (Recorded slots) TaskFile is there = cc
+recorded-there command (Recorded slots) TableFile is there = cc
+recorded-there command (Recorded slots) ArrivalsFile is there = there is
+recorded-there command (Recorded slots) TraceFile is there = cc
 
-reads-record : (o : Option ℕ) (command : Command) (file : File) → recorded_for command ≡ o → is_recorded_in o file ≡ true → reads command file ≡ true
-reads-record (Some slots) command TaskFile same is = cc
-reads-record (Some slots) command TableFile same is = cc
-reads-record (Some slots) command ArrivalsFile same is = rw (same) is
-reads-record None command file same is = cc
+pub reads-recorded : (command : Command) (file : File) → is_recorded_in command.arrivals file ≡ true → reads command file ≡ true
+reads-recorded command file is = recorded-there command command.arrivals file is (λ there. there)
 
-pub reads-recorded : (command : Command) (file : File) → is_recorded_in (recorded_for command) file ≡ true → reads command file ≡ true
-reads-recorded command file is = reads-record (recorded_for command) command file refl is
+verified-there : (command : Command) (recording : Recording) (file : File) → is_verified_in recording file ≡ true → (is_verified_in recording TraceFile ≡ true → reads command TraceFile ≡ true) → reads command file ≡ true
+verified-there command Unread file is there = cc
+verified-there command Verified TaskFile is there = cc
+verified-there command Verified TableFile is there = cc
+verified-there command Verified ArrivalsFile is there = cc
+verified-there command Verified TraceFile is there = there is
+
+pub reads-verified : (command : Command) (file : File) → is_verified_in command.recording file ≡ true → reads command file ≡ true
+reads-verified command file is = verified-there command command.recording file is (λ there. there)
 
 -- at these stages
 pub stage-plan_file : (source : Source) (file : File) → is_file_of source file ≡ true → stage_of (Unreadable file) ≤ 1
 stage-plan_file source TaskFile is = omega arith
 stage-plan_file source TableFile is = omega arith
-stage-plan_file Tasks ArrivalsFile is = cc
-stage-plan_file Spelled ArrivalsFile is = cc
-stage-plan_file (Load n) ArrivalsFile is = cc
+stage-plan_file source ArrivalsFile is = absurd (no-plan source is)
+stage-plan_file source TraceFile is = absurd (no-plan_of_trace source is)
 
-pub stage-arrivals_file : (file : File) → stage_of (Unreadable file) ≤ 5
-stage-arrivals_file TaskFile = omega arith
-stage-arrivals_file TableFile = omega arith
-stage-arrivals_file ArrivalsFile = omega arith
+pub stage-arrivals_file : (arrivals : Arrivals) (file : File) → is_recorded_in arrivals file ≡ true → stage_of (Unreadable file) ≤ 5
+stage-arrivals_file Absent file is = cc
+stage-arrivals_file (Generated n) file is = cc
+stage-arrivals_file (Recorded slots) TaskFile is = omega arith
+stage-arrivals_file (Recorded slots) TableFile is = omega arith
+stage-arrivals_file (Recorded slots) ArrivalsFile is = omega arith
+stage-arrivals_file (Recorded slots) TraceFile is = cc
 
--- where arrivals were recorded they are those of the command
-pub arrivals-recorded : (held : Held) (words : List (List ℕ)) (command : Command) (slots : ℕ) (set : TaskSet) → recorded_for command ≡ Some slots → arrivals_for held words command set ≡ recorded_arrivals held words slots set
-arrivals-recorded held words (Replay n) slots set is = let same : n ≡ slots = cc in ap (λ m. recorded_arrivals held words m set) same
-arrivals-recorded held words (ReplayTable n) slots set is = let same : n ≡ slots = cc in ap (λ m. recorded_arrivals held words m set) same
-arrivals-recorded held words (Gantt n) slots set is = let same : n ≡ slots = cc in ap (λ m. recorded_arrivals held words m set) same
-arrivals-recorded held words Check slots set is = cc
-arrivals-recorded held words Table slots set is = cc
-arrivals-recorded held words Show slots set is = cc
-arrivals-recorded held words (Selfrun n) slots set is = cc
-
--- only a load is its own source
-pub command-of_load : (command : Command) (n : ℕ) → source_of command ≡ Load n → command ≡ Selfrun n
-command-of_load (Selfrun m) n is = let same : m ≡ n = cc in ap Selfrun same
-command-of_load (Replay m) n is = cc
-command-of_load (ReplayTable m) n is = cc
-command-of_load (Gantt m) n is = cc
-command-of_load Check n is = cc
-command-of_load Table n is = cc
-command-of_load Show n is = cc
-
--- a command without recorded arrivals and without a load has none
-pub arrivals-none : (held : Held) (words : List (List ℕ)) (command : Command) (set : TaskSet) → recorded_for command ≡ None → ((n : ℕ) → source_of command ≡ Load n → ⊥) → arrivals_for held words command set ≡ Ok []
-arrivals-none held words (Replay n) set none apart = cc
-arrivals-none held words (ReplayTable n) set none apart = cc
-arrivals-none held words (Gantt n) set none apart = cc
-arrivals-none held words Check set none apart = refl
-arrivals-none held words Table set none apart = refl
-arrivals-none held words Show set none apart = refl
-arrivals-none held words (Selfrun n) set none apart = absurd (apart n refl)
+pub stage-trace_file : (file : File) → stage_of (Unreadable file) ≤ 8
+stage-trace_file TaskFile = omega arith
+stage-trace_file TableFile = omega arith
+stage-trace_file ArrivalsFile = omega arith
+stage-trace_file TraceFile = omega arith
 
 -- a number that is written is from 1 to its limit
 number-tested : (limit : ℕ) (word : List ℕ) (b : Bool) (n : ℕ) → (is_number word && nat_le (digits_value 10 word) limit) ≡ b → (let o : Option ℕ = if b then Some (digits_value 10 word) else None in o) ≡ Some n → (1 ≤ n) × (n ≤ limit)
@@ -113,35 +121,91 @@ number-tested limit word false n test is = cc
 number-in_range : (limit : ℕ) (word : List ℕ) (n : ℕ) → number_up_to limit word ≡ Some n → (1 ≤ n) × (n ≤ limit)
 number-in_range limit word n is = number-tested limit word (is_number word && nat_le (digits_value 10 word) limit) n refl is
 
-mapped : (make : ℕ → Command) (o : Option ℕ) (command : Command) → ((n : ℕ) → o ≡ Some n → IsInRange (make n)) → option_map make o ≡ Some command → IsInRange command
-mapped make (Some n) command within is = let same : make n ≡ command = cc in subst IsInRange same (within n refl)
-mapped make None command within is = cc
+-- a plan of a file has no number
+plan-in_range : (source : Source) (output : Output) → IsLoadNumber source → IsOutputInRange 0 output → IsInRange (of_plan source output)
+plan-in_range source output number written = record {
+  source = number;
+  arrivals = tt;
+  load = λ n is. cc;
+  recording = tt;
+  output = written;
+}
 
 given : (made command : Command) → (let o : Option Command = Some made in o) ≡ Some command → IsInRange made → IsInRange command
 given made command is within = let same : made ≡ command = cc in subst IsInRange same within
 
-two-in_range : (a b d e : Bool) (last : List ℕ) (command : Command) → (if a then Some Check else if b then Some Table else if d then Some Show else if e then option_map Selfrun (number_up_to LOAD_LIMIT last) else None) ≡ Some command → IsInRange command
-two-in_range true b d e last command is = given Check command is tt
-two-in_range false true d e last command is = given Table command is tt
-two-in_range false false true e last command is = given Show command is tt
-two-in_range false false false true last command is = mapped Selfrun (number_up_to LOAD_LIMIT last) command (number-in_range LOAD_LIMIT last) is
-two-in_range false false false false last command is = cc
+-- slots that are run are in the range of their output
+slots-in_range : (source : Source) (output : Output) (limit : ℕ) (o : Option ℕ) (command : Command) → IsLoadNumber source → limit ≤ REPLAY_LIMIT → ((slots : ℕ) → 1 ≤ slots → slots ≤ limit → IsOutputInRange slots output) → ((n : ℕ) → o ≡ Some n → (1 ≤ n) × (n ≤ limit)) → over_slots source output o ≡ Some command → IsInRange command
+slots-in_range source output limit None command number low written within is = cc
+slots-in_range source output limit (Some slots) command number low written within is =
+    let (some, few) = within slots refl in
+    given (record { source = source; arrivals = Recorded slots; recording = Unread; output = output }) command is (record {
+      source = number;
+      arrivals = (some, omega (arith, few, low));
+      load = λ n same. cc;
+      recording = tt;
+      output = written slots some few;
+    })
 
-four-in_range : (a b d : Bool) (last : List ℕ) (command : Command) → (if a then option_map Replay (number_up_to REPLAY_LIMIT last) else if b then option_map ReplayTable (number_up_to REPLAY_LIMIT last) else if d then option_map Gantt (number_up_to CHART_LIMIT last) else None) ≡ Some command → IsInRange command
-four-in_range true b d last command is = mapped Replay (number_up_to REPLAY_LIMIT last) command (number-in_range REPLAY_LIMIT last) is
-four-in_range false true d last command is = mapped ReplayTable (number_up_to REPLAY_LIMIT last) command (number-in_range REPLAY_LIMIT last) is
-four-in_range false false true last command is = mapped Gantt (number_up_to CHART_LIMIT last) command (number-in_range CHART_LIMIT last) is
+-- so are those of a trace that is verified
+trace-in_range : (o : Option ℕ) (command : Command) → ((n : ℕ) → o ≡ Some n → (1 ≤ n) × (n ≤ REPLAY_LIMIT)) → of_trace o ≡ Some command → IsInRange command
+trace-in_range None command within is = cc
+trace-in_range (Some slots) command within is =
+    given (record { source = Tasks; arrivals = Recorded slots; recording = Verified; output = Lines }) command is (record {
+      source = tt;
+      arrivals = within slots refl;
+      load = λ n same. cc;
+      recording = within slots refl;
+      output = within slots refl;
+    })
+
+-- so is the number of a load
+load-in_range : (o : Option ℕ) (command : Command) → ((n : ℕ) → o ≡ Some n → (1 ≤ n) × (n ≤ LOAD_LIMIT)) → of_load o ≡ Some command → IsInRange command
+load-in_range None command within is = cc
+load-in_range (Some n) command within is =
+    given (record { source = Load n; arrivals = Generated n; recording = Unread; output = Output.Tally n }) command is (record {
+      source = within n refl;
+      arrivals = within n refl;
+      load = λ m same. let is_it : n ≡ m = cc in ap (λ k. let s : Source = Load k in s) is_it;
+      recording = tt;
+      output = (omega arith, omega arith);
+    })
+
+replay-in_range : (source : Source) (last : List ℕ) (command : Command) → IsLoadNumber source → over_slots source Trace (number_up_to REPLAY_LIMIT last) ≡ Some command → IsInRange command
+replay-in_range source last command number is =
+    slots-in_range source Trace REPLAY_LIMIT (number_up_to REPLAY_LIMIT last) command number (omega arith) (λ slots some few. (some, few)) (number-in_range REPLAY_LIMIT last) is
+
+two-in_range : (a b d m g e : Bool) (last : List ℕ) (command : Command) → (if a then Some (of_plan Tasks Counts) else if b then Some (of_plan Tasks Table) else if d then Some (of_plan Spelled Listing) else if m then Some (of_plan Spelled Table) else if g then Some (of_plan Tasks Margins) else if e then of_load (number_up_to LOAD_LIMIT last) else None) ≡ Some command → IsInRange command
+two-in_range true b d m g e last command is = given (of_plan Tasks Counts) command is (plan-in_range Tasks Counts tt tt)
+two-in_range false true d m g e last command is = given (of_plan Tasks Table) command is (plan-in_range Tasks Table tt tt)
+two-in_range false false true m g e last command is = given (of_plan Spelled Listing) command is (plan-in_range Spelled Listing tt tt)
+two-in_range false false false true g e last command is = given (of_plan Spelled Table) command is (plan-in_range Spelled Table tt tt)
+two-in_range false false false false true e last command is = given (of_plan Tasks Margins) command is (plan-in_range Tasks Margins tt tt)
+two-in_range false false false false false true last command is = load-in_range (number_up_to LOAD_LIMIT last) command (number-in_range LOAD_LIMIT last) is
+two-in_range false false false false false false last command is = cc
+
+four-in_range : (a b d : Bool) (last : List ℕ) (command : Command) → (if a then over_slots Tasks Trace (number_up_to REPLAY_LIMIT last) else if b then over_slots Spelled Trace (number_up_to REPLAY_LIMIT last) else if d then over_slots Tasks Chart (number_up_to CHART_LIMIT last) else None) ≡ Some command → IsInRange command
+four-in_range true b d last command is = replay-in_range Tasks last command tt is
+four-in_range false true d last command is = replay-in_range Spelled last command tt is
+four-in_range false false true last command is = slots-in_range Tasks Chart CHART_LIMIT (number_up_to CHART_LIMIT last) command tt (omega arith) (λ slots some few. (some, few)) (number-in_range CHART_LIMIT last) is
 four-in_range false false false last command is = cc
 
+five-in_range : (a : Bool) (last : List ℕ) (command : Command) → (if a then of_trace (number_up_to REPLAY_LIMIT last) else None) ≡ Some command → IsInRange command
+five-in_range true last command is =
+    trace-in_range (number_up_to REPLAY_LIMIT last) command (number-in_range REPLAY_LIMIT last) is
+five-in_range false last command is = cc
+
 -- so the number of a command is in its range
-words-in_range : (two four : Bool) (words : List (List ℕ)) (command : Command) → (if two then command_of_two (word_at words 0) (word_at words 1) else if four then command_of_four (word_at words 0) (word_at words 3) else None) ≡ Some command → IsInRange command
-words-in_range true four words command is =
+words-in_range : (two four five : Bool) (words : List (List ℕ)) (command : Command) → (if two then command_of_two (word_at words 0) (word_at words 1) else if four then command_of_four (word_at words 0) (word_at words 3) else if five then command_of_five (word_at words 0) (word_at words 4) else None) ≡ Some command → IsInRange command
+words-in_range true four five words command is =
     let w = word_at words 0 in
-    two-in_range (bytes_eq w (codes "check")) (bytes_eq w (codes "table")) (bytes_eq w (codes "show")) (bytes_eq w (codes "selfrun")) (word_at words 1) command is
-words-in_range false true words command is =
+    two-in_range (bytes_eq w (codes "check")) (bytes_eq w (codes "table")) (bytes_eq w (codes "show")) (bytes_eq w (codes "migrate")) (bytes_eq w (codes "margin")) (bytes_eq w (codes "selfrun")) (word_at words 1) command is
+words-in_range false true five words command is =
     let w = word_at words 0 in
     four-in_range (bytes_eq w (codes "replay")) (bytes_eq w (codes "replay-table")) (bytes_eq w (codes "gantt")) (word_at words 3) command is
-words-in_range false false words command is = cc
+words-in_range false false true words command is =
+    five-in_range (bytes_eq (word_at words 0) (codes "verify")) (word_at words 4) command is
+words-in_range false false false words command is = cc
 
 pub in_range-command : (words : List (List ℕ)) (command : Command) → command_of words ≡ Some command → IsInRange command
-in_range-command words command is = words-in_range (length words == 2) (length words == 4) words command is
+in_range-command words command is = words-in_range (length words == 2) (length words == 4) (length words == 5) words command is

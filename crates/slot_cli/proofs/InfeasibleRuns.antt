@@ -3,16 +3,16 @@ use Rattle.std.proofs.Common.{◌≡◌, ℕ, ◌≤◌, Bool, true, false, List
 use Rattle.std.specs.Prelude.{nat_lt, if◌then◌else◌}
 use Rattle.std.specs.Option.{option_map_or}
 use Rattle.std.specs.Result.{result_map_both}
-use Rattle.slot_core.specs.Results.{◌>>=◌}
+use Rattle.slot_core.specs.Calls.Results.{◌>>=◌}
 use Rattle.slot_core.specs.declared.jobs.Window.{Window}
 use Rattle.slot_core.specs.declared.tasks.TaskSet.{TaskSet}
-use Rattle.slot_core.specs.Cycles.{cycle_of}
-use Rattle.slot_core.specs.Feasible.{counterexample}
-use Rattle.slot_core.specs.Plans.{PlanParts, planned}
-use Rattle.slot_core.specs.Ranges.{is_sound}
+use Rattle.slot_core.specs.Sets.Cycles.{cycle_of}
+use Rattle.slot_core.specs.Feasibility.Feasible.{counterexample}
+use Rattle.slot_core.specs.Keeping.Plans.{PlanParts, planned}
+use Rattle.slot_core.specs.Sets.Ranges.{is_sound}
 use Rattle.slot_io.specs.Files.{Held, first_bytes}
-use Rattle.table_codec.specs.declared.faults.TableFault.{TableFault}
-use Rattle.table_codec.specs.declared.faults.TableFault.TheVariants.{Infeasible as NoPlan}
+use Rattle.table_faults.specs.declared.faults.TableFault.{TableFault}
+use Rattle.table_faults.specs.declared.faults.TableFault.TheVariants.{Infeasible as NoPlan}
 use Rattle.table_codec.specs.Grammar.{reading_of_table}
 use Rattle.table_codec.proofs.Refusals.{IsTableSet-refused}
 use Rattle.task_toml.specs.Reading.{reading_of_tasks}
@@ -24,7 +24,7 @@ use Rattle.run_outcome.specs.Refusals.{Outcome, name_of, limit_of}
 use Rattle.slot_cli.specs.declared.command.Command.{Command}
 use Rattle.slot_cli.specs.declared.command.Source.{Source}
 use Rattle.slot_cli.specs.declared.command.Source.TheVariants.{Tasks, Spelled, Load}
-use Rattle.slot_cli.specs.Commands.{command_of, source_of}
+use Rattle.slot_cli.specs.Commands.{command_of}
 use Rattle.slot_cli.specs.Due.{limited_bytes, bytes_of, sound_set, feasible_plan, planned_plan, spelled_plan, plan_from, due_of, expected}
 use Rattle.slot_cli.specs.Runs.{stage_of, stage_due}
 use Rattle.slot_cli.specs.Verdicts.{set_of_table, spelled_set, set_from, set_of_run}
@@ -75,10 +75,9 @@ table-fault (Ok plan) fault is = cc
 table-fault (Err other) fault is = let same : other ≡ fault = cc in ap Err same
 
 -- the set of a table is that of its reading
-spelled-set : (bytes : List ℕ) (r : Result TaskSet TableFault) (set : TaskSet) → set_of_table bytes ≡ r → r ≡ Ok set → spelled_set bytes ≡ Ok set
-spelled-set bytes r set is given =
-    let all : (x : Result TaskSet TableFault) → x ≡ Ok set → (let o : Outcome TaskSet = result_map_both (λ (s : TaskSet). s) BadTable x in o) ≡ Ok set = λ x same. rw same refl in
-    all (set_of_table bytes) (is ∙ given)
+spelled-set : (bytes : List ℕ) (set : TaskSet) → set_of_table bytes ≡ Ok set → spelled_set bytes ≡ Ok set
+spelled-set bytes set is =
+    let refused : Result TaskSet TableFault → Outcome TaskSet = λ r. result_map_both (λ (s : TaskSet). s) BadTable r in ap refused is
 
 -- what comes after the plan gives no refusal of an earlier stage
 plan-refuses : (made : Outcome PlanParts) (next : PlanParts → Outcome (List ℕ)) (e : Refusal) → stage_of e ≤ 4 → ((plan : PlanParts) → 5 ≤ stage_due (next plan)) → (made >>= next) ≡ Err e → made ≡ Err e
@@ -86,12 +85,12 @@ plan-refuses (Ok plan) next e early later is =
     let stage : stage_due (next plan) ≡ stage_of e = ap stage_due is in absurd (omega (arith, later plan, stage, early))
 plan-refuses (Err other) next e early later is = let same : other ≡ e = cc in ap Err same
 
-plan-due : (held : Held) (words : List (List ℕ)) (o : Option Command) (e : Refusal) → command_of words ≡ o → (Usage ≡ e → ⊥) → stage_of e ≤ 4 → due_of held words o ≡ Err e → (command : Command) × (command_of words ≡ Some command) × (plan_from held words (source_of command) ≡ Err e)
+plan-due : (held : Held) (words : List (List ℕ)) (o : Option Command) (e : Refusal) → command_of words ≡ o → (Usage ≡ e → ⊥) → stage_of e ≤ 4 → due_of held words o ≡ Err e → (command : Command) × (command_of words ≡ Some command) × (plan_from held words command.source ≡ Err e)
 plan-due held words None e writes apart early is = let same : Usage ≡ e = cc in absurd (apart same)
 plan-due held words (Some command) e writes apart early is = (
   command,
   writes,
-  plan-refuses (plan_from held words (source_of command)) (text_after held words command) e early (stage-after held words command) is,
+  plan-refuses (plan_from held words command.source) (text_after held words command) e early (stage-after held words command) is,
 )
 
 -- a sound set that is refused for this window
@@ -132,17 +131,17 @@ refused-table held words Spelled window is =
     let t = IsTableSet-refused bytes window (table-fault (reading_of_table bytes) (NoPlan window) refused) in
     record {
       set = t.set;
-      writes = step_after (bytes_of held words TableFile) spelled_set bytes (Ok t.set) read (spelled-set bytes (Ok t.set) t.set t.spelled refl);
+      writes = step_after (bytes_of held words TableFile) spelled_set bytes (Ok t.set) read (spelled-set bytes t.set t.spelled);
       sound = t.sound;
       found = t.found;
     }
 refused-table held words (Load n) window is = cc
 
 -- the set of the command is that of the run
-set-of_run : (held : Held) (words : List (List ℕ)) (command : Command) → command_of words ≡ Some command → set_of_run held words ≡ set_from held words (source_of command)
+set-of_run : (held : Held) (words : List (List ℕ)) (command : Command) → command_of words ≡ Some command → set_of_run held words ≡ set_from held words command.source
 set-of_run held words command writes = rw writes refl
 
-refused-run : (held : Held) (words : List (List ℕ)) (command : Command) (window : Window) → command_of words ≡ Some command → IsRefused (set_from held words (source_of command)) window → IsRefused (set_of_run held words) window
+refused-run : (held : Held) (words : List (List ℕ)) (command : Command) (window : Window) → command_of words ≡ Some command → IsRefused (set_from held words command.source) window → IsRefused (set_of_run held words) window
 refused-run held words command window writes refused =
     subst (λ (made : Outcome TaskSet). IsRefused made window) (sym (set-of_run held words command writes)) refused
 
@@ -150,9 +149,9 @@ refused-run held words command window writes refused =
 pub refused-infeasible : (held : Held) (words : List (List ℕ)) (window : Window) → expected held words ≡ Err (Infeasible window) → IsRefused (set_of_run held words) window
 refused-infeasible held words window is =
     let (command, writes, refused) = plan-due held words (command_of words) (Infeasible window) refl (λ same. cc) (omega arith) is in
-    refused-run held words command window writes (refused-tasks held words (source_of command) window refused)
+    refused-run held words command window writes (refused-tasks held words command.source window refused)
 
 pub refused-bad_table : (held : Held) (words : List (List ℕ)) (window : Window) → expected held words ≡ Err (BadTable (NoPlan window)) → IsRefused (set_of_run held words) window
 refused-bad_table held words window is =
     let (command, writes, refused) = plan-due held words (command_of words) (BadTable (NoPlan window)) refl (λ same. cc) (omega arith) is in
-    refused-run held words command window writes (refused-table held words (source_of command) window refused)
+    refused-run held words command window writes (refused-table held words command.source window refused)

@@ -13,4 +13,5 @@ pub mod StepLemmas
 pub mod TableReplays
 pub mod VerdictLemmas
 pub mod WorkLemmas
+pub mod TraceFaults
 pub mod TraceLines

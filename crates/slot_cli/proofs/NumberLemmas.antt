@@ -8,7 +8,7 @@ use Rattle.std.proofs.lemmas.Bool.{and_parts}
 use Rattle.std.proofs.lemmas.Bool.Decides.{nat_tests}
 use Rattle.std.proofs.lemmas.Str.{digit_value_digit}
 use Rattle.std.proofs.lemmas.Str.Parse.{parse_gives, digits_value_short, digits_value-take-le}
-use Rattle.arrival_csv.proofs.DigitLemmas.{digits}
+use Rattle.key_texts.proofs.DigitLemmas.{digits}
 use Rattle.slot_cli.specs.Commands.{is_number}
 
 -- a number of at most 6 digits is read whole

@@ -5,19 +5,18 @@ use Rattle.std.proofs.lemmas.Bool.{and_parts, leb-true}
 use Rattle.std.proofs.lemmas.List.{append-nil}
 use Rattle.std.proofs.lemmas.List.Elements.{All-from_recursion}
 use Rattle.std.proofs.lemmas.List.Sorted.{IsPermutation-sym, Contains-permutation}
-use Rattle.slot_core.specs.declared.TheConstants.{ARRIVAL_LIMIT}
+use Rattle.slot_core.specs.declared.TheConstants.{ARRIVAL_LIMIT, REPLAY_LIMIT}
 use Rattle.slot_core.specs.declared.events.Arrival.{Arrival}
 use Rattle.slot_core.specs.declared.jobs.Job.{Job}
 use Rattle.slot_core.specs.declared.tasks.TaskSet.{TaskSet}
-use Rattle.slot_core.specs.Arrivals.{are_fitting, arrivals_follow, key_in_set}
-use Rattle.slot_core.specs.Cycles.{cycle_of}
-use Rattle.slot_core.specs.OfflineJobs.{cycle_jobs}
-use Rattle.slot_core.specs.Plans.{PlanParts, IsPlan}
-use Rattle.slot_core.specs.Traces.{trace}
+use Rattle.slot_core.specs.Runs.Arrivals.{are_fitting, arrivals_follow, key_in_set}
+use Rattle.slot_core.specs.Sets.Cycles.{cycle_of}
+use Rattle.slot_core.specs.Offline.OfflineJobs.{cycle_jobs}
+use Rattle.slot_core.specs.Keeping.Plans.{PlanParts, IsPlan}
+use Rattle.slot_core.specs.Runs.Traces.{trace}
 use Rattle.slot_facts.proofs.Lists.Members.{Contains-from_Has, AllByRecursion-from_Has}
 use Rattle.slot_facts.proofs.Offline.Jobs.{offline_from_cycle, offline-named}
 use Rattle.slot_facts.proofs.Replays.Lengths.{trace-short}
-use Rattle.slot_cli.specs.declared.command.TheConstants.{LOAD_SLOTS}
 
 -- the keys of the jobs of a plan lie in its set
 pub keys-named : (plan : PlanParts) → IsPlan plan → All (λ (j : Job). key_in_set plan.tasks j.key ≡ true) plan.jobs
@@ -28,11 +27,11 @@ keys-named plan is_plan =
     let listed : IsPermutation first plan.jobs = subst (λ n. IsPermutation (cycle_jobs set n 0) plan.jobs) is_plan.cycle is_plan.jobs in
     All-from_recursion Named plan.jobs (AllByRecursion-from_Has Named plan.jobs (λ job has. offline-named set 1 job (offline_from_cycle set (cycle_of set) 0 job (Contains-permutation plan.jobs first job (IsPermutation-sym first plan.jobs listed) (Contains-from_Has plan.jobs job has)))))
 
--- the trace of a load is short
-pub short_trace : (set : TaskSet) (arrivals : List Arrival) → are_fitting set LOAD_SLOTS arrivals ≡ true → length (trace set arrivals LOAD_SLOTS) < 2 ^ 64
-short_trace set arrivals fits =
-    let few : length arrivals ≤ ARRIVAL_LIMIT = leb-true (length arrivals) ARRIVAL_LIMIT (and_parts (nat_le (length arrivals) ARRIVAL_LIMIT) (arrivals_follow set LOAD_SLOTS 1 0 arrivals) fits).0 in
-    trace-short set arrivals LOAD_SLOTS few (omega arith)
+-- a trace that may be replayed is short
+pub short_trace : (set : TaskSet) (arrivals : List Arrival) (slots : ℕ) → slots ≤ REPLAY_LIMIT → are_fitting set slots arrivals ≡ true → length (trace set arrivals slots) < 2 ^ 64
+short_trace set arrivals slots low fits =
+    let few : length arrivals ≤ ARRIVAL_LIMIT = leb-true (length arrivals) ARRIVAL_LIMIT (and_parts (nat_le (length arrivals) ARRIVAL_LIMIT) (arrivals_follow set slots 1 0 arrivals) fits).0 in
+    trace-short set arrivals slots few low
 
 -- a list of lines up to one of them, that line, and the rest
 pub line-at : {X : Type 0} (f : X → List ℕ) (xs : List X) (i : ℕ) (d : X) (line : List ℕ) → i < length xs → line ≡ f (get_or xs i d) → flat_map f xs ≡ flat_map f (take i xs) ++ (line ++ flat_map f (drop (suc i) xs))

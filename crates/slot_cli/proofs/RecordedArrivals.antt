@@ -1,11 +1,11 @@
 -- The arrivals of a command fit its plan and its slots.
-use Rattle.std.proofs.Common.{◌≡◌, ℕ, ◌≤◌, true, List, [], Some, Result, Ok, Err, refl, ap, subst, arith}
+use Rattle.std.proofs.Common.{◌≡◌, ℕ, true, List, [], Some, Result, Ok, Err, refl, sym, ap, subst, ◌∙◌, arith}
 use Rattle.std.specs.Result.{result_map_both}
 use Rattle.slot_core.specs.declared.events.Arrival.{Arrival}
 use Rattle.slot_core.specs.declared.tasks.TaskSet.{TaskSet}
-use Rattle.slot_core.specs.Arrivals.{are_fitting}
-use Rattle.slot_core.specs.Plans.{PlanParts, IsPlan}
-use Rattle.slot_core.specs.Results.{◌>>=◌}
+use Rattle.slot_core.specs.Runs.Arrivals.{are_fitting}
+use Rattle.slot_core.specs.Keeping.Plans.{PlanParts, IsPlan}
+use Rattle.slot_core.specs.Calls.Results.{◌>>=◌}
 use Rattle.arrival_csv.specs.declared.faults.ArrivalFault.{ArrivalFault}
 use Rattle.arrival_csv.specs.Reading.{reading_of_arrivals}
 use Rattle.arrival_csv.proofs.ReadArrivals.{are_fitting-reading}
@@ -18,9 +18,13 @@ use Rattle.slot_io.specs.Files.{Held}
 use Rattle.run_outcome.specs.declared.file.File.TheVariants.{Arrivals as ArrivalsFile}
 use Rattle.slot_cli.specs.declared.command.TheConstants.{LOAD_SLOTS}
 use Rattle.slot_cli.specs.declared.command.Command.{Command}
-use Rattle.slot_cli.specs.declared.command.Command.TheVariants.{Check, Table, Show, Replay, ReplayTable, Gantt, Selfrun}
-use Rattle.slot_cli.specs.Commands.{command_of, slots_of, source_of}
-use Rattle.slot_cli.specs.Due.{bytes_of, fitting_arrivals, recorded_arrivals, arrivals_for, plan_from, plan_of_run}
+use Rattle.slot_cli.specs.declared.command.Arrivals.{Arrivals}
+use Rattle.slot_cli.specs.declared.command.Arrivals.TheVariants.{Absent, Recorded, Generated}
+use Rattle.slot_cli.specs.declared.command.Source.{Source}
+use Rattle.slot_cli.specs.declared.command.Source.TheVariants.{Load}
+use Rattle.slot_cli.specs.Commands.{command_of, slots_in, slots_of}
+use Rattle.slot_cli.specs.Due.{bytes_of, fitting_arrivals, recorded_arrivals, arrivals_from, arrivals_for, plan_from, plan_of_run}
+use Rattle.slot_cli.proofs.CommandLemmas.{in_range-command}
 use Rattle.slot_cli.proofs.RunPlans.{IsPlan-run, plan-from_run, tasks-load}
 
 -- arrivals that are due are those of the reading
@@ -51,18 +55,20 @@ fitting-load : (n : ℕ) (set : TaskSet) (arrivals : List Arrival) → load_set 
 fitting-load n set arrivals same is =
     subst (λ s. are_fitting s LOAD_SLOTS arrivals ≡ true) same (subst (λ (made : List Arrival). are_fitting (load_set n) LOAD_SLOTS made ≡ true) (same_arrivals (load_arrivals n LOAD_SLOTS) arrivals is) (load_arrivals-fit n LOAD_SLOTS (omega arith)))
 
-fitting-for : (held : Held) (words : List (List ℕ)) (command : Command) (plan : PlanParts) (arrivals : List Arrival) → plan_from held words (source_of command) ≡ Ok plan → arrivals_for held words command plan.tasks ≡ Ok arrivals → are_fitting plan.tasks (slots_of command) arrivals ≡ true
-fitting-for held words Check plan arrivals from is = fitting-none plan.tasks arrivals is
-fitting-for held words Table plan arrivals from is = fitting-none plan.tasks arrivals is
-fitting-for held words Show plan arrivals from is = fitting-none plan.tasks arrivals is
-fitting-for held words (Replay slots) plan arrivals from is = fitting-recorded held words plan.tasks slots arrivals is
-fitting-for held words (ReplayTable slots) plan arrivals from is = fitting-recorded held words plan.tasks slots arrivals is
-fitting-for held words (Gantt slots) plan arrivals from is = fitting-recorded held words plan.tasks slots arrivals is
-fitting-for held words (Selfrun n) plan arrivals from is = fitting-load n plan.tasks arrivals (tasks-load held words n plan from) is
+fitting-from : (held : Held) (words : List (List ℕ)) (arrivals : Arrivals) (set : TaskSet) (made : List Arrival) → ((n : ℕ) → arrivals ≡ Generated n → load_set n ≡ set) → arrivals_from held words arrivals set ≡ Ok made → are_fitting set (slots_in arrivals) made ≡ true
+fitting-from held words Absent set made load is = fitting-none set made is
+fitting-from held words (Recorded slots) set made load is = fitting-recorded held words set slots made is
+fitting-from held words (Generated n) set made load is = fitting-load n set made (load n refl) is
+
+-- the plan of a load has its set
+set-of_load : (held : Held) (words : List (List ℕ)) (source : Source) (plan : PlanParts) (n : ℕ) → source ≡ Load n → plan_from held words source ≡ Ok plan → load_set n ≡ plan.tasks
+set-of_load held words source plan n is from = tasks-load held words n plan (ap (λ s. plan_from held words s) (sym is) ∙ from)
 
 -- the plan of a run is one, and its arrivals fit
 pub fitting-run : (held : Held) (words : List (List ℕ)) (command : Command) (plan : PlanParts) (arrivals : List Arrival) → command_of words ≡ Some command → plan_of_run held words ≡ Ok plan → arrivals_for held words command plan.tasks ≡ Ok arrivals → IsPlan plan × (are_fitting plan.tasks (slots_of command) arrivals ≡ true)
 fitting-run held words command plan arrivals writes is gathered = (
   IsPlan-run held words plan is,
-  fitting-for held words command plan arrivals (plan-from_run held words command plan writes is) gathered,
+  let from = plan-from_run held words command plan writes is in
+      let load : (n : ℕ) → command.arrivals ≡ Generated n → load_set n ≡ plan.tasks = λ n same. set-of_load held words command.source plan n ((in_range-command words command writes).load n same) from in
+      fitting-from held words command.arrivals plan.tasks arrivals load gathered,
 )

@@ -2,14 +2,14 @@
 use Rattle.std.proofs.Common.{◌≡◌, ℕ, ◌≤◌, true, List, Option, None, Some, Result, Ok, Err, refl, ap, subst}
 use Rattle.std.specs.Option.{option_map_or}
 use Rattle.std.specs.Result.{result_map_both}
-use Rattle.slot_core.specs.Results.{◌>>=◌}
+use Rattle.slot_core.specs.Calls.Results.{◌>>=◌}
 use Rattle.slot_core.specs.declared.TheConstants.{LOAD_LIMIT}
 use Rattle.slot_core.specs.declared.jobs.Window.{Window}
 use Rattle.slot_core.specs.declared.tasks.TaskSet.{TaskSet}
-use Rattle.slot_core.specs.Cycles.{cycle_of}
-use Rattle.slot_core.specs.Feasible.{counterexample}
-use Rattle.slot_core.specs.Plans.{PlanParts, IsPlan, planned}
-use Rattle.slot_core.specs.Ranges.{is_sound}
+use Rattle.slot_core.specs.Sets.Cycles.{cycle_of}
+use Rattle.slot_core.specs.Feasibility.Feasible.{counterexample}
+use Rattle.slot_core.specs.Keeping.Plans.{PlanParts, IsPlan, planned}
+use Rattle.slot_core.specs.Sets.Ranges.{is_sound}
 use Rattle.slot_io.specs.Files.{Held}
 use Rattle.load_gen.specs.Loads.{load_set}
 use Rattle.load_gen.proofs.Sound.{load_set-sound}
@@ -19,15 +19,16 @@ use Rattle.task_toml.specs.TomlFields.{Read as TomlRead}
 use Rattle.task_toml.proofs.SoundReadings.{is_sound-reading}
 use Rattle.slot_facts.proofs.Demand.Feasible.{IsFeasible-from_none}
 use Rattle.slot_facts.proofs.Plans.Planned.{IsPlan-planned}
-use Rattle.table_codec.specs.declared.faults.TableFault.{TableFault}
+use Rattle.table_faults.specs.declared.faults.TableFault.{TableFault}
 use Rattle.table_codec.specs.Grammar.{reading_of_table}
 use Rattle.table_codec.proofs.TableLaws.{settled-from_reading}
 use Rattle.run_outcome.specs.declared.file.File.TheVariants.{Tasks as TaskFile, Table as TableFile}
 use Rattle.run_outcome.specs.declared.refusal.Refusal.TheVariants.{BadTasks, BadTable, Infeasible, Usage}
 use Rattle.run_outcome.specs.Refusals.{Outcome}
 use Rattle.slot_cli.specs.declared.command.Command.{Command}
-use Rattle.slot_cli.specs.declared.command.Command.TheVariants.{Check, Table, Show, Replay, ReplayTable, Gantt, Selfrun}
-use Rattle.slot_cli.specs.Commands.{IsInRange, command_of, source_of}
+use Rattle.slot_cli.specs.declared.command.Source.{Source}
+use Rattle.slot_cli.specs.declared.command.Source.TheVariants.{Tasks, Spelled, Load}
+use Rattle.slot_cli.specs.Commands.{IsLoadNumber, command_of}
 use Rattle.slot_cli.specs.Due.{bytes_of, sound_set, feasible_plan, planned_plan, spelled_plan, plan_from, plan_of_run}
 use Rattle.slot_cli.proofs.CommandLemmas.{in_range-command}
 
@@ -87,22 +88,18 @@ same_plan : (made plan : PlanParts) → (let s : Outcome PlanParts = Ok made in 
 same_plan made plan is = cc
 
 -- and its plan has that set
-pub tasks-load : (held : Held) (words : List (List ℕ)) (n : ℕ) (plan : PlanParts) → plan_from held words (source_of (Selfrun n)) ≡ Ok plan → load_set n ≡ plan.tasks
+pub tasks-load : (held : Held) (words : List (List ℕ)) (n : ℕ) (plan : PlanParts) → plan_from held words (Load n) ≡ Ok plan → load_set n ≡ plan.tasks
 tasks-load held words n plan is = ap (λ (p : PlanParts). p.tasks) (same_plan (planned (load_set n)) plan is)
 
--- ---- the plan of a command
+-- ---- the plan, from where it comes
 
-pub IsPlan-from : (held : Held) (words : List (List ℕ)) (command : Command) (plan : PlanParts) → IsInRange command → plan_from held words (source_of command) ≡ Ok plan → IsPlan plan
-IsPlan-from held words Check plan within is = IsPlan-tasks (bytes_of held words TaskFile) plan is
-IsPlan-from held words Table plan within is = IsPlan-tasks (bytes_of held words TaskFile) plan is
-IsPlan-from held words Show plan within is = IsPlan-spelled (bytes_of held words TableFile) plan is
-IsPlan-from held words (Replay slots) plan within is = IsPlan-tasks (bytes_of held words TaskFile) plan is
-IsPlan-from held words (ReplayTable slots) plan within is = IsPlan-spelled (bytes_of held words TableFile) plan is
-IsPlan-from held words (Gantt slots) plan within is = IsPlan-tasks (bytes_of held words TaskFile) plan is
-IsPlan-from held words (Selfrun n) plan within is =
+pub IsPlan-from : (held : Held) (words : List (List ℕ)) (source : Source) (plan : PlanParts) → IsLoadNumber source → plan_from held words source ≡ Ok plan → IsPlan plan
+IsPlan-from held words Tasks plan within is = IsPlan-tasks (bytes_of held words TaskFile) plan is
+IsPlan-from held words Spelled plan within is = IsPlan-spelled (bytes_of held words TableFile) plan is
+IsPlan-from held words (Load n) plan within is =
     subst IsPlan (same_plan (planned (load_set n)) plan is) (IsPlan-load n within.0 within.1)
 
-plan-of_command : (held : Held) (words : List (List ℕ)) (o : Option Command) (plan : PlanParts) → command_of words ≡ o → option_map_or (λ command. plan_from held words (source_of command)) o (Err Usage) ≡ Ok plan → (command : Command) × (command_of words ≡ Some command) × (plan_from held words (source_of command) ≡ Ok plan)
+plan-of_command : (held : Held) (words : List (List ℕ)) (o : Option Command) (plan : PlanParts) → command_of words ≡ o → option_map_or (λ command. plan_from held words command.source) o (Err Usage) ≡ Ok plan → (command : Command) × (command_of words ≡ Some command) × (plan_from held words command.source ≡ Ok plan)
 plan-of_command held words (Some command) plan writes is = (command, writes, is)
 plan-of_command held words None plan writes is = cc
 
@@ -110,8 +107,8 @@ plan-of_command held words None plan writes is = cc
 pub IsPlan-run : (held : Held) (words : List (List ℕ)) (plan : PlanParts) → plan_of_run held words ≡ Ok plan → IsPlan plan
 IsPlan-run held words plan is =
     let (command, writes, from) = plan-of_command held words (command_of words) plan refl is in
-    IsPlan-from held words command plan (in_range-command words command writes) from
+    IsPlan-from held words command.source plan (in_range-command words command writes).source from
 
 -- it comes from the source of the command
-pub plan-from_run : (held : Held) (words : List (List ℕ)) (command : Command) (plan : PlanParts) → command_of words ≡ Some command → plan_of_run held words ≡ Ok plan → plan_from held words (source_of command) ≡ Ok plan
+pub plan-from_run : (held : Held) (words : List (List ℕ)) (command : Command) (plan : PlanParts) → command_of words ≡ Some command → plan_of_run held words ≡ Ok plan → plan_from held words command.source ≡ Ok plan
 plan-from_run held words command plan writes is = rw writes at is

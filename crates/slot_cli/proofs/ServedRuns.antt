@@ -2,13 +2,13 @@
 use Rattle.std.proofs.Common.{◌≡◌, ℕ, true, List, length, Ok, sym, subst}
 use Rattle.std.proofs.Math.Seq.{take-length}
 use Rattle.slot_core.specs.declared.events.Arrival.{Arrival}
-use Rattle.slot_core.specs.Arrivals.{are_fitting}
-use Rattle.slot_core.specs.Cycles.{cycle_of}
-use Rattle.slot_core.specs.Feasible.{IsFeasible}
-use Rattle.slot_core.specs.Futures.{CyclesCanBeServed, OffersAreExact}
-use Rattle.slot_core.specs.Plans.{PlanParts, IsPlan}
-use Rattle.slot_core.specs.Service.{IsServed, IsOrdered}
-use Rattle.slot_core.specs.Traces.{trace, history_of, IsLegal}
+use Rattle.slot_core.specs.Runs.Arrivals.{are_fitting}
+use Rattle.slot_core.specs.Sets.Cycles.{cycle_of}
+use Rattle.slot_core.specs.Feasibility.Feasible.{IsFeasible}
+use Rattle.slot_core.specs.Claims.Futures.{CyclesCanBeServed, OffersAreExact}
+use Rattle.slot_core.specs.Keeping.Plans.{PlanParts}
+use Rattle.slot_core.specs.Claims.Service.{IsServed, IsOrdered}
+use Rattle.slot_core.specs.Runs.Traces.{trace, history_of, IsLegal}
 use Rattle.slot_io.specs.Files.{Held}
 use Rattle.slot_facts.proofs.Legal.Served.{every_trace_is_served}
 use Rattle.slot_facts.proofs.Legal.Traces.{every_trace_is_legal}

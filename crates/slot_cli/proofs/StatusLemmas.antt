@@ -5,11 +5,11 @@ use Rattle.arrival_csv.specs.declared.faults.ArrivalFault.{ArrivalFault}
 use Rattle.slot_core.specs.declared.faults.TaskFault.{TaskFault}
 use Rattle.slot_core.specs.declared.jobs.Window.{Window}
 use Rattle.slot_io.specs.Files.{Held}
-use Rattle.table_codec.specs.declared.faults.TableFault.{TableFault}
+use Rattle.table_faults.specs.declared.faults.TableFault.{TableFault}
 use Rattle.run_outcome.specs.declared.status.Status.{Status}
 use Rattle.run_outcome.specs.declared.file.File.{File}
 use Rattle.run_outcome.specs.declared.refusal.Refusal.{Refusal}
-use Rattle.run_outcome.specs.declared.refusal.Refusal.TheVariants.{Usage, Unreadable, TooLarge, BadTasks, Infeasible, BadTable, BadArrivals, WriteFault, Memory}
+use Rattle.run_outcome.specs.declared.refusal.Refusal.TheVariants.{Usage, Unreadable, TooLarge, BadTasks, Infeasible, BadTable, BadArrivals, NotVerified, WriteFault, Memory}
 use Rattle.run_outcome.specs.Refusals.{Outcome, refusal_status, has_fixed_line, is_found}
 use Rattle.slot_cli.specs.declared.command.Command.{Command}
 use Rattle.slot_cli.specs.Runs.{IsHostFault, IsAnswerTo}
@@ -26,6 +26,7 @@ Tells Status.WriteFault e = e ≡ WriteFault
 Tells Status.Memory e = e ≡ Memory
 Tells Status.Done e = ⊥
 Tells Status.BadTable e = (fault : TableFault) × (e ≡ BadTable fault)
+Tells Status.NotVerified e = (reason : List ℕ) × (e ≡ NotVerified reason)
 
 tells : (e : Refusal) → Tells (refusal_status e) e
 tells Usage = refl
@@ -35,6 +36,7 @@ tells (BadTasks fault) = (fault, refl)
 tells (Infeasible window) = (window, refl)
 tells (BadTable fault) = (fault, refl)
 tells (BadArrivals fault) = (fault, refl)
+tells (NotVerified reason) = (reason, refl)
 tells WriteFault = refl
 tells Memory = refl
 
@@ -65,11 +67,13 @@ not_host None (BadTasks fault) found host = host
 not_host None (Infeasible window) found host = host
 not_host None (BadTable fault) found host = host
 not_host None (BadArrivals fault) found host = host
+not_host None (NotVerified reason) found host = host
 not_host (Some command) (TooLarge file) found host = host
 not_host (Some command) (BadTasks fault) found host = host
 not_host (Some command) (Infeasible window) found host = host
 not_host (Some command) (BadTable fault) found host = host
 not_host (Some command) (BadArrivals fault) found host = host
+not_host (Some command) (NotVerified reason) found host = host
 not_host command Usage found host = cc
 not_host command (Unreadable file) found host = cc
 not_host command WriteFault found host = cc

@@ -1,19 +1,20 @@
 -- Steps one after the other.
 use Rattle.std.proofs.Common.{◌≡◌, ℕ, Bool, true, false, List, Option, Some, Ok, Err, refl, sym, ap, subst, ◌∙◌, inl, inr}
-use Rattle.slot_core.specs.Results.{◌>>=◌}
+use Rattle.slot_core.specs.Calls.Results.{◌>>=◌}
 use Rattle.slot_io.specs.Files.{Held}
 use Rattle.run_outcome.specs.declared.file.File.{File}
-use Rattle.run_outcome.specs.declared.file.File.TheVariants.{Tasks as TaskFile, Table as TableFile, Arrivals as ArrivalsFile}
+use Rattle.run_outcome.specs.declared.file.File.TheVariants.{Tasks as TaskFile, Table as TableFile, Arrivals as ArrivalsFile, Trace as TraceFile}
 use Rattle.run_outcome.specs.declared.refusal.Refusal.{Refusal}
 use Rattle.run_outcome.specs.declared.refusal.Refusal.TheVariants.{Unreadable, Memory}
 use Rattle.run_outcome.specs.Refusals.{Outcome, is_found, same_file}
-use Rattle.slot_cli.specs.Steps.{IsStep, IsUnreadable, IsFileStep, IsOfReading, IsReading}
+use Rattle.slot_cli.specs.Steps.{IsStep, IsUnreadable, IsReading}
 use Rattle.slot_cli.proofs.StageLemmas.{AllFound}
 
 pub same_file_itself : (file : File) → same_file file file ≡ true
 same_file_itself TaskFile = refl
 same_file_itself TableFile = refl
 same_file_itself ArrivalsFile = refl
+same_file_itself TraceFile = refl
 
 -- so a file that cannot be read is the one that was to be read
 pub unreadable_itself : (file : File) → IsUnreadable (same_file file) (Unreadable file)

@@ -1,28 +1,32 @@
 -- A written table replays as the task file that it was made from.
-use Rattle.std.proofs.Common.{◌≡◌, ℕ, ◌+◌, ◌≤◌, Bool, true, false, List, [], ◌∷◌, length, take, Option, None, Some, Ok, Err, refl, sym, ap, ◌∙◌, arith}
+use Rattle.std.proofs.Common.{◌≡◌, inr, ℕ, ◌+◌, ◌≤◌, Bool, true, false, List, [], ◌∷◌, length, take, Option, None, Some, Ok, Err, refl, sym, ap, ◌∙◌, arith}
 use Rattle.std.specs.Prelude.{codes, nat_lt, option_map, if◌then◌else◌}
 use Rattle.std.specs.FinMap.{get}
 use Rattle.std.specs.Option.{option_map_or}
 use Rattle.std.specs.Result.{result_map_both}
 use Rattle.std.proofs.lemmas.Bool.{le-ltb}
 use Rattle.std.proofs.lemmas.List.{take_all}
-use Rattle.slot_core.specs.Results.{◌>>=◌}
+use Rattle.slot_core.specs.Calls.Results.{◌>>=◌}
 use Rattle.slot_core.specs.declared.TheConstants.{REPLAY_LIMIT, TABLE_FILE_LIMIT}
 use Rattle.slot_core.specs.declared.events.Arrival.{Arrival}
 use Rattle.slot_core.specs.declared.tasks.TaskSet.{TaskSet}
-use Rattle.slot_core.specs.Plans.{PlanParts, IsPlan}
+use Rattle.slot_core.specs.Keeping.Plans.{PlanParts, IsPlan}
 use Rattle.slot_io.specs.Files.{Held}
-use Rattle.table_codec.specs.Grammar.{reading_of_table, spelling}
-use Rattle.table_codec.proofs.Lengths.{length-spelling}
+use Rattle.table_codec.specs.Grammar.{Spells, spelling}
+use Rattle.table_codec.proofs.Lengths.{length-spelled}
 use Rattle.table_codec.proofs.TableLaws.{reading-from_spelled}
-use Rattle.run_outcome.specs.declared.file.File.TheVariants.{Tasks as TaskFile, Table as TableFile, Arrivals as ArrivalsFile}
-use Rattle.run_outcome.specs.declared.refusal.Refusal.TheVariants.{Usage, Unreadable, TooLarge, BadTable}
+use Rattle.run_outcome.specs.declared.file.File.TheVariants.{Table as TableFile, Arrivals as ArrivalsFile}
+use Rattle.run_outcome.specs.declared.refusal.Refusal.TheVariants.{Unreadable, TooLarge, BadTable}
 use Rattle.run_outcome.specs.Refusals.{Outcome, limit_of}
-use Rattle.slot_cli.specs.declared.command.Command.TheVariants.{Table, Replay, ReplayTable}
+use Rattle.slot_cli.specs.declared.command.Arrivals.TheVariants.{Recorded}
+use Rattle.slot_cli.specs.declared.command.Command.{Command}
+use Rattle.slot_cli.specs.declared.command.Output.TheVariants.{Trace}
+use Rattle.slot_cli.specs.declared.command.Recording.TheVariants.{Unread}
+use Rattle.slot_cli.specs.declared.command.Source.{Source}
 use Rattle.slot_cli.specs.declared.command.Source.TheVariants.{Tasks, Spelled}
-use Rattle.slot_cli.specs.Commands.{command_of, number_up_to}
+use Rattle.slot_cli.specs.Commands.{number_up_to, over_slots}
 use Rattle.slot_cli.specs.Due.{limited_bytes, bytes_of, spelled_plan, fitting_arrivals, recorded_arrivals, plan_from, text_of, due_of, expected}
-use Rattle.slot_cli.specs.Tables.{AWrittenTableReplaysTheSame}
+use Rattle.slot_cli.specs.Tables.{AWrittenTableReplaysTheSame, EachSpellingReplaysTheSame}
 use Rattle.slot_cli.proofs.RunPlans.{IsPlan-from}
 use Rattle.slot_cli.proofs.StageLemmas.{text_after, text_with}
 use Rattle.slot_cli.proofs.StepLemmas.{bind_Ok}
@@ -39,6 +43,11 @@ words_of_replay = words_of (codes "replay")
 
 abbrev words_of_replay_table : List ℕ → List ℕ → List ℕ → List (List ℕ)
 words_of_replay_table = words_of (codes "replay-table")
+
+-- the command that writes the trace of so many slots with recorded arrivals
+abbrev trace_of : Source → ℕ → Command
+trace_of source slots =
+    record { source = source; arrivals = Recorded slots; recording = Unread; output = Trace }
 
 -- what a table is written of
 written-of : (made : Outcome PlanParts) (bytes : List ℕ) → (made >>= (λ plan. let o : Outcome (List ℕ) = Ok (spelling plan) in o)) ≡ Ok bytes → (plan : PlanParts) × (made ≡ Ok plan) × (bytes ≡ spelling plan)
@@ -61,11 +70,11 @@ read-whole bytes o is short =
     ∙ within_limit bytes (nat_lt TABLE_FILE_LIMIT (length bytes)) (le-ltb TABLE_FILE_LIMIT (length bytes) short)
 
 -- the plan that is read of the table
-plan-spelled : (after : Held) (b a n bytes : List ℕ) (plan : PlanParts) → get after b ≡ Some bytes → IsPlan plan → bytes ≡ spelling plan → plan_from after (words_of_replay_table b a n) Spelled ≡ Ok plan
-plan-spelled after b a n bytes plan held is_plan is =
-    let short : length bytes ≤ TABLE_FILE_LIMIT = omega (arith, ap (λ (bs : List ℕ). length bs) is, length-spelling plan is_plan) in
+plan-spelled : (after : Held) (b a n bytes : List ℕ) (plan : PlanParts) → get after b ≡ Some bytes → IsPlan plan → Spells bytes plan → plan_from after (words_of_replay_table b a n) Spelled ≡ Ok plan
+plan-spelled after b a n bytes plan held is_plan spells =
+    let short = length-spelled bytes plan is_plan spells in
     bind_Ok (bytes_of after (words_of_replay_table b a n) TableFile) spelled_plan bytes (read-whole bytes (get after b) held short)
-    ∙ ap (λ r. result_map_both (λ (p : PlanParts). p) BadTable r) (reading-from_spelled bytes plan is_plan is)
+    ∙ ap (λ r. result_map_both (λ (p : PlanParts). p) BadTable r) (reading-from_spelled bytes plan is_plan spells)
 
 -- the same arrivals are read
 arrivals-same : (before after : Held) (t b a n : List ℕ) (slots : ℕ) (set : TaskSet) → get after a ≡ get before a → recorded_arrivals after (words_of_replay_table b a n) slots set ≡ recorded_arrivals before (words_of_replay t a n) slots set
@@ -73,19 +82,24 @@ arrivals-same before after t b a n slots set same =
     ap (λ (o : Option (List ℕ)). option_map_or (limited_bytes ArrivalsFile) (option_map (take (limit_of ArrivalsFile + 1)) o) (Err (Unreadable ArrivalsFile)) >>= (λ bytes. fitting_arrivals bytes slots set)) same
 
 -- the text of a replay is the same where its plan and its arrivals are
-text-same : (before after : Held) (t b a n : List ℕ) (plan : PlanParts) (slots : ℕ) → plan_from before (words_of_replay t a n) Tasks ≡ Ok plan → plan_from after (words_of_replay_table b a n) Spelled ≡ Ok plan → get after a ≡ get before a → text_of after (words_of_replay_table b a n) (ReplayTable slots) ≡ text_of before (words_of_replay t a n) (Replay slots)
+text-same : (before after : Held) (t b a n : List ℕ) (plan : PlanParts) (slots : ℕ) → plan_from before (words_of_replay t a n) Tasks ≡ Ok plan → plan_from after (words_of_replay_table b a n) Spelled ≡ Ok plan → get after a ≡ get before a → text_of after (words_of_replay_table b a n) (trace_of Spelled slots) ≡ text_of before (words_of_replay t a n) (trace_of Tasks slots)
 text-same before after t b a n plan slots planned spelled same =
-    bind_Ok (plan_from after (words_of_replay_table b a n) Spelled) (text_after after (words_of_replay_table b a n) (ReplayTable slots)) plan spelled
-    ∙ ap (λ (o : Outcome (List Arrival)). o >>= text_with (Replay slots) plan) (arrivals-same before after t b a n slots plan.tasks same)
-    ∙ sym (bind_Ok (plan_from before (words_of_replay t a n) Tasks) (text_after before (words_of_replay t a n) (Replay slots)) plan planned)
+    bind_Ok (plan_from after (words_of_replay_table b a n) Spelled) (text_after after (words_of_replay_table b a n) (trace_of Spelled slots)) plan spelled
+    ∙ ap (λ (o : Outcome (List Arrival)). o >>= text_with before (words_of_replay t a n) (trace_of Tasks slots) plan) (arrivals-same before after t b a n slots plan.tasks same)
+    ∙ sym (bind_Ok (plan_from before (words_of_replay t a n) Tasks) (text_after before (words_of_replay t a n) (trace_of Tasks slots)) plan planned)
 
-due-same : (before after : Held) (t b a n : List ℕ) (o : Option ℕ) → ((slots : ℕ) → text_of after (words_of_replay_table b a n) (ReplayTable slots) ≡ text_of before (words_of_replay t a n) (Replay slots)) → due_of after (words_of_replay_table b a n) (option_map ReplayTable o) ≡ due_of before (words_of_replay t a n) (option_map Replay o)
+due-same : (before after : Held) (t b a n : List ℕ) (o : Option ℕ) → ((slots : ℕ) → text_of after (words_of_replay_table b a n) (trace_of Spelled slots) ≡ text_of before (words_of_replay t a n) (trace_of Tasks slots)) → due_of after (words_of_replay_table b a n) (over_slots Spelled Trace o) ≡ due_of before (words_of_replay t a n) (over_slots Tasks Trace o)
 due-same before after t b a n None each = refl
 due-same before after t b a n (Some slots) each = each slots
+
+-- a table that spells the plan of T replays as T
+pub each_spelling_replays : EachSpellingReplaysTheSame
+each_spelling_replays before after t b a n bytes plan planned spells held same =
+    let is_plan = IsPlan-from before (words_of_table t) Tasks plan tt planned in
+    let spelled = plan-spelled after b a n bytes plan held is_plan spells in
+    due-same before after t b a n (number_up_to REPLAY_LIMIT n) (λ slots. text-same before after t b a n plan slots planned spelled same)
 
 pub written_table_replays : AWrittenTableReplaysTheSame
 written_table_replays before after t b a n bytes written held same =
     let (plan, planned, is) = table-written before t bytes written in
-    let is_plan = IsPlan-from before (words_of_table t) Table plan tt planned in
-    let spelled = plan-spelled after b a n bytes plan held is_plan is in
-    due-same before after t b a n (number_up_to REPLAY_LIMIT n) (λ slots. text-same before after t b a n plan slots planned spelled same)
+    each_spelling_replays before after t b a n bytes plan planned (inr is) held same

@@ -1,5 +1,5 @@
 -- What a run says of a set that does not fit means slot schedules.
-use Rattle.std.proofs.Common.{◌≡◌, ℕ, List, Option, Ok, Err, sym, subst, ◌∙◌}
+use Rattle.std.proofs.Common.{◌≡◌, ℕ, List, Option, Err, sym, ◌∙◌}
 use Rattle.slot_core.specs.declared.jobs.Window.{Window}
 use Rattle.slot_io.specs.Files.{Held}
 use Rattle.demand_test.proofs.Schedules.{unserved-from_some}

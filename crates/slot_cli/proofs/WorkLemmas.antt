@@ -2,23 +2,22 @@
 use Rattle.std.proofs.Common.{◌≡◌, ℕ, ◌≤◌, Bool, true, false, List, Option, None, Some, Ok, Err, refl, sym, ap, subst, ◌∙◌, inl, inr, arith}
 use Rattle.std.proofs.KnownBytes.{Appends-nil}
 use Rattle.std.specs.Io.KnownBytes.{Appends}
-use Rattle.slot_core.specs.Results.{◌>>=◌}
 use Rattle.slot_core.specs.declared.events.Arrival.{Arrival}
-use Rattle.slot_core.specs.Plans.{PlanParts}
+use Rattle.slot_core.specs.Keeping.Plans.{PlanParts}
 use Rattle.slot_io.specs.Files.{Held}
 use Rattle.slot_io.specs.Sinks.{AppendsPart}
 use Rattle.run_outcome.specs.declared.file.File.{File}
 use Rattle.run_outcome.specs.declared.refusal.Refusal.{Refusal}
-use Rattle.run_outcome.specs.declared.refusal.Refusal.TheVariants.{Usage, Unreadable, TooLarge, BadTasks, Infeasible, BadTable, BadArrivals, WriteFault, Memory}
+use Rattle.run_outcome.specs.declared.refusal.Refusal.TheVariants.{Usage, Unreadable, TooLarge, BadTasks, Infeasible, BadTable, BadArrivals, NotVerified, WriteFault, Memory}
 use Rattle.run_outcome.specs.Refusals.{Outcome, is_found}
 use Rattle.slot_cli.specs.declared.command.Command.{Command}
-use Rattle.slot_cli.specs.Commands.{source_of, recorded_for, is_file_of, is_recorded_in, reads}
-use Rattle.slot_cli.specs.Due.{plan_from, arrivals_for, text_from, text_of}
-use Rattle.slot_cli.specs.Runs.{stage_of, stage_due, Reads, IsHostFault}
+use Rattle.slot_cli.specs.Commands.{is_file_of, is_recorded_in, is_verified_in, reads}
+use Rattle.slot_cli.specs.Due.{plan_from, arrivals_for, trace_for, text_from, text_of}
+use Rattle.slot_cli.specs.Runs.{stage_of, stage_due, IsHostFault}
 use Rattle.slot_cli.specs.Steps.{IsUnreadable, IsOfReading, IsReading, IsWriting, IsWork}
-use Rattle.slot_cli.proofs.CommandLemmas.{reads-plan, reads-recorded, stage-plan_file, stage-arrivals_file}
-use Rattle.slot_cli.proofs.StageLemmas.{stage-text, stage-after, text_after, text_with}
-use Rattle.slot_cli.proofs.StepLemmas.{bind_Ok, bind_Err, reading-since}
+use Rattle.slot_cli.proofs.CommandLemmas.{stage-plan_file, stage-arrivals_file, stage-trace_file}
+use Rattle.slot_cli.proofs.StageLemmas.{stage-text, stage-after, stage-with, text_after, text_with, text_when}
+use Rattle.slot_cli.proofs.StepLemmas.{bind_Ok, bind_Err}
 
 -- nothing is a part of any text
 part_of_nothing : (o : Option (List ℕ)) (text : List ℕ) → AppendsPart o o text
@@ -75,30 +74,44 @@ work-refused held faults blamed written failed old new out words command may due
     }
 
 -- the way from the plan to the text
-pub way-plan : (files : Held) (words : List (List ℕ)) (command : Command) → IsOnTheWay (is_file_of (source_of command)) (plan_from files words (source_of command)) (text_of files words command)
+pub way-plan : (files : Held) (words : List (List ℕ)) (command : Command) → IsOnTheWay (is_file_of command.source) (plan_from files words command.source) (text_of files words command)
 way-plan files words command =
     record {
-      passes = λ e is. bind_Err (plan_from files words (source_of command)) (text_after files words command) e is;
-      reached = λ file is. omega (arith, stage-plan_file (source_of command) file is, stage-text files words command);
+      passes = λ e is. bind_Err (plan_from files words command.source) (text_after files words command) e is;
+      reached = λ file is. omega (arith, stage-plan_file command.source file is, stage-text files words command);
     }
 
-text-planned : (files : Held) (words : List (List ℕ)) (command : Command) (plan : PlanParts) → plan_from files words (source_of command) ≡ Ok plan → text_of files words command ≡ text_after files words command plan
+text-planned : (files : Held) (words : List (List ℕ)) (command : Command) (plan : PlanParts) → plan_from files words command.source ≡ Ok plan → text_of files words command ≡ text_after files words command plan
 text-planned files words command plan is =
-    bind_Ok (plan_from files words (source_of command)) (text_after files words command) plan is
+    bind_Ok (plan_from files words command.source) (text_after files words command) plan is
 
 -- the way from the arrivals to the text, where the plan is due
-pub way-arrivals : (files : Held) (words : List (List ℕ)) (command : Command) (plan : PlanParts) → plan_from files words (source_of command) ≡ Ok plan → IsOnTheWay (is_recorded_in (recorded_for command)) (arrivals_for files words command plan.tasks) (text_of files words command)
+pub way-arrivals : (files : Held) (words : List (List ℕ)) (command : Command) (plan : PlanParts) → plan_from files words command.source ≡ Ok plan → IsOnTheWay (is_recorded_in command.arrivals) (arrivals_for files words command plan.tasks) (text_of files words command)
 way-arrivals files words command plan planned =
-    let way : IsOnTheWay (is_recorded_in (recorded_for command)) (arrivals_for files words command plan.tasks) (text_after files words command plan) = record {
-      passes = λ e is. bind_Err (arrivals_for files words command plan.tasks) (text_with command plan) e is;
-      reached = λ file is. omega (arith, stage-arrivals_file file, stage-after files words command plan);
+    let way : IsOnTheWay (is_recorded_in command.arrivals) (arrivals_for files words command plan.tasks) (text_after files words command plan) = record {
+      passes = λ e is. bind_Err (arrivals_for files words command plan.tasks) (text_with files words command plan) e is;
+      reached = λ file is. omega (arith, stage-arrivals_file command.arrivals file is, stage-after files words command plan);
     } in
-    subst (IsOnTheWay (is_recorded_in (recorded_for command)) (arrivals_for files words command plan.tasks)) (sym (text-planned files words command plan planned)) way
+    subst (IsOnTheWay (is_recorded_in command.arrivals) (arrivals_for files words command plan.tasks)) (sym (text-planned files words command plan planned)) way
 
--- the text is due where the plan and the arrivals are
-pub text-due : (files : Held) (words : List (List ℕ)) (command : Command) (plan : PlanParts) (arrivals : List Arrival) → plan_from files words (source_of command) ≡ Ok plan → arrivals_for files words command plan.tasks ≡ Ok arrivals → text_of files words command ≡ Ok (text_from command plan arrivals)
-text-due files words command plan arrivals planned gathered =
-    text-planned files words command plan planned ∙ bind_Ok (arrivals_for files words command plan.tasks) (text_with command plan) arrivals gathered
+text-gathered : (files : Held) (words : List (List ℕ)) (command : Command) (plan : PlanParts) (arrivals : List Arrival) → plan_from files words command.source ≡ Ok plan → arrivals_for files words command plan.tasks ≡ Ok arrivals → text_of files words command ≡ text_with files words command plan arrivals
+text-gathered files words command plan arrivals planned gathered =
+    text-planned files words command plan planned ∙ bind_Ok (arrivals_for files words command plan.tasks) (text_with files words command plan) arrivals gathered
+
+-- the way from the trace to the text, where the plan and the arrivals are due
+pub way-trace : (files : Held) (words : List (List ℕ)) (command : Command) (plan : PlanParts) (arrivals : List Arrival) → plan_from files words command.source ≡ Ok plan → arrivals_for files words command plan.tasks ≡ Ok arrivals → IsOnTheWay (is_verified_in command.recording) (trace_for files words command plan arrivals) (text_of files words command)
+way-trace files words command plan arrivals planned gathered =
+    let due = trace_for files words command plan arrivals in
+    let way : IsOnTheWay (is_verified_in command.recording) due (text_with files words command plan arrivals) = record {
+      passes = λ e is. bind_Err due (text_when command plan arrivals) e is;
+      reached = λ file is. omega (arith, stage-trace_file file, stage-with files words command plan arrivals);
+    } in
+    subst (IsOnTheWay (is_verified_in command.recording) due) (sym (text-gathered files words command plan arrivals planned gathered)) way
+
+-- the text is due where the plan, the arrivals and the trace are
+pub text-due : (files : Held) (words : List (List ℕ)) (command : Command) (plan : PlanParts) (arrivals : List Arrival) → plan_from files words command.source ≡ Ok plan → arrivals_for files words command plan.tasks ≡ Ok arrivals → trace_for files words command plan arrivals ≡ Ok tt → text_of files words command ≡ Ok (text_from command plan arrivals)
+text-due files words command plan arrivals planned gathered lawful =
+    text-gathered files words command plan arrivals planned gathered ∙ bind_Ok (trace_for files words command plan arrivals) (text_when command plan arrivals) tt lawful
 
 -- a text that is due is what is written
 same_text : (due : Outcome (List ℕ)) (text other : List ℕ) → due ≡ Ok text → due ≡ Ok other → text ≡ other
@@ -108,8 +121,8 @@ part_of_due : (due : Outcome (List ℕ)) (text other : List ℕ) (before after :
 part_of_due due text other before after is is_too part =
     let P : List ℕ → Type 0 = λ t. AppendsPart before after t in subst P (same_text due text other is is_too) part
 
-late : (due : Outcome (List ℕ)) (text : List ℕ) → due ≡ Ok text → 8 ≤ stage_due due
-late due text is = let P : Outcome (List ℕ) → Type 0 = λ o. 8 ≤ stage_due o in subst P (sym is) (omega arith)
+late : (due : Outcome (List ℕ)) (text : List ℕ) → due ≡ Ok text → 11 ≤ stage_due due
+late due text is = let P : Outcome (List ℕ) → Type 0 = λ o. 11 ≤ stage_due o in subst P (sym is) (omega arith)
 
 -- where the text that is due is written the work ends so
 pub work-writing : {S T X : Type 0} (held : S → Option Held) (faults : S → ℕ) (blamed : S → Option (List ℕ)) (written : T → Option (List ℕ)) (failed : T → ℕ) (old new : S) (out_old out_new : T) (words : List (List ℕ)) (command : Command) (text : List ℕ) (result : Outcome X) → ((files : Held) → held old ≡ Some files → text_of files words command ≡ Ok text) → IsWriting written failed text result out_old out_new → IsWork held faults blamed written failed old new out_old out_new words (Some command) result
@@ -150,6 +163,7 @@ work-writing held faults blamed written failed old new out_old out_new words com
 work-writing held faults blamed written failed old new out_old out_new words command text (Err (Infeasible window)) due writing = absurd writing
 work-writing held faults blamed written failed old new out_old out_new words command text (Err (BadTable fault)) due writing = absurd writing
 work-writing held faults blamed written failed old new out_old out_new words command text (Err (BadArrivals fault)) due writing = absurd writing
+work-writing held faults blamed written failed old new out_old out_new words command text (Err (NotVerified reason)) due writing = absurd writing
 
 -- words that write no command are refused for them
 pub work-usage : {S T X : Type 0} (held : S → Option Held) (faults : S → ℕ) (blamed : S → Option (List ℕ)) (written : T → Option (List ℕ)) (failed : T → ℕ) (files : S) (out : T) (words : List (List ℕ)) → IsWork {X = X} held faults blamed written failed files files out out words None (Err Usage)

@@ -2,12 +2,12 @@
 use Rattle.std.specs.Prelude.{◌≡◌, ℕ, true, List, Option, Some, Ok}
 use Rattle.std.specs.Io.KnownBytes.{Appends}
 use Rattle.slot_core.specs.declared.events.Arrival.{Arrival}
-use Rattle.slot_core.specs.Arrivals.{are_fitting}
-use Rattle.slot_core.specs.Futures.{OffersAreExact}
-use Rattle.slot_core.specs.Histories.{History}
-use Rattle.slot_core.specs.Plans.{PlanParts, IsPlan}
-use Rattle.slot_core.specs.Service.{IsServed, IsOrdered}
-use Rattle.slot_core.specs.Traces.{trace, history_of}
+use Rattle.slot_core.specs.Runs.Arrivals.{are_fitting}
+use Rattle.slot_core.specs.Claims.Futures.{OffersAreExact}
+use Rattle.slot_core.specs.Runs.Histories.{History}
+use Rattle.slot_core.specs.Keeping.Plans.{PlanParts, IsPlan}
+use Rattle.slot_core.specs.Claims.Service.{IsServed, IsOrdered}
+use Rattle.slot_core.specs.Runs.Traces.{trace, history_of}
 use Rattle.slot_io.specs.Files.{Held}
 use Rattle.slot_cli.specs.declared.command.Command.{Command}
 use Rattle.slot_cli.specs.Commands.{command_of, slots_of}

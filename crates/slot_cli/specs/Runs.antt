@@ -4,9 +4,9 @@ use Rattle.std.specs.Io.KnownBytes.{Appends}
 use Rattle.slot_io.specs.Files.{Held}
 use Rattle.slot_io.specs.Sinks.{AppendsPart}
 use Rattle.run_outcome.specs.declared.file.File.{File}
-use Rattle.run_outcome.specs.declared.file.File.TheVariants.{Tasks, Table, Arrivals}
+use Rattle.run_outcome.specs.declared.file.File.TheVariants.{Tasks, Table, Arrivals, Trace}
 use Rattle.run_outcome.specs.declared.refusal.Refusal.{Refusal}
-use Rattle.run_outcome.specs.declared.refusal.Refusal.TheVariants.{Usage, Unreadable, TooLarge, BadTasks, Infeasible, BadTable, BadArrivals, WriteFault, Memory}
+use Rattle.run_outcome.specs.declared.refusal.Refusal.TheVariants.{Usage, Unreadable, TooLarge, BadTasks, Infeasible, BadTable, BadArrivals, NotVerified, WriteFault, Memory}
 use Rattle.run_outcome.specs.declared.status.Status.{Status}
 use Rattle.run_outcome.specs.Refusals.{Outcome, name_of, status_of, fault_line}
 use Rattle.run_outcome.specs.Reports.{IsTold}
@@ -28,12 +28,15 @@ stage_of (Infeasible window) = 4
 stage_of (Unreadable Arrivals) = 5
 stage_of (TooLarge Arrivals) = 6
 stage_of (BadArrivals fault) = 7
-stage_of WriteFault = 8
-stage_of Memory = 9
+stage_of (Unreadable Trace) = 8
+stage_of (TooLarge Trace) = 9
+stage_of (NotVerified reason) = 10
+stage_of WriteFault = 11
+stage_of Memory = 12
 
 -- the stage at which what is due comes: a text is due where it is written
 abbrev pub stage_due : Outcome (List ℕ) → ℕ
-stage_due (Ok text) = 8
+stage_due (Ok text) = 11
 stage_due (Err refusal) = stage_of refusal
 
 -- the command reads this file

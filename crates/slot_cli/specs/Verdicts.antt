@@ -2,15 +2,15 @@
 use Rattle.std.specs.Prelude.{◌≡◌, ℕ, List, length, Option, Result, Ok, Err}
 use Rattle.std.specs.Option.{option_map_or}
 use Rattle.std.specs.Result.{result_map_both}
-use Rattle.slot_core.specs.Results.{◌>>=◌}
+use Rattle.slot_core.specs.Calls.Results.{◌>>=◌}
 use Rattle.slot_core.specs.declared.jobs.Window.{Window}
 use Rattle.slot_core.specs.declared.tasks.TaskSet.{TaskSet}
-use Rattle.slot_core.specs.Futures.{CyclesCanBeServed, DensestLeavesNone}
-use Rattle.slot_core.specs.Plans.{PlanParts}
+use Rattle.slot_core.specs.Claims.Futures.{CyclesCanBeServed, DensestLeavesNone}
+use Rattle.slot_core.specs.Keeping.Plans.{PlanParts}
 use Rattle.slot_io.specs.Files.{Held}
 use Rattle.load_gen.specs.Loads.{load_set}
-use Rattle.table_codec.specs.declared.faults.TableFault.{TableFault}
-use Rattle.table_codec.specs.declared.faults.TableFault.TheVariants.{Infeasible as NoPlan}
+use Rattle.table_faults.specs.declared.faults.TableFault.{TableFault}
+use Rattle.table_faults.specs.declared.faults.TableFault.TheVariants.{Infeasible as NoPlan}
 use Rattle.table_codec.specs.Readers.{go_on, value_of}
 use Rattle.table_codec.specs.Grammar.{head_form, source_form}
 use Rattle.run_outcome.specs.declared.file.File.TheVariants.{Tasks as TaskFile, Table as TableFile}
@@ -21,7 +21,7 @@ use Rattle.run_outcome.specs.Refusals.{Outcome, refusal_line}
 use Rattle.run_outcome.specs.Reports.{IsTold}
 use Rattle.slot_cli.specs.declared.command.Source.{Source}
 use Rattle.slot_cli.specs.declared.command.Source.TheVariants.{Tasks, Spelled, Load}
-use Rattle.slot_cli.specs.Commands.{command_of, source_of}
+use Rattle.slot_cli.specs.Commands.{command_of}
 use Rattle.slot_cli.specs.Due.{bytes_of, sound_set, plan_of_run, expected}
 
 -- the sound set at the front of a table, which is read before its plan
@@ -50,7 +50,7 @@ set_from held words (Load n) = Ok (load_set n)
 abbrev pub set_of_run : Held → List (List ℕ) → Outcome TaskSet
 set_of_run held words =
     option_map_or
-    (λ command. set_from held words (source_of command))
+    (λ command. set_from held words command.source)
     (command_of words)
     (Err Usage)
 

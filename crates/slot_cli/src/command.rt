@@ -4,34 +4,29 @@ ghost use Rattle.std.specs.Prelude.{◌≡◌, ◌≤◌, ℕ, true, Some, IfSom
 ghost use Rattle.std.specs.Char.{is_ascii_digit};
 ghost use Rattle.std.specs.List.{list_all};
 ghost use Rattle.std.specs.Str.Parse.{digits_value};
-ghost use Rattle.slot_cli.specs.Commands.{command_of, command_of_four, command_of_two, is_number, number_up_to, recorded_for, source_of, IsInRange};
+ghost use Rattle.slot_core.specs.declared.TheConstants.{CHART_LIMIT, LOAD_LIMIT, REPLAY_LIMIT};
+ghost use Rattle.slot_cli.specs.Commands.{command_of, command_of_five, command_of_four, command_of_two, is_number, number_up_to, of_load, of_plan, of_trace, over_slots, slots_in, IsInRange};
 
 use slot_core::{CHART_LIMIT, LOAD_LIMIT, REPLAY_LIMIT, Words};
 
 /// How many slots of a load are run.
 pub const LOAD_SLOTS: u32 = 1024;
 
-/// What the words ask for.
-#[derive(Clone, Copy, PartialEq, Eq, Debug)]
-pub enum Command {
-    /// `check T`: whether the task file's set is feasible.
-    Check,
-    /// `table T`: the binary table of its plan.
-    Table,
-    /// `show B`: the plan that a table spells.
-    Show,
-    /// `replay T A N`: the trace of so many slots.
-    Replay(u32),
-    /// `replay-table B A N`: the same, of the plan that a table spells.
-    ReplayTable(u32),
-    /// `gantt T A N`: the chart of so many slots.
-    Gantt(u32),
-    /// `selfrun N`: the tally of the load of this number.
-    Selfrun(u32),
+/// What the words ask for: a row of what is read, in this order, and of what is written.
+#[derive(Clone, Copy)]
+pub struct Command {
+    /// Where the plan comes from.
+    pub source: Source,
+    /// Where the arrivals come from.
+    pub arrivals: Arrivals,
+    /// Which recorded trace is verified.
+    pub recording: Recording,
+    /// What is written of them.
+    pub output: Output,
 }
 
 /// Where the plan of a command comes from.
-#[derive(Clone, Copy, PartialEq, Eq, Debug)]
+#[derive(Clone, Copy)]
 pub enum Source {
     /// The task file.
     Tasks,
@@ -41,29 +36,56 @@ pub enum Source {
     Load(u32),
 }
 
-impl Command {
-    /// Where its plan comes from.
-    pub fn source(self) -> Source
-        ensures { result ≡ source_of self }
-    {
-        match self {
-            Command::Check | Command::Table | Command::Replay(_) | Command::Gantt(_) => {
-                Source::Tasks
-            }
-            Command::Show | Command::ReplayTable(_) => Source::Spelled,
-            Command::Selfrun(n) => Source::Load(n),
-        }
-    }
+/// Where the arrivals of a command come from.
+#[derive(Clone, Copy)]
+pub enum Arrivals {
+    /// There are none, and no slot is run.
+    Absent,
+    /// The arrivals file, which has those of so many slots.
+    Recorded(u32),
+    /// The load of this number.
+    Generated(u32),
+}
 
-    /// For how many slots arrivals were recorded in a file, where it has one.
-    pub fn recorded(self) -> Option<u32>
-        ensures { result ≡ recorded_for self }
+/// Which recorded trace a command verifies.
+#[derive(Clone, Copy)]
+pub enum Recording {
+    /// None.
+    Unread,
+    /// That in the trace file, of the plan, the arrivals and the slots.
+    Verified,
+}
+
+/// What a command writes.
+#[derive(Clone, Copy)]
+pub enum Output {
+    /// The line of the check: the cycle, and the numbers of jobs and spans.
+    Counts,
+    /// The binary table of the plan.
+    Table,
+    /// The numbers, jobs and spans of the plan.
+    Listing,
+    /// How much each task may grow.
+    Margins,
+    /// The trace.
+    Trace,
+    /// The chart of the trace.
+    Chart,
+    /// The number of lines of the trace.
+    Lines,
+    /// The counts of the trace of the load of this number.
+    Tally(u32),
+}
+
+impl Arrivals {
+    /// How many slots are run.
+    pub fn slots(self) -> u32
+        ensures { result ≡ slots_in self }
     {
         match self {
-            Command::Replay(slots) | Command::ReplayTable(slots) | Command::Gantt(slots) => {
-                Some(slots)
-            }
-            _ => None,
+            Arrivals::Absent => 0,
+            Arrivals::Recorded(slots) => slots,
+            Arrivals::Generated(_) => LOAD_SLOTS,
         }
     }
 }
@@ -76,6 +98,7 @@ pub fn command_of(words: &Words) -> Option<Command>
     match words.len() {
         2 => command_of_two(words.word(0), words.word(1)),
         4 => command_of_four(words.word(0), words.word(3)),
+        5 => command_of_five(words.word(0), words.word(4)),
         _ => None,
     }
 }
@@ -86,10 +109,12 @@ fn command_of_two(word: &str, last: &str) -> Option<Command>
     ensures in_range { IfSome result IsInRange }
 {
     match word {
-        "check" => Some(Command::Check),
-        "table" => Some(Command::Table),
-        "show" => Some(Command::Show),
-        "selfrun" => number_up_to(LOAD_LIMIT, last).map(Command::Selfrun),
+        "check" => Some(of_plan(Source::Tasks, Output::Counts)),
+        "table" => Some(of_plan(Source::Tasks, Output::Table)),
+        "show" => Some(of_plan(Source::Spelled, Output::Listing)),
+        "migrate" => Some(of_plan(Source::Spelled, Output::Table)),
+        "margin" => Some(of_plan(Source::Tasks, Output::Margins)),
+        "selfrun" => of_load(number_up_to(LOAD_LIMIT, last)),
         _ => None,
     }
 }
@@ -100,11 +125,87 @@ fn command_of_four(word: &str, last: &str) -> Option<Command>
     ensures in_range { IfSome result IsInRange }
 {
     match word {
-        "replay" => number_up_to(REPLAY_LIMIT, last).map(Command::Replay),
-        "replay-table" => number_up_to(REPLAY_LIMIT, last).map(Command::ReplayTable),
-        "gantt" => number_up_to(CHART_LIMIT, last).map(Command::Gantt),
+        "replay" => over_slots(
+            Source::Tasks,
+            Output::Trace,
+            number_up_to(REPLAY_LIMIT, last),
+        ),
+        "replay-table" => {
+            over_slots(
+                Source::Spelled,
+                Output::Trace,
+                number_up_to(REPLAY_LIMIT, last),
+            )
+        }
+        "gantt" => over_slots(
+            Source::Tasks,
+            Output::Chart,
+            number_up_to(CHART_LIMIT, last),
+        ),
         _ => None,
     }
+}
+
+/// The command of five words, from the first and the last.
+fn command_of_five(word: &str, last: &str) -> Option<Command>
+    ensures command { result ≡ command_of_five word.now last.now }
+    ensures in_range { IfSome result IsInRange }
+{
+    match word {
+        "verify" => of_trace(number_up_to(REPLAY_LIMIT, last)),
+        _ => None,
+    }
+}
+
+/// The command that writes this of a plan, and reads nothing else.
+fn of_plan(source: Source, output: Output) -> Command
+    ensures { result ≡ of_plan source output }
+{
+    Command {
+        source,
+        arrivals: Arrivals::Absent,
+        recording: Recording::Unread,
+        output,
+    }
+}
+
+/// The command that runs so many slots with recorded arrivals, where the number is one.
+fn over_slots(source: Source, output: Output, number: Option<u32>) -> Option<Command>
+    ensures { result ≡ over_slots source output number }
+{
+    let slots = number?;
+    Some(Command {
+        source,
+        arrivals: Arrivals::Recorded(slots),
+        recording: Recording::Unread,
+        output,
+    })
+}
+
+/// The command that verifies a recorded trace of so many slots, where the number is one.
+fn of_trace(number: Option<u32>) -> Option<Command>
+    ensures { result ≡ of_trace number }
+{
+    let slots = number?;
+    Some(Command {
+        source: Source::Tasks,
+        arrivals: Arrivals::Recorded(slots),
+        recording: Recording::Verified,
+        output: Output::Lines,
+    })
+}
+
+/// The command that runs the load of this number, where it is one.
+fn of_load(number: Option<u32>) -> Option<Command>
+    ensures { result ≡ of_load number }
+{
+    let n = number?;
+    Some(Command {
+        source: Source::Load(n),
+        arrivals: Arrivals::Generated(n),
+        recording: Recording::Unread,
+        output: Output::Tally(n),
+    })
 }
 
 /// The number that a word writes, from 1 to the limit: 1 to 6 digits, the first not 0.

@@ -7,13 +7,13 @@ ghost use Rattle.arrival_csv.specs.declared.faults.ArrivalFault.{ArrivalFault};
 ghost use Rattle.slot_core.specs.declared.events.Arrival.{Arrival};
 ghost use Rattle.slot_core.specs.declared.faults.TaskFault.{TaskFault};
 ghost use Rattle.slot_core.specs.declared.jobs.Window.{Window};
-ghost use Rattle.slot_core.specs.Arrivals.{are_fitting};
-ghost use Rattle.slot_core.specs.Futures.{OffersAreExact};
-ghost use Rattle.slot_core.specs.Plans.{IsPlan, PlanParts};
-ghost use Rattle.slot_core.specs.Service.{IsServed, IsOrdered};
-ghost use Rattle.slot_core.specs.Traces.{trace, history_of};
-ghost use Rattle.slot_core.specs.Counts.{Rose};
-ghost use Rattle.table_codec.specs.declared.faults.TableFault.{TableFault};
+ghost use Rattle.slot_core.specs.Runs.Arrivals.{are_fitting};
+ghost use Rattle.slot_core.specs.Claims.Futures.{OffersAreExact};
+ghost use Rattle.slot_core.specs.Keeping.Plans.{IsPlan, PlanParts};
+ghost use Rattle.slot_core.specs.Claims.Service.{IsServed, IsOrdered};
+ghost use Rattle.slot_core.specs.Runs.Traces.{trace, history_of};
+ghost use Rattle.slot_core.specs.Calls.Counts.{Rose};
+ghost use Rattle.table_faults.specs.declared.faults.TableFault.{TableFault};
 ghost use Rattle.run_outcome.specs.declared.file.File.{File};
 ghost use Rattle.run_outcome.specs.declared.refusal.Refusal.{Refusal};
 ghost use Rattle.slot_cli.specs.declared.command.Command.{Command};
@@ -23,20 +23,14 @@ ghost use Rattle.slot_cli.specs.Printed.{IsPrinted};
 ghost use Rattle.slot_cli.specs.Runs.{IsRun};
 ghost use Rattle.slot_cli.specs.Verdicts.{RunMeansSchedules};
 
-#[cfg(test)]
-mod arrival_lines;
 pub mod command;
-#[cfg(test)]
-mod fault_lines;
+pub mod host;
 pub mod laws;
 mod reports;
-#[cfg(test)]
-mod sample_texts;
 mod steps;
-#[cfg(test)]
-mod tests;
 mod work;
 
+pub use host::run_on_host;
 use run_outcome::report;
 pub use run_outcome::{File, OUT_OF_MEMORY, Refusal, Status};
 use slot_core::Words;
@@ -46,8 +40,8 @@ use work::work;
 
 /// Does what the words ask for: reads the files that they name, writes to `out`, and puts one line
 /// on `err` where it ends otherwise than Done. The order of work is that of `expected`: the plan is
-/// read and tested, then the arrivals are read, then the text is written. All memory is taken
-/// before the first put on `out`.
+/// read and tested, then the arrivals are read, then a recorded trace is read and verified, then
+/// the text is written. All memory is taken before the first put on `out`.
 pub fn run<F: Files, K: Sink, E: Sink>(
     alloc: Global,
     words: &Words,
@@ -77,6 +71,9 @@ pub fn run<F: Files, K: Sink, E: Sink>(
     ensures bad_arrivals { result ≡ Status.BadArrivals → IfSome (F.held files.old)
         (λ held. (fault : ArrivalFault)
         × (expected held words.now ≡ Err (Refusal.BadArrivals fault))) }
+    ensures not_verified { result ≡ Status.NotVerified → IfSome (F.held files.old)
+        (λ held. (reason : List ℕ)
+        × (expected held words.now ≡ Err (Refusal.NotVerified reason))) }
     ensures write_fault { result ≡ Status.WriteFault → Rose (K.faults out.old) (K.faults out.new) }
 
     // What stays untouched.

@@ -3,11 +3,13 @@
 ghost use Rattle.std.specs.Prelude.{◌≡◌, ◌≤◌, ◌++◌, ◌∷◌, [], true, codes, length, flat_map, All, IfOk, OnErr, OnOk};
 ghost use Rattle.std.specs.Io.KnownBytes.{Appends};
 ghost use Rattle.slot_core.specs.declared.jobs.Job.{Job};
-ghost use Rattle.slot_core.specs.Arrivals.{key_in_set};
-ghost use Rattle.slot_core.specs.Counts.{Rose};
-ghost use Rattle.slot_core.specs.Reports.{check_line, counts_line, job_line, plan_line, show_text, span_line};
-ghost use Rattle.slot_core.specs.Texts.{worded};
+ghost use Rattle.slot_core.specs.Runs.Arrivals.{key_in_set};
+ghost use Rattle.slot_core.specs.Calls.Counts.{Rose};
+ghost use Rattle.slot_core.specs.Output.Reports.{check_line, counts_line, job_line, plan_line, show_text, span_line};
+ghost use Rattle.slot_core.specs.Output.Texts.{worded};
+ghost use Rattle.slot_core.specs.declared.TheConstants.{ARRIVAL_LIMIT, REPLAY_LIMIT};
 ghost use Rattle.slot_io.specs.Sinks.{AppendsPart};
+ghost use Rattle.slot_cli.specs.Due.{verified_line};
 ghost use Rattle.slot_cli.specs.Steps.{IsWriting};
 
 use cycle_plan::Plan;
@@ -16,7 +18,7 @@ use run_outcome::append::{push, push_worded};
 use slot_core::{Failed, Job, Memory, Span, TaskSet};
 use slot_io::Sink;
 use std::alloc::Global;
-use trace_text::{job_line, span_line};
+use trace_text::{Line, job_line, span_line};
 
 /// Writes the numbers of the plan, in one put.
 pub fn check_plan<K: Sink>(alloc: Global, plan: &Plan, out: &mut K) -> Result<(), Refusal>
@@ -124,4 +126,26 @@ fn show_spans<K: Sink>(spans: &[Span], out: &mut K) -> Result<(), Failed>
         out.put(span_line(span).bytes())?;
     }
     Ok(())
+}
+
+/// Writes how many lines the trace of so many slots and arrivals has, in one put.
+pub fn put_lines<K: Sink>(slots: u64, arrivals: u64, out: &mut K) -> Result<(), Refusal>
+    requires slots { slots ≤ REPLAY_LIMIT }
+    requires arrivals { arrivals ≤ ARRIVAL_LIMIT }
+    ensures { IsWriting K.written K.faults (verified_line slots arrivals) result out.old out.new }
+{
+    let line = verified_line(slots + arrivals + 2);
+    out.put(line.bytes())?;
+    Ok(())
+}
+
+/// The line that tells the number of lines.
+fn verified_line(lines: u64) -> Line
+    ensures { result ≡ worded (codes "verified lines") lines ++ 10 ∷ [] }
+{
+    let mut line = Line::new();
+    line.push(b"verified lines ");
+    line.number(lines);
+    line.push(b"\n");
+    line
 }

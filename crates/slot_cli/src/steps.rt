@@ -1,25 +1,29 @@
 //! The steps of the work up to the output. Each gives a value, or the refusal that ends the run.
 
 ghost use Rattle.std.specs.Prelude.{◌≡◌, ◌≤◌, ℕ, true, IfOk, Ok};
-ghost use Rattle.slot_core.specs.declared.TheConstants.{LOAD_LIMIT, REPLAY_LIMIT};
-ghost use Rattle.slot_core.specs.Arrivals.{are_fitting};
-ghost use Rattle.slot_core.specs.Plans.{IsPlan, planned};
-ghost use Rattle.slot_core.specs.Ranges.{is_sound};
+ghost use Rattle.slot_core.specs.declared.TheConstants.{ARRIVAL_LIMIT, LOAD_LIMIT, REPLAY_LIMIT};
+ghost use Rattle.slot_core.specs.Runs.Arrivals.{are_fitting};
+ghost use Rattle.slot_core.specs.Keeping.Plans.{IsPlan, planned};
+ghost use Rattle.slot_core.specs.Sets.Ranges.{is_sound};
+ghost use Rattle.load_gen.specs.LoadArrivals.{load_arrivals};
 ghost use Rattle.load_gen.specs.Loads.{load_set};
+ghost use Rattle.run_outcome.specs.declared.refusal.Refusal.TheVariants.{NotVerified};
 ghost use Rattle.run_outcome.specs.Refusals.{same_file};
-ghost use Rattle.slot_cli.specs.declared.command.Command.{Command};
-ghost use Rattle.slot_cli.specs.Commands.{is_file_of, is_recorded_in, recorded_for, slots_of, source_of, IsInRange};
-ghost use Rattle.slot_cli.specs.Due.{arrivals_for, bytes_of, feasible_plan, fitting_arrivals, plan_from, planned_plan, recorded_arrivals, sound_set, spelled_plan};
+ghost use Rattle.verify_faults.specs.FaultTexts.{names_known, verify_fault_text};
+ghost use Rattle.slot_cli.specs.Commands.{is_file_of, is_recorded_in, is_verified_in, slots_in, AreInRange, IsLoadNumber, IsRecordingInRange};
+ghost use Rattle.slot_cli.specs.Due.{arrivals_from, bytes_of, feasible_plan, fitting_arrivals, lawful_trace, plan_from, planned_plan, recorded_arrivals, recorded_trace, sound_set, spelled_plan, trace_from};
 ghost use Rattle.slot_cli.specs.Steps.{IsStep, IsReading};
 
-use crate::command::{Command, LOAD_SLOTS, Source};
+use crate::command::{Arrivals, LOAD_SLOTS, Recording, Source};
 use arrival_csv::read_arrivals;
 use cycle_plan::{Plan, PlanFault, make_plan};
 use load_gen::{arrivals_of, tasks_of};
-use run_outcome::{File, Refusal};
+use run_outcome::{File, Reason, Refusal};
 use slot_core::{Arrival, TaskSet, Words};
 use slot_io::{Files, ReadFault};
 use std::alloc::Global;
+use trace_verify::verify;
+use verify_faults::{VerifyFault, fault_text};
 
 /// The bytes of a file of the command line, where they are within its limit.
 fn read_file<F: Files>(
@@ -94,22 +98,21 @@ fn generated(alloc: Global, n: u32) -> Result<Plan, Refusal>
     feasible(alloc, set)
 }
 
-/// The plan of a command, from where it comes.
-pub fn plan_for<F: Files>(
+/// The plan, from where it comes.
+pub fn plan_from<F: Files>(
     alloc: Global,
     words: &Words,
     files: &mut F,
-    command: Command,
+    source: Source,
 ) -> Result<Plan, Refusal>
-    requires { IsInRange command }
+    requires { IsLoadNumber source }
     ensures reading { IsReading F.held F.faults F.blamed files.old files.new words.now
-        (is_file_of (source_of command)) (λ held. plan_from held words.now (source_of command))
-        result (λ plan. plan) }
+        (is_file_of source) (λ held. plan_from held words.now source) result (λ plan. plan) }
     ensures plan { IfOk result IsPlan }
-    ensures load { (n : ℕ) → command ≡ Command.Selfrun n
+    ensures load { (n : ℕ) → source ≡ Source.Load n
         → IfOk result (λ plan. plan.tasks ≡ load_set n) }
 {
-    match command.source() {
+    match source {
         Source::Tasks => {
             let bytes = read_file(alloc, words, files, File::Tasks)?;
             planned(alloc, bytes.as_slice())
@@ -160,29 +163,113 @@ fn recorded<F: Files>(
     fitting(alloc, bytes.as_slice(), slots, tasks)
 }
 
-/// The arrivals of a command: those recorded, those of a load, or none.
-pub fn arrivals_for<F: Files>(
+/// The arrivals of the load of this number over so many slots.
+fn generated_arrivals(alloc: Global, n: u32, slots: u32) -> Result<Vec<Arrival>, Refusal>
+    requires load_some { 1 ≤ n }
+    requires load_few { n ≤ LOAD_LIMIT }
+    requires some { 1 ≤ slots }
+    requires few { slots ≤ ARRIVAL_LIMIT }
+    ensures due { IsStep (Ok (load_arrivals n slots)) result (λ arrivals. arrivals.items) }
+    ensures fitting { IfOk result
+        (λ arrivals. are_fitting (load_set n) slots arrivals.items ≡ true) }
+{
+    let arrivals = arrivals_of(alloc, n, slots)?;
+    Ok(arrivals)
+}
+
+/// The arrivals, from where they come: none, those recorded, or those of a load.
+pub fn arrivals_from<F: Files>(
     alloc: Global,
     words: &Words,
     files: &mut F,
-    command: Command,
+    arrivals: Arrivals,
     tasks: &TaskSet,
 ) -> Result<Vec<Arrival>, Refusal>
-    requires in_range { IsInRange command }
+    requires in_range { AreInRange arrivals }
     requires sound { is_sound tasks.now ≡ true }
-    requires load { (n : ℕ) → command ≡ Command.Selfrun n → tasks.now ≡ load_set n }
+    requires load { (n : ℕ) → arrivals ≡ Arrivals.Generated n → tasks.now ≡ load_set n }
     ensures reading { IsReading F.held F.faults F.blamed files.old files.new words.now
-        (is_recorded_in (recorded_for command))
-        (λ held. arrivals_for held words.now command tasks.now) result
+        (is_recorded_in arrivals) (λ held. arrivals_from held words.now arrivals tasks.now) result
         (λ arrivals. arrivals.items) }
-    ensures fitting { IfOk result (λ arrivals.
-        are_fitting tasks.now (slots_of command) arrivals.items ≡ true) }
+    ensures fitting { IfOk result (λ made.
+        are_fitting tasks.now (slots_in arrivals) made.items ≡ true) }
 {
-    if let Some(slots) = command.recorded() {
-        return recorded(alloc, words, files, u64::from(slots), tasks);
+    match arrivals {
+        Arrivals::Absent => Ok(Vec::new(alloc)),
+        Arrivals::Recorded(slots) => recorded(alloc, words, files, u64::from(slots), tasks),
+        Arrivals::Generated(n) => generated_arrivals(alloc, n, LOAD_SLOTS),
     }
-    match command.source() {
-        Source::Load(n) => Ok(arrivals_of(alloc, n, LOAD_SLOTS)?),
-        _ => Ok(Vec::new(alloc)),
+}
+
+/// Whether the bytes are the text of a lawful trace of the plan, these arrivals and so many slots.
+fn lawful(
+    alloc: Global,
+    bytes: &[u8],
+    slots: u64,
+    plan: &Plan,
+    arrivals: &[Arrival],
+) -> Result<(), Refusal>
+    requires some { 1 ≤ slots }
+    requires few { slots ≤ REPLAY_LIMIT }
+    requires fitting { are_fitting plan.now.tasks slots arrivals.now ≡ true }
+    ensures { IsStep (lawful_trace bytes.now slots plan.now arrivals.now) result (λ _. tt) }
+{
+    match verify(alloc, plan, arrivals, slots, bytes) {
+        Ok(()) => Ok(()),
+        Err(VerifyFault::Memory) => Err(Refusal::Memory),
+        Err(fault) => Err(not_verified(fault, plan.tasks())),
+    }
+}
+
+/// The refusal for this fault of a trace of the set.
+fn not_verified(fault: VerifyFault, tasks: &TaskSet) -> Refusal
+    requires { names_known tasks.now fault ≡ true }
+    ensures { result ≡ NotVerified (verify_fault_text tasks.now fault) }
+{
+    Refusal::NotVerified(Reason::of(fault_text(fault, tasks).bytes()))
+}
+
+/// Whether the trace file holds the text of a lawful trace.
+fn recorded_trace<F: Files>(
+    alloc: Global,
+    words: &Words,
+    files: &mut F,
+    slots: u64,
+    plan: &Plan,
+    arrivals: &[Arrival],
+) -> Result<(), Refusal>
+    requires some { 1 ≤ slots }
+    requires few { slots ≤ REPLAY_LIMIT }
+    requires fitting { are_fitting plan.now.tasks slots arrivals.now ≡ true }
+    ensures { IsReading F.held F.faults F.blamed files.old files.new words.now
+        (same_file File.Trace)
+        (λ held. recorded_trace held words.now slots plan.now arrivals.now) result (λ _. tt) }
+{
+    let bytes = read_file(alloc, words, files, File::Trace)?;
+    lawful(alloc, bytes.as_slice(), slots, plan, arrivals)
+}
+
+/// Whether the recorded trace that is to be verified, if any, is lawful.
+pub fn trace_from<F: Files>(
+    alloc: Global,
+    words: &Words,
+    files: &mut F,
+    recording: Recording,
+    slots: u32,
+    plan: &Plan,
+    arrivals: &[Arrival],
+) -> Result<(), Refusal>
+    requires in_range { IsRecordingInRange slots recording }
+    requires fitting { are_fitting plan.now.tasks slots arrivals.now ≡ true }
+    ensures { IsReading F.held F.faults F.blamed files.old files.new words.now
+        (is_verified_in recording)
+        (λ held. trace_from held words.now recording slots plan.now arrivals.now) result
+        (λ _. tt) }
+{
+    match recording {
+        Recording::Unread => Ok(()),
+        Recording::Verified => {
+            recorded_trace(alloc, words, files, u64::from(slots), plan, arrivals)
+        }
     }
 }

@@ -4,7 +4,7 @@ use crate::jobs::{Evidence, Key};
 use crate::shown::Shown;
 
 /// What arrives.
-#[derive(Clone, Copy, PartialEq, Eq, Debug)]
+#[derive(Clone, Copy, PartialEq, Eq)]
 pub enum Event {
     /// Soft work of so many slots.
     Soft(u32),
@@ -19,7 +19,7 @@ pub enum Event {
 }
 
 /// One row of the arrivals file.
-#[derive(Clone, Copy, PartialEq, Eq, Debug)]
+#[derive(Clone, Copy, PartialEq, Eq)]
 pub struct Arrival {
     /// Row in the file, from 1.
     pub row: u32,
@@ -30,7 +30,7 @@ pub struct Arrival {
 }
 
 /// The answer to soft work.
-#[derive(Clone, Copy, PartialEq, Eq, Debug)]
+#[derive(Clone, Copy, PartialEq, Eq)]
 pub enum Soft {
     Taken,
     /// So many soft jobs wait already, which is the limit.
@@ -38,7 +38,7 @@ pub enum Soft {
 }
 
 /// The answer to a firm task.
-#[derive(Clone, Copy, PartialEq, Eq, Debug)]
+#[derive(Clone, Copy, PartialEq, Eq)]
 pub enum Firm {
     Accepted,
     /// Its deadline is now.
@@ -51,7 +51,7 @@ pub enum Firm {
 }
 
 /// The answer to a sporadic arrival.
-#[derive(Clone, Copy, PartialEq, Eq, Debug)]
+#[derive(Clone, Copy, PartialEq, Eq)]
 pub enum Spo {
     /// The job is taken, with this deadline.
     Taken(u64),
@@ -60,7 +60,7 @@ pub enum Spo {
 }
 
 /// The answer to an early end.
-#[derive(Clone, Copy, PartialEq, Eq, Debug)]
+#[derive(Clone, Copy, PartialEq, Eq)]
 pub enum Done {
     /// The job ends, and so many slots are free.
     Freed(u32),
@@ -69,7 +69,7 @@ pub enum Done {
 }
 
 /// The answer to a withdrawal.
-#[derive(Clone, Copy, PartialEq, Eq, Debug)]
+#[derive(Clone, Copy, PartialEq, Eq)]
 pub enum Gone {
     /// The job ends, and so many slots are free.
     Freed(u32),
@@ -78,7 +78,7 @@ pub enum Gone {
 }
 
 /// What ran in a slot.
-#[derive(Clone, Copy, PartialEq, Eq, Debug)]
+#[derive(Clone, Copy, PartialEq, Eq)]
 pub enum Ran {
     Idle,
     Key(Key),
@@ -86,7 +86,7 @@ pub enum Ran {
 
 /// What an entry of a trace tells. The first number of an arrival is its row, then stand the
 /// numbers of its event, then its answer.
-#[derive(Clone, Copy, PartialEq, Eq, Debug)]
+#[derive(Clone, Copy, PartialEq, Eq)]
 pub enum What {
     Start,
     Soft(u32, u32, Soft),

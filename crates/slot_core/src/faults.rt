@@ -4,8 +4,8 @@ ghost use Rattle.std.specs.Prelude.{◌≡◌, Some, IfSome, find};
 ghost use Rattle.std.specs.Str.{bytes_eq};
 ghost use Rattle.slot_core.specs.declared.faults.Field.{Field};
 ghost use Rattle.slot_core.specs.declared.faults.TaskFault.TheVariants.{Memory as MemoryFault};
-ghost use Rattle.slot_core.specs.FaultNumbers.{fault_number};
-ghost use Rattle.slot_core.specs.FaultTexts.{field_word};
+ghost use Rattle.slot_core.specs.Output.FaultNumbers.{fault_number};
+ghost use Rattle.slot_core.specs.Output.FaultTexts.{field_word};
 
 use std::alloc::{AllocError, AllocFailed};
 use std::error::Error;
@@ -70,7 +70,7 @@ pub enum Part {
 
 impl fmt::Display for Part {
     ghost use Rattle.std.specs.Prelude.{Some};
-    ghost use Rattle.slot_core.specs.FaultTexts.{part_text};
+    ghost use Rattle.slot_core.specs.Output.FaultTexts.{part_text};
 
     ghost output = { λ part. Some (part_text part) };
 
@@ -154,7 +154,7 @@ const FIELDS: [Field; 11] = [
 
 impl fmt::Display for Field {
     ghost use Rattle.std.specs.Prelude.{Some};
-    ghost use Rattle.slot_core.specs.FaultTexts.{field_word};
+    ghost use Rattle.slot_core.specs.Output.FaultTexts.{field_word};
 
     ghost output = { λ field. Some (field_word field) };
 
@@ -174,7 +174,7 @@ pub struct Place {
 
 impl fmt::Display for Place {
     ghost use Rattle.std.specs.Prelude.{Some};
-    ghost use Rattle.slot_core.specs.FaultTexts.{place_text};
+    ghost use Rattle.slot_core.specs.Output.FaultTexts.{place_text};
 
     ghost output = { λ place. Some (place_text place) };
 
@@ -237,7 +237,7 @@ impl TaskFault {
 
 impl fmt::Display for TaskFault {
     ghost use Rattle.std.specs.Prelude.{Some};
-    ghost use Rattle.slot_core.specs.FaultTexts.{task_fault_text};
+    ghost use Rattle.slot_core.specs.Output.FaultTexts.{task_fault_text};
 
     ghost output = { λ fault. Some (task_fault_text fault) };
 

@@ -14,7 +14,7 @@ pub enum Key {
 }
 
 /// An offline job with its raw window [release, deadline).
-#[derive(Clone, Copy, PartialEq, Eq, Debug)]
+#[derive(Clone, Copy, PartialEq, Eq)]
 pub struct RawJob {
     /// Its name.
     pub key: Key,
@@ -42,7 +42,7 @@ pub struct Job {
 }
 
 /// A soft job that waits.
-#[derive(Clone, Copy, PartialEq, Eq, Default, Debug)]
+#[derive(Clone, Copy, PartialEq, Eq, Default)]
 pub struct SoftJob {
     /// Row of its arrival.
     pub row: u32,
@@ -77,7 +77,7 @@ pub struct Window {
 }
 
 /// Why an offer is refused: up to `until` it needs `need` slots, and there are `room`.
-#[derive(Clone, Copy, PartialEq, Eq, Debug)]
+#[derive(Clone, Copy, PartialEq, Eq)]
 pub struct Evidence {
     /// The time by which more is needed than there are slots.
     pub until: u64,

@@ -12,8 +12,6 @@ pub mod shown;
 pub mod steps;
 pub mod taker;
 pub mod tasks;
-#[cfg(test)]
-mod tests;
 pub mod words;
 
 pub use events::{Arrival, Done, Entry, Event, Firm, Gone, Ran, Soft, Spo, What};
@@ -43,7 +41,7 @@ pub const AFTER_LIMIT: usize = 31;
 pub const SPORADIC_LIMIT: usize = 8;
 
 /// Longest period, separation, wcet and cycle, in slots.
-pub const SLOT_LIMIT: u32 = 4096;
+pub const SLOT_LIMIT: u32 = 8192;
 
 /// Most soft jobs that wait at one time.
 pub const SOFT_LIMIT: u32 = 1024;

@@ -1,6 +1,7 @@
 //! A list in a public type.
 
-ghost use Rattle.std.specs.Prelude.{◌≡◌, ◌==◌, [], ◌∷◌, ◌++◌, length, OnOk, OnErr};
+ghost use Rattle.std.specs.Prelude.{◌≡◌, ◌==◌, ◌<◌, [], ◌∷◌, ◌++◌, length, slice_get, slice_set, Some, OnOk, IfOk, OnErr};
+ghost use Rattle.std.specs.Borrow.{Lends, sem};
 
 use crate::faults::Memory;
 use std::alloc::Global;
@@ -21,6 +22,8 @@ impl<T> Model for List<T> {
 }
 
 impl<T: Drop> List<T> {
+    ghost use Rattle.slot_core.specs.contracts.list.List.{the_row};
+
     /// The empty list, which takes no memory yet.
     pub fn new(alloc: Global) -> Self
         ensures { result ≡ [] }
@@ -53,10 +56,30 @@ impl<T: Drop> List<T> {
         self.items.is_empty()
     }
 
+    /// The item at this place, to be changed.
+    pub fn item_mut(&mut self, index: usize) -> &mut T
+        requires { index < length self.old }
+        ensures* lends { sem 𝓛 (Lends (the_row T.row) T.row self.entry result (slice_set self.old index)) }
+        ensures item { slice_get self.old index ≡ Some result.now }
+    {
+        &mut self.items[index]
+    }
+
     /// The items, in order.
     pub fn items(&self) -> &[T]
         ensures { result.now ≡ self.now }
     {
         self.items.as_slice()
+    }
+}
+
+impl<T: Copy> List<T> {
+    /// A second list of the same items.
+    pub fn copy(&self, alloc: Global) -> Result<List<T>, Memory>
+        ensures { IfOk result (λ copy. copy ≡ self.now) }
+    {
+        let mut copy = List::new(alloc);
+        copy.items.extend_from_slice(self.items())?;
+        Ok(copy)
     }
 }

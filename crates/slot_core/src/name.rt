@@ -2,7 +2,7 @@
 
 ghost use Rattle.std.specs.Prelude.{◌≡◌, IsTrue, Some, None, if◌then◌else◌};
 ghost use Rattle.std.specs.List.{list_all};
-ghost use Rattle.slot_core.specs.Names.{is_name, is_name_byte};
+ghost use Rattle.slot_core.specs.Sets.Names.{is_name, is_name_byte};
 
 use crate::NAME_LIMIT;
 use arrayvec::ArrayVec;
@@ -17,7 +17,7 @@ pub struct Name {
 
 impl Model for Name {
     ghost use Rattle.std.specs.Prelude.{ℕ, List, IsTrue};
-    ghost use Rattle.slot_core.specs.Names.{is_name};
+    ghost use Rattle.slot_core.specs.Sets.Names.{is_name};
 
     ghost Value = { List ℕ };
 

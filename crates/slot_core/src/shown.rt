@@ -16,7 +16,7 @@ pub struct Shown {
 }
 
 impl Model for Shown {
-    ghost use Rattle.slot_core.specs.ShownSpans.{ShownSpans};
+    ghost use Rattle.slot_core.specs.Runs.ShownSpans.{ShownSpans};
 
     ghost Value = { ShownSpans };
 

@@ -7,7 +7,8 @@ use std::sync::ledger::{Blank, Book, Ledger, Share};
 
 /// How many steps were taken. It takes no bytes, and only `tick` changes it.
 ///
-/// One step is one entry of a chain, a table or a queue that is read, written or looked at.
+/// One step is one entry of a chain, a table or a queue that is read, written or looked at. An id
+/// that moves beside the entries, as those of a chain in their order, is none.
 #[derive(Drop)]
 pub struct Steps<L: Ledger> {
     book: Book<L>,

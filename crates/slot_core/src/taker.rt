@@ -3,8 +3,8 @@
 ghost use Rattle.std.specs.Prelude.{◌≡◌, ℕ, ◌≤◌, true, List, [], ◌∷◌, ◌++◌, OnOk, OnErr};
 ghost use Rattle.slot_core.specs.declared.events.Entry.{Entry};
 ghost use Rattle.slot_core.specs.declared.tasks.TaskSet.{TaskSet};
-ghost use Rattle.slot_core.specs.Arrivals.{what_in_set};
-ghost use Rattle.slot_core.specs.Counts.{Rose};
+ghost use Rattle.slot_core.specs.Runs.Arrivals.{what_in_set};
+ghost use Rattle.slot_core.specs.Calls.Counts.{Rose};
 
 use crate::events::Entry;
 use crate::faults::Failed;

@@ -2,7 +2,7 @@
 use Rattle.std.specs.Prelude.{◌≡◌, true, false, [], ◌∷◌, refl}
 use Rattle.slot_core.specs.declared.jobs.Key.TheVariants.{Offline}
 use Rattle.slot_core.specs.declared.events.Event.TheVariants.{Soft, Firm, Sporadic, Done, Withdraw}
-use Rattle.slot_core.specs.Arrivals.{are_fitting}
+use Rattle.slot_core.specs.Runs.Arrivals.{are_fitting}
 use Rattle.sample_sets.specs.Sets.{pair_set, alarm_set}
 use Rattle.slot_examples.specs.Lines.{arrival}
 

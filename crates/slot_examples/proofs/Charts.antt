@@ -2,8 +2,8 @@
 use Rattle.std.specs.Prelude.{◌≡◌, [], ◌∷◌, codes, refl}
 use Rattle.std.specs.Fmt.{digits}
 use Rattle.slot_core.specs.declared.events.Event.TheVariants.{Soft, Firm, Sporadic}
-use Rattle.slot_core.specs.Charts.{chart_text, tally_text}
-use Rattle.slot_core.specs.Traces.{trace}
+use Rattle.slot_core.specs.Output.Charts.{chart_text, tally_text}
+use Rattle.slot_core.specs.Runs.Traces.{trace}
 use Rattle.sample_sets.specs.Sets.{pair_set, one_soft_set, alarm_set}
 use Rattle.slot_examples.specs.Lines.{arrival, lines}
 

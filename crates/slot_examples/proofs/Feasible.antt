@@ -1,12 +1,12 @@
 -- Sets without and with a window of more demand than slots.
 use Rattle.std.specs.Prelude.{◌≡◌, ℕ, ◌≤◌, [], ◌++◌, Some, refl}
 use Rattle.std.proofs.Common.{arith}
-use Rattle.slot_core.specs.Cycles.{cycle_of}
-use Rattle.slot_core.specs.OfflineJobs.{cycle_jobs}
-use Rattle.slot_core.specs.Feasible.{counterexample, IsFeasible}
-use Rattle.slot_core.specs.Sporadics.{densest_pattern}
-use Rattle.slot_core.specs.Futures.{pattern_jobs}
-use Rattle.slot_core.specs.Demand.{work_from}
+use Rattle.slot_core.specs.Sets.Cycles.{cycle_of}
+use Rattle.slot_core.specs.Offline.OfflineJobs.{cycle_jobs}
+use Rattle.slot_core.specs.Feasibility.Feasible.{counterexample, IsFeasible}
+use Rattle.slot_core.specs.Feasibility.Sporadics.{densest_pattern}
+use Rattle.slot_core.specs.Claims.Futures.{pattern_jobs}
+use Rattle.slot_core.specs.Runs.Demand.{work_from}
 use Rattle.slot_facts.proofs.Demand.Feasible.{IsFeasible-from_none}
 use Rattle.sample_sets.specs.Sets.{pair_set, crowded_set, late_half_set}
 

@@ -3,8 +3,8 @@ use Rattle.std.specs.Prelude.{◌≡◌, [], ◌∷◌, codes, refl}
 use Rattle.std.specs.Fmt.{digits}
 use Rattle.slot_core.specs.declared.jobs.Key.TheVariants.{Offline}
 use Rattle.slot_core.specs.declared.events.Event.TheVariants.{Firm, Done}
-use Rattle.slot_core.specs.Texts.{trace_text}
-use Rattle.slot_core.specs.Traces.{trace}
+use Rattle.slot_core.specs.Output.Texts.{trace_text}
+use Rattle.slot_core.specs.Runs.Traces.{trace}
 use Rattle.sample_sets.specs.Sets.{borrowing_set, pair_set}
 use Rattle.slot_examples.specs.Lines.{arrival, lines, lines_at}
 

@@ -5,9 +5,9 @@ use Rattle.slot_core.specs.declared.events.Arrival.{Arrival}
 use Rattle.slot_core.specs.declared.events.Event.TheVariants.{Soft, Firm, Sporadic}
 use Rattle.slot_core.specs.declared.events.What.TheVariants.{Run}
 use Rattle.slot_core.specs.declared.jobs.Key.TheVariants.{Soft as SoftKey}
-use Rattle.slot_core.specs.Histories.{History}
-use Rattle.slot_core.specs.Texts.{entry_line}
-use Rattle.slot_core.specs.Traces.{started, occurrences_of, history_after, shown_entry}
+use Rattle.slot_core.specs.Runs.Histories.{History}
+use Rattle.slot_core.specs.Output.Texts.{entry_line}
+use Rattle.slot_core.specs.Runs.Traces.{started, occurrences_of, history_after, shown_entry}
 use Rattle.sample_sets.specs.Sets.{flight_set}
 use Rattle.slot_examples.specs.Lines.{arrival, lines, lines_at, runs_from}
 

@@ -8,15 +8,15 @@ use Rattle.slot_core.specs.declared.jobs.Job.{Job}
 use Rattle.slot_core.specs.declared.tasks.TaskSet.{TaskSet}
 use Rattle.slot_core.specs.declared.events.What.TheVariants.{Firm as FirmEntry}
 use Rattle.slot_core.specs.declared.events.Firm.TheVariants.{Accepted, Late, NoRoom}
-use Rattle.slot_core.specs.Answers.{firm_answer}
-use Rattle.slot_core.specs.Histories.{offered_job}
-use Rattle.slot_core.specs.OfflineJobs.{offline_jobs}
-use Rattle.slot_core.specs.Windows.{raw_release, raw_deadline}
-use Rattle.slot_core.specs.Scenes.{scene_of}
-use Rattle.slot_core.specs.Schedules.{holds, IsSchedule, HasSchedule}
-use Rattle.slot_core.specs.Sporadics.{densest_pattern, IsLegalPattern}
-use Rattle.slot_core.specs.Traces.{started}
-use Rattle.slot_core.specs.Futures.{pattern_jobs, OfferCanBeServed, CyclesCanBeServed, densest_from, DensestLeavesNone, with_offer, OfferCannotBeServed, OffersAreExact}
+use Rattle.slot_core.specs.Runs.Answers.{firm_answer}
+use Rattle.slot_core.specs.Runs.Histories.{offered_job}
+use Rattle.slot_core.specs.Offline.OfflineJobs.{offline_jobs}
+use Rattle.slot_core.specs.Offline.Windows.{raw_release, raw_deadline}
+use Rattle.slot_core.specs.Runs.Scenes.{scene_of}
+use Rattle.slot_core.specs.Claims.Schedules.{holds, IsSchedule, HasSchedule}
+use Rattle.slot_core.specs.Feasibility.Sporadics.{densest_pattern, IsLegalPattern}
+use Rattle.slot_core.specs.Runs.Traces.{started}
+use Rattle.slot_core.specs.Claims.Futures.{pattern_jobs, OfferCanBeServed, CyclesCanBeServed, densest_from, DensestLeavesNone, with_offer, LeavesNone, OfferCannotBeServed, densest_until, OffersAreExact}
 use Rattle.slot_facts.proofs.Scheduling.Counts.{count_in_window, holds_passing, held_item, sum_by-le_slots}
 use Rattle.sample_sets.specs.Sets.{sporadic, half_set, shared_set, overlong_set, late_half_set}
 use Rattle.slot_examples.proofs.Patterns.{IsLegalPattern-of_one}
@@ -149,16 +149,26 @@ offer_beside_an_arrival served =
     let few : 3 ≤ 2 = work_in-le shared_set _ 0 6 0 2 slots schedule (omega arith) in
     omega arith
 
--- that arrival is the pattern which shows it
-pub an_arrival_shows_it : OfferCannotBeServed shared_set 2 started 1 2
-an_arrival_shows_it =
+-- that arrival is all that the densest ones from now have due by 2, the time of the evidence: it
+-- leaves no schedule
+pub densest_arrivals_leave_none :
+    LeavesNone shared_set 2 started 1 2 (densest_until shared_set (scene_of shared_set 2 started) 2)
+densest_arrivals_leave_none =
     record {
-      pattern = (0, 0) ∷ [];
       legal = IsLegalPattern-of_one (sporadic (codes "s") 1 2 2) (0 ∷ []) 0 ((0, 0) ∷ []) (omega arith, tt) (omega arith, tt);
       none = λ (slots, schedule).
           let few : 3 ≤ 2 = work_in-le shared_set _ 0 6 0 2 slots schedule (omega arith) in
           absurd (omega arith);
     }
+
+pub an_arrival_shows_it : OfferCannotBeServed shared_set 2 started 1 2
+an_arrival_shows_it = ((0, 0) ∷ [], densest_arrivals_leave_none)
+
+-- those that are due by 1 are none, and leave one
+pub earlier_arrivals_leave_one :
+    LeavesNone shared_set 2 started 1 2 (densest_until shared_set (scene_of shared_set 2 started) 1)
+    → ⊥
+earlier_arrivals_leave_one leaves = leaves.none offer_without_arrivals
 
 -- three cycles of one slot of work in every two can be served
 pub cycles_can_be_served : CyclesCanBeServed half_set 3

@@ -6,11 +6,11 @@ use Rattle.slot_core.specs.declared.jobs.Key.TheVariants.{Offline}
 use Rattle.slot_core.specs.declared.jobs.Job.{Job}
 use Rattle.slot_core.specs.declared.jobs.SoftJob.{SoftJob}
 use Rattle.slot_core.specs.declared.events.What.TheVariants.{Start, Run, Idle}
-use Rattle.slot_core.specs.Histories.{History}
-use Rattle.slot_core.specs.Scenes.{scene_of}
-use Rattle.slot_core.specs.Safety.{IsSafe}
-use Rattle.slot_core.specs.Kept.{KeepsBounds, KeepsSoftOrder}
-use Rattle.slot_core.specs.Traces.{started}
+use Rattle.slot_core.specs.Runs.Histories.{History}
+use Rattle.slot_core.specs.Runs.Scenes.{scene_of}
+use Rattle.slot_core.specs.Claims.Safety.{IsSafe}
+use Rattle.slot_core.specs.Keeping.Kept.{KeepsBounds, KeepsSoftOrder}
+use Rattle.slot_core.specs.Runs.Traces.{started}
 use Rattle.slot_facts.specs.Bounds.{HistoryIsKept}
 use Rattle.slot_facts.proofs.Demand.Feasible.{IsFeasible-from_none}
 use Rattle.slot_facts.proofs.Legal.Kept.{every_legal_history_is_kept}

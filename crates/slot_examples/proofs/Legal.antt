@@ -5,7 +5,7 @@ use Rattle.slot_core.specs.declared.jobs.Key.TheVariants.{Offline, Firm as FirmK
 use Rattle.slot_core.specs.declared.events.Event.TheVariants.{Soft, Firm, Sporadic, Done, Withdraw}
 use Rattle.slot_core.specs.declared.events.What.TheVariants.{Start, Firm as FirmEntry, Run, Idle}
 use Rattle.slot_core.specs.declared.events.Firm.TheVariants.{Accepted}
-use Rattle.slot_core.specs.Traces.{Occurrence, arrive, slot, started, told_of, IsLegal}
+use Rattle.slot_core.specs.Runs.Traces.{Occurrence, arrive, slot, started, told_of, IsLegal}
 use Rattle.sample_sets.specs.Sets.{half_set}
 
 -- in the first of two slots the job runs, the second is idle, and a later start changes nothing

@@ -2,12 +2,12 @@
 use Rattle.std.specs.Prelude.{◌≡◌, ℕ, [], ◌∷◌, reverse, refl}
 use Rattle.std.proofs.Common.{arith}
 use Rattle.std.proofs.lemmas.List.Sums.{sum_by-cons}
-use Rattle.slot_core.specs.OfflineJobs.{cycle_jobs}
-use Rattle.slot_core.specs.Scenes.{Scene, scene_of}
-use Rattle.slot_core.specs.Traces.{started}
-use Rattle.slot_core.specs.Matches.{HaveSameItems, MatchesHistory}
-use Rattle.slot_core.specs.Plans.{plan_spans}
-use Rattle.slot_core.specs.Executives.{Executive, StandsFor}
+use Rattle.slot_core.specs.Offline.OfflineJobs.{cycle_jobs}
+use Rattle.slot_core.specs.Runs.Scenes.{Scene, scene_of}
+use Rattle.slot_core.specs.Runs.Traces.{started}
+use Rattle.slot_core.specs.Runs.Matches.{HaveSameItems, MatchesHistory}
+use Rattle.slot_core.specs.Keeping.Plans.{plan_spans}
+use Rattle.slot_core.specs.Keeping.Executives.{Executive, StandsFor}
 use Rattle.sample_sets.specs.Sets.{half_set}
 
 -- a list of three has the same items in reverse

@@ -3,10 +3,10 @@ use Rattle.std.specs.Prelude.{◌≡◌, ℕ, ℤ, pos, negsuc, [], ◌∷◌, c
 use Rattle.std.specs.Fmt.{digits}
 use Rattle.slot_core.specs.declared.jobs.Span.{Span}
 use Rattle.slot_core.specs.declared.jobs.Window.{Window}
-use Rattle.slot_core.specs.Cycles.{cycle_of}
-use Rattle.slot_core.specs.Feasible.{counterexample}
-use Rattle.slot_core.specs.Plans.{plan_spans}
-use Rattle.slot_core.specs.Reports.{check_line}
+use Rattle.slot_core.specs.Sets.Cycles.{cycle_of}
+use Rattle.slot_core.specs.Feasibility.Feasible.{counterexample}
+use Rattle.slot_core.specs.Keeping.Plans.{plan_spans}
+use Rattle.slot_core.specs.Output.Reports.{check_line}
 use Rattle.sample_sets.specs.Sets.{pair_set, offset_set, alarm_set, flight_set, crowded_set, overlong_set, two_alarms_set, long_chain_set}
 
 abbrev span : ℕ → ℕ → ℕ → ℤ → Span

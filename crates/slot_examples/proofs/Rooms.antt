@@ -4,9 +4,9 @@ use Rattle.std.specs.List.{list_all, range_with_len}
 use Rattle.std.proofs.Common.{arith}
 use Rattle.std.proofs.lemmas.Bool.{leb-true}
 use Rattle.slot_core.specs.declared.tasks.Sporadic.{Sporadic}
-use Rattle.slot_core.specs.Scenes.{Scene, horizon, scene_of}
-use Rattle.slot_core.specs.Demand.{need_by, HasRoom}
-use Rattle.slot_core.specs.Traces.{started}
+use Rattle.slot_core.specs.Runs.Scenes.{Scene, horizon, scene_of}
+use Rattle.slot_core.specs.Runs.Demand.{need_by, HasRoom}
+use Rattle.slot_core.specs.Runs.Traces.{started}
 use Rattle.slot_facts.proofs.Lists.Members.{Has-range_with_len, passes_from_list_all}
 use Rattle.sample_sets.specs.Sets.{pair_set, alarm_set}
 

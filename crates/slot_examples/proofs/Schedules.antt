@@ -6,10 +6,10 @@ use Rattle.slot_core.specs.declared.jobs.Job.{Job}
 use Rattle.slot_core.specs.declared.jobs.Key.TheVariants.{Offline}
 use Rattle.slot_core.specs.declared.events.What.TheVariants.{Run}
 use Rattle.slot_core.specs.declared.tasks.TaskSet.{TaskSet}
-use Rattle.slot_core.specs.Windows.{raw_release, raw_deadline, precedes}
-use Rattle.slot_core.specs.Scenes.{scene_of}
-use Rattle.slot_core.specs.Traces.{started}
-use Rattle.slot_core.specs.Schedules.{holds, IsSchedule}
+use Rattle.slot_core.specs.Offline.Windows.{raw_release, raw_deadline, precedes}
+use Rattle.slot_core.specs.Runs.Scenes.{scene_of}
+use Rattle.slot_core.specs.Runs.Traces.{started}
+use Rattle.slot_core.specs.Claims.Schedules.{holds, IsSchedule}
 use Rattle.sample_sets.specs.Sets.{row_set}
 use Rattle.slot_examples.proofs.Tests.{each_place, at_place, implies, from_implies}
 

@@ -14,12 +14,12 @@ use Rattle.slot_core.specs.declared.events.Firm.TheVariants.{Accepted}
 use Rattle.slot_core.specs.declared.events.Done.TheVariants.{Freed as DoneFreed}
 use Rattle.slot_core.specs.declared.events.Gone.TheVariants.{Freed as GoneFreed}
 use Rattle.slot_core.specs.declared.tasks.TaskSet.{TaskSet}
-use Rattle.slot_core.specs.Keys.{key_order, same_key, is_offline}
-use Rattle.slot_core.specs.Histories.{History, Follows, time_of, executed, freed_by, is_over}
-use Rattle.slot_core.specs.Scenes.{guaranteed, has_ended}
-use Rattle.slot_core.specs.Service.{all_jobs, IsInside, Concerns, IsServed, IsOrdered}
-use Rattle.slot_core.specs.Traces.{started, occurrences_of, history_after}
-use Rattle.slot_core.specs.Windows.{raw_release, raw_deadline, precedes}
+use Rattle.slot_core.specs.Offline.Keys.{key_order, same_key, is_offline}
+use Rattle.slot_core.specs.Runs.Histories.{History, Follows, time_of, executed, freed_by, is_over}
+use Rattle.slot_core.specs.Runs.Scenes.{guaranteed, has_ended}
+use Rattle.slot_core.specs.Claims.Service.{all_jobs, IsInside, Concerns, IsServed, IsOrdered}
+use Rattle.slot_core.specs.Runs.Traces.{started, occurrences_of, history_after}
+use Rattle.slot_core.specs.Offline.Windows.{raw_release, raw_deadline, precedes}
 use Rattle.slot_facts.proofs.Choice.Earliest.{same_from_key, equal_itself}
 use Rattle.slot_facts.proofs.Lists.Members.{Has-from_Contains, Contains-from_Has, Has-from_list_any, passes_from_list_all}
 use Rattle.sample_sets.specs.Sets.{half_set, row_set, pair_set}

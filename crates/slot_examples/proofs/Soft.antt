@@ -3,8 +3,8 @@ use Rattle.std.specs.Prelude.{◌≡◌, [], ◌∷◌, codes, refl}
 use Rattle.std.specs.Fmt.{digits}
 use Rattle.slot_core.specs.declared.jobs.Key.TheVariants.{Offline}
 use Rattle.slot_core.specs.declared.events.Event.TheVariants.{Soft, Firm, Sporadic, Done}
-use Rattle.slot_core.specs.Texts.{trace_text}
-use Rattle.slot_core.specs.Traces.{trace}
+use Rattle.slot_core.specs.Output.Texts.{trace_text}
+use Rattle.slot_core.specs.Runs.Traces.{trace}
 use Rattle.sample_sets.specs.Sets.{pair_set, one_soft_set, alarm_set}
 use Rattle.slot_examples.specs.Lines.{arrival, lines, lines_at, runs_from}
 

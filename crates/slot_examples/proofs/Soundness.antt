@@ -3,9 +3,9 @@ use Rattle.std.specs.Prelude.{◌≡◌, ℕ, true, false, List, [], ◌∷◌, 
 use Rattle.std.specs.Fmt.{digits}
 use Rattle.slot_core.specs.declared.tasks.Task.{Task}
 use Rattle.slot_core.specs.declared.tasks.TaskSet.{TaskSet}
-use Rattle.slot_core.specs.Ranges.{is_in_range, is_sound}
-use Rattle.slot_core.specs.Faults.{set_fault}
-use Rattle.slot_core.specs.FaultTexts.{task_fault_text}
+use Rattle.slot_core.specs.Sets.Ranges.{is_in_range, is_sound}
+use Rattle.slot_core.specs.Sets.Faults.{set_fault}
+use Rattle.slot_core.specs.Output.FaultTexts.{task_fault_text}
 use Rattle.sample_sets.specs.Sets.{task, plain_graph, lone_task, set_of, pair_set, overlong_set, two_periods_set}
 
 -- a set is sound, whether or not it can be scheduled

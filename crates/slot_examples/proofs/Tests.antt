@@ -3,7 +3,7 @@ use Rattle.std.specs.Prelude.{◌≡◌, ℕ, zero, suc, ◌+◌, Bool, true, fa
 use Rattle.std.proofs.Common.{arith, sym}
 use Rattle.std.proofs.lemmas.Bool.{and_parts, false≢true}
 use Rattle.slot_core.specs.declared.events.What.{What}
-use Rattle.slot_core.specs.Histories.{History, Follows}
+use Rattle.slot_core.specs.Runs.Histories.{History, Follows}
 
 -- where the first test holds, so does the second
 abbrev pub implies : Bool → Bool → Bool

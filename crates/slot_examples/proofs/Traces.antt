@@ -1,8 +1,8 @@
 -- Traces of offline jobs: each holds by computing the definitions.
 use Rattle.std.specs.Prelude.{◌≡◌, [], ◌∷◌, codes, refl}
 use Rattle.std.specs.Fmt.{digits}
-use Rattle.slot_core.specs.Texts.{trace_text}
-use Rattle.slot_core.specs.Traces.{trace}
+use Rattle.slot_core.specs.Output.Texts.{trace_text}
+use Rattle.slot_core.specs.Runs.Traces.{trace}
 use Rattle.sample_sets.specs.Sets.{borrowing_set, offset_set, pair_set}
 use Rattle.slot_examples.specs.Lines.{lines, lines_at}
 

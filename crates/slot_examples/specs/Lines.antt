@@ -5,9 +5,9 @@ use Rattle.slot_core.specs.declared.events.Arrival.{Arrival}
 use Rattle.slot_core.specs.declared.events.What.{What}
 use Rattle.slot_core.specs.declared.events.What.TheVariants.{Run}
 use Rattle.slot_core.specs.declared.tasks.TaskSet.{TaskSet}
-use Rattle.slot_core.specs.Cycles.{cycle_of}
-use Rattle.slot_core.specs.Texts.{entry_line, key_text}
-use Rattle.slot_core.specs.Traces.{trace, started, occurrences_of, history_after}
+use Rattle.slot_core.specs.Sets.Cycles.{cycle_of}
+use Rattle.slot_core.specs.Output.Texts.{entry_line, key_text}
+use Rattle.slot_core.specs.Runs.Traces.{trace, started, occurrences_of, history_after}
 
 -- a row of the arrivals
 abbrev pub arrival : ℕ → ℕ → Event → Arrival

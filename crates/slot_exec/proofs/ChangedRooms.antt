@@ -10,16 +10,16 @@ use Rattle.slot_core.specs.declared.jobs.Job.{Job}
 use Rattle.slot_core.specs.declared.jobs.Key.{Key}
 use Rattle.slot_core.specs.declared.tasks.Sporadic.{Sporadic}
 use Rattle.slot_core.specs.declared.tasks.TaskSet.{TaskSet}
-use Rattle.slot_core.specs.Answers.{relative_deadline}
-use Rattle.slot_core.specs.Demand.{need_by, work_by}
-use Rattle.slot_core.specs.Executives.{Executive, StandsForSome}
-use Rattle.slot_core.specs.Histories.{sporadic_job}
-use Rattle.slot_core.specs.Keys.{same_key}
-use Rattle.slot_core.specs.Kept.{AreApart, KeepsBounds}
-use Rattle.slot_core.specs.Matches.{HaveSameItems}
-use Rattle.slot_core.specs.Plans.{IsPlan}
-use Rattle.slot_core.specs.Scenes.{Scene, horizon}
-use Rattle.slot_core.specs.Sporadics.{sporadic_demand}
+use Rattle.slot_core.specs.Runs.Answers.{relative_deadline}
+use Rattle.slot_core.specs.Runs.Demand.{need_by, work_by}
+use Rattle.slot_core.specs.Keeping.Executives.{Executive, StandsForSome}
+use Rattle.slot_core.specs.Runs.Histories.{sporadic_job}
+use Rattle.slot_core.specs.Offline.Keys.{same_key}
+use Rattle.slot_core.specs.Keeping.Kept.{AreApart, KeepsBounds}
+use Rattle.slot_core.specs.Runs.Matches.{HaveSameItems}
+use Rattle.slot_core.specs.Keeping.Plans.{IsPlan}
+use Rattle.slot_core.specs.Runs.Scenes.{Scene, horizon}
+use Rattle.slot_core.specs.Feasibility.Sporadics.{sporadic_demand}
 use Rattle.slot_facts.proofs.Bounds.CycleDemand.{FitsCycle-from_Has}
 use Rattle.slot_facts.proofs.Bounds.TakenArrival.{sporadic_demand-taken}
 use Rattle.slot_facts.proofs.Legal.Executives.{every_executive_is_kept}

@@ -9,11 +9,11 @@ use Rattle.slot_core.specs.declared.jobs.Key.{Key}
 use Rattle.slot_core.specs.declared.jobs.SoftJob.{SoftJob}
 use Rattle.slot_core.specs.declared.jobs.Span.{Span}
 use Rattle.slot_core.specs.declared.tasks.Sporadic.{Sporadic}
-use Rattle.slot_core.specs.Answers.{done_answer}
-use Rattle.slot_core.specs.Executives.{Executive, Does}
-use Rattle.slot_core.specs.Keys.{is_soft}
-use Rattle.slot_core.specs.Matches.{HaveSameItems}
-use Rattle.slot_core.specs.Traces.{arrive}
+use Rattle.slot_core.specs.Runs.Answers.{done_answer}
+use Rattle.slot_core.specs.Keeping.Executives.{Executive, Does}
+use Rattle.slot_core.specs.Offline.Keys.{is_soft}
+use Rattle.slot_core.specs.Runs.Matches.{HaveSameItems}
+use Rattle.slot_core.specs.Runs.Traces.{arrive}
 use Rattle.scene_steps.specs.Ends.{ending_job, freed, jobs_left, soft_left, spans_left, AreDueInSpans}
 use Rattle.scene_steps.proofs.Ends.EndAnswers.{done_answer-freed, freed-some}
 use Rattle.scene_steps.proofs.Ends.EndedScenes.{ended}

@@ -4,10 +4,10 @@ use Rattle.std.specs.Prelude.{map}
 use Rattle.slot_core.specs.declared.events.What.{What}
 use Rattle.slot_core.specs.declared.jobs.Span.{Span}
 use Rattle.slot_core.specs.declared.tasks.Sporadic.{Sporadic}
-use Rattle.slot_core.specs.Executives.{Executive, Does}
-use Rattle.slot_core.specs.Plans.{PlanParts, IsPlan}
-use Rattle.slot_core.specs.Spans.{spans_of}
-use Rattle.slot_core.specs.Traces.{Occurrence}
+use Rattle.slot_core.specs.Keeping.Executives.{Executive, Does}
+use Rattle.slot_core.specs.Keeping.Plans.{PlanParts, IsPlan}
+use Rattle.slot_core.specs.Runs.Spans.{spans_of}
+use Rattle.slot_core.specs.Runs.Traces.{Occurrence}
 use Rattle.sporadic_reserve.specs.Reserves.{without_name}
 use Rattle.scene_steps.proofs.Same.Events.{StandsForSome-from_does}
 use Rattle.slot_exec.specs.declared.rooms.Room.{Room}

@@ -10,15 +10,15 @@ use Rattle.slot_core.specs.declared.jobs.Evidence.{Evidence}
 use Rattle.slot_core.specs.declared.jobs.Job.{Job}
 use Rattle.slot_core.specs.declared.jobs.SoftJob.{SoftJob}
 use Rattle.slot_core.specs.declared.jobs.Span.{Span}
-use Rattle.slot_core.specs.Answers.{evidence_at, firm_answer, first_overload}
-use Rattle.slot_core.specs.Executives.{Executive, Does, StandsFor}
-use Rattle.slot_core.specs.Futures.{OfferIsExact}
-use Rattle.slot_core.specs.Histories.{History, offered_job}
-use Rattle.slot_core.specs.Matches.{HaveSameItems, IsSameScene}
-use Rattle.slot_core.specs.Plans.{PlanParts, IsPlan}
-use Rattle.slot_core.specs.Scenes.{horizon}
-use Rattle.slot_core.specs.Spans.{spans_of}
-use Rattle.slot_core.specs.Traces.{arrive}
+use Rattle.slot_core.specs.Runs.Answers.{evidence_at, firm_answer, first_overload}
+use Rattle.slot_core.specs.Keeping.Executives.{Executive, Does, StandsFor}
+use Rattle.slot_core.specs.Claims.Futures.{OfferIsExact}
+use Rattle.slot_core.specs.Runs.Histories.{History, offered_job}
+use Rattle.slot_core.specs.Runs.Matches.{HaveSameItems, IsSameScene}
+use Rattle.slot_core.specs.Keeping.Plans.{PlanParts, IsPlan}
+use Rattle.slot_core.specs.Runs.Scenes.{horizon}
+use Rattle.slot_core.specs.Runs.Spans.{spans_of}
+use Rattle.slot_core.specs.Runs.Traces.{arrive}
 use Rattle.spare_capacity.specs.Recurrence.{first_spare, last_end}
 use Rattle.sporadic_reserve.specs.Reserves.{Reserved}
 use Rattle.guarantee.specs.declared.Answer.TheVariants.{Accept, Refuse}

@@ -16,12 +16,12 @@ use Rattle.slot_core.specs.declared.jobs.Key.{Key}
 use Rattle.slot_core.specs.declared.jobs.Key.TheVariants.{Firm as FirmKey}
 use Rattle.slot_core.specs.declared.jobs.Span.{Span}
 use Rattle.slot_core.specs.declared.tasks.Sporadic.{Sporadic}
-use Rattle.slot_core.specs.Answers.{withdraw_answer}
-use Rattle.slot_core.specs.Choice.{ready}
-use Rattle.slot_core.specs.Executives.{Executive, Does}
-use Rattle.slot_core.specs.Keys.{is_offline, same_key}
-use Rattle.slot_core.specs.Matches.{HaveSameItems}
-use Rattle.slot_core.specs.Traces.{arrive}
+use Rattle.slot_core.specs.Runs.Answers.{withdraw_answer}
+use Rattle.slot_core.specs.Runs.Choice.{ready}
+use Rattle.slot_core.specs.Keeping.Executives.{Executive, Does}
+use Rattle.slot_core.specs.Offline.Keys.{is_offline, same_key}
+use Rattle.slot_core.specs.Runs.Matches.{HaveSameItems}
+use Rattle.slot_core.specs.Runs.Traces.{arrive}
 use Rattle.scene_steps.specs.Withdrawals.{jobs_without, spans_without, withdrawn, withdrawn_job}
 use Rattle.scene_steps.proofs.Ends.Withdrawals.{left_by, Does-withdraw, NoJob-counted, spans-withdrawn, withdrawn-some, withdrawn_job-listed}
 use Rattle.scene_steps.proofs.Slots.NewParts.{parts-same}

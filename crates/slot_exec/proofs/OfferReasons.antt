@@ -4,9 +4,9 @@ use Rattle.slot_core.specs.declared.events.Firm.{Firm as FirmAnswer}
 use Rattle.slot_core.specs.declared.events.Firm.TheVariants.{NoRoom}
 use Rattle.slot_core.specs.declared.jobs.Evidence.{Evidence}
 use Rattle.slot_core.specs.declared.tasks.Sporadic.{Sporadic}
-use Rattle.slot_core.specs.Answers.{firm_answer}
-use Rattle.slot_core.specs.Demand.{HasRoom}
-use Rattle.slot_core.specs.Scenes.{Scene}
+use Rattle.slot_core.specs.Runs.Answers.{firm_answer}
+use Rattle.slot_core.specs.Runs.Demand.{HasRoom}
+use Rattle.slot_core.specs.Runs.Scenes.{Scene}
 use Rattle.slot_facts.proofs.Offers.Answers.{no_room_exactly, no_room-from_short, short-from_no_room}
 use Rattle.slot_exec.specs.Offers.{ShowsNoRoom}
 

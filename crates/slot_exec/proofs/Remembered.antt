@@ -5,14 +5,14 @@ use Rattle.std.specs.List.{range_with_len}
 use Rattle.std.proofs.lemmas.Bool.{cases_Bool, le-ltb, ltb-false, not_from_false, not-true}
 use Rattle.slot_core.specs.declared.jobs.Span.{Span}
 use Rattle.slot_core.specs.declared.tasks.Sporadic.{Sporadic}
-use Rattle.slot_core.specs.Demand.{need_by, work_by}
-use Rattle.slot_core.specs.Scenes.{Scene, horizon}
+use Rattle.slot_core.specs.Runs.Demand.{need_by, work_by}
+use Rattle.slot_core.specs.Runs.Scenes.{Scene, horizon}
 use Rattle.slot_facts.proofs.Demand.OneSlot.{sporadic_demand-later}
 use Rattle.slot_facts.proofs.Lists.Members.{Has-range_with_len, Has-range_with_len_bounds, passes_from_list_all}
 use Rattle.slot_facts.proofs.Lists.Tests.{list_all-from_Has}
 use Rattle.spare_capacity.specs.Laws.{work_until}
 use Rattle.spare_capacity.specs.Recurrence.{last_end}
-use Rattle.slot_core.specs.Sporadics.{sporadic_demand}
+use Rattle.slot_core.specs.Feasibility.Sporadics.{sporadic_demand}
 use Rattle.sporadic_reserve.specs.Reserves.{Reserved}
 use Rattle.guarantee.specs.Offers.{is_short, need_until, soft_fits}
 use Rattle.slot_exec.specs.declared.rooms.Room.{Room}

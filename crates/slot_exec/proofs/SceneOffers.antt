@@ -3,11 +3,11 @@ use Rattle.std.proofs.Common.{◌≡◌, ℕ, ◌+◌, ◌≤◌, map}
 use Rattle.std.specs.Option.{option_map_or}
 use Rattle.slot_core.specs.declared.jobs.Evidence.{Evidence}
 use Rattle.slot_core.specs.declared.events.Firm.TheVariants.{Accepted, NoRoom}
-use Rattle.slot_core.specs.Answers.{first_overload, evidence_at, firm_answer}
-use Rattle.slot_core.specs.Choice.{soft_may_run}
-use Rattle.slot_core.specs.Executives.{Executive, StandsForSome}
-use Rattle.slot_core.specs.Plans.{IsPlan}
-use Rattle.slot_core.specs.Spans.{spans_of}
+use Rattle.slot_core.specs.Runs.Answers.{first_overload, evidence_at, firm_answer}
+use Rattle.slot_core.specs.Runs.Choice.{soft_may_run}
+use Rattle.slot_core.specs.Keeping.Executives.{Executive, StandsForSome}
+use Rattle.slot_core.specs.Keeping.Plans.{IsPlan}
+use Rattle.slot_core.specs.Runs.Spans.{spans_of}
 use Rattle.sporadic_reserve.specs.Reserves.{Reserved, without_name}
 use Rattle.guarantee.specs.declared.Answer.TheVariants.{Accept, Refuse}
 use Rattle.guarantee.specs.Offers.{answer_to, soft_fits}

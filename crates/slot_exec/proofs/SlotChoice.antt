@@ -8,11 +8,11 @@ use Rattle.slot_core.specs.declared.jobs.SoftJob.{SoftJob}
 use Rattle.slot_core.specs.declared.jobs.Span.{Span}
 use Rattle.slot_core.specs.declared.events.Ran.{Ran}
 use Rattle.slot_core.specs.declared.events.Ran.TheVariants.{Idle as RanIdle, Key as RanKey}
-use Rattle.slot_core.specs.Choice.{choice, earliest, ready, soft_may_run}
-use Rattle.slot_core.specs.Executives.{Executive, StandsForSome}
-use Rattle.slot_core.specs.Plans.{IsPlan}
-use Rattle.slot_core.specs.Safety.{after_slot}
-use Rattle.slot_core.specs.Spans.{spans_of}
+use Rattle.slot_core.specs.Runs.Choice.{choice, earliest, ready, soft_may_run}
+use Rattle.slot_core.specs.Keeping.Executives.{Executive, StandsForSome}
+use Rattle.slot_core.specs.Keeping.Plans.{IsPlan}
+use Rattle.slot_core.specs.Claims.Safety.{after_slot}
+use Rattle.slot_core.specs.Runs.Spans.{spans_of}
 use Rattle.slot_facts.proofs.Lists.Members.{Has}
 use Rattle.scene_steps.specs.Steps.{soft_after_slot}
 use Rattle.scene_steps.proofs.Facts.Choices.{earliest-listed}

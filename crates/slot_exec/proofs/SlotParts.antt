@@ -4,14 +4,14 @@ use Rattle.slot_core.specs.declared.jobs.Job.{Job}
 use Rattle.slot_core.specs.declared.jobs.SoftJob.{SoftJob}
 use Rattle.slot_core.specs.declared.jobs.Span.{Span}
 use Rattle.slot_core.specs.declared.events.Ran.{Ran}
-use Rattle.slot_core.specs.Choice.{earliest, ready}
-use Rattle.slot_core.specs.Executives.{Does, Executive}
-use Rattle.slot_core.specs.Matches.{HaveSameItems, IsSameScene}
-use Rattle.slot_core.specs.Plans.{PlanParts}
-use Rattle.slot_core.specs.Safety.{after_slot}
-use Rattle.slot_core.specs.Scenes.{Scene, horizon}
-use Rattle.slot_core.specs.Spans.{spans_of}
-use Rattle.slot_core.specs.Traces.{slot, told_of_slot}
+use Rattle.slot_core.specs.Runs.Choice.{earliest, ready}
+use Rattle.slot_core.specs.Keeping.Executives.{Does, Executive}
+use Rattle.slot_core.specs.Runs.Matches.{HaveSameItems, IsSameScene}
+use Rattle.slot_core.specs.Keeping.Plans.{PlanParts}
+use Rattle.slot_core.specs.Claims.Safety.{after_slot}
+use Rattle.slot_core.specs.Runs.Scenes.{Scene, horizon}
+use Rattle.slot_core.specs.Runs.Spans.{spans_of}
+use Rattle.slot_core.specs.Runs.Traces.{slot, told_of_slot}
 use Rattle.spare_capacity.specs.Recurrence.{last_end}
 use Rattle.sporadic_reserve.specs.Reserves.{Reserved}
 use Rattle.guarantee.specs.Offers.{soft_fits}

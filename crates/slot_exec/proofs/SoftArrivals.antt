@@ -8,8 +8,8 @@ use Rattle.slot_core.specs.declared.events.What.TheVariants.{Soft}
 use Rattle.slot_core.specs.declared.jobs.SoftJob.{SoftJob}
 use Rattle.slot_core.specs.declared.jobs.Span.{Span}
 use Rattle.slot_core.specs.declared.tasks.Sporadic.{Sporadic}
-use Rattle.slot_core.specs.Executives.{Executive, Does}
-use Rattle.slot_core.specs.Traces.{arrive}
+use Rattle.slot_core.specs.Keeping.Executives.{Executive, Does}
+use Rattle.slot_core.specs.Runs.Traces.{arrive}
 use Rattle.slot_facts.proofs.Legal.Executives.{every_executive_is_kept}
 use Rattle.circular_buffer.specs.Buffer.{keep_last}
 use Rattle.scene_steps.proofs.Ends.EndEvents.{Does-soft_full, Does-soft_taken}

@@ -6,14 +6,14 @@ use Rattle.std.specs.List.{list_all, range_with_len}
 use Rattle.slot_core.specs.declared.jobs.Evidence.{Evidence}
 use Rattle.slot_core.specs.declared.tasks.Sporadic.{Sporadic}
 use Rattle.slot_core.specs.declared.events.Firm.TheVariants.{Accepted, NoRoom}
-use Rattle.slot_core.specs.Sporadics.{sporadic_demand}
+use Rattle.slot_core.specs.Feasibility.Sporadics.{sporadic_demand}
 use Rattle.std.proofs.lemmas.Bool.{ne_eqb, le-ltb}
 use Rattle.spare_capacity.specs.Recurrence.{last_end}
-use Rattle.slot_core.specs.Answers.{first_overload, evidence_at, firm_answer}
-use Rattle.slot_core.specs.Choice.{soft_may_run}
-use Rattle.slot_core.specs.Demand.{is_overloaded, need_by}
-use Rattle.slot_core.specs.Scenes.{Scene, horizon}
-use Rattle.slot_core.specs.Spans.{spans_of}
+use Rattle.slot_core.specs.Runs.Answers.{first_overload, evidence_at, firm_answer}
+use Rattle.slot_core.specs.Runs.Choice.{soft_may_run}
+use Rattle.slot_core.specs.Runs.Demand.{is_overloaded, need_by}
+use Rattle.slot_core.specs.Runs.Scenes.{Scene, horizon}
+use Rattle.slot_core.specs.Runs.Spans.{spans_of}
 use Rattle.slot_facts.proofs.Lists.Tests.{find-same, list_all-same}
 use Rattle.sporadic_reserve.specs.Reserves.{Reserved, without_name}
 use Rattle.sporadic_reserve.proofs.Demands.{sporadic_demand-without_name}

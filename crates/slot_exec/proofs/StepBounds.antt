@@ -7,10 +7,10 @@ use Rattle.slot_core.specs.declared.jobs.Job.{Job}
 use Rattle.slot_core.specs.declared.jobs.Key.TheVariants.{Firm as FirmKey}
 use Rattle.slot_core.specs.declared.jobs.Span.{Span}
 use Rattle.slot_core.specs.declared.tasks.Sporadic.{Sporadic}
-use Rattle.slot_core.specs.Executives.{Executive}
-use Rattle.slot_core.specs.Histories.{offered_job}
-use Rattle.slot_core.specs.Keys.{same_key}
-use Rattle.slot_core.specs.Spans.{spans_of}
+use Rattle.slot_core.specs.Keeping.Executives.{Executive}
+use Rattle.slot_core.specs.Runs.Histories.{offered_job}
+use Rattle.slot_core.specs.Offline.Keys.{same_key}
+use Rattle.slot_core.specs.Runs.Spans.{spans_of}
 use Rattle.slot_facts.proofs.Legal.Executives.{every_executive_is_kept}
 use Rattle.slot_facts.proofs.Lists.ApartKeys.{IsApart-from_count, same_key-itself, same_member-from_apart}
 use Rattle.slot_facts.proofs.Lists.Members.{Has-from_Contains}

@@ -10,10 +10,10 @@ use Rattle.slot_core.specs.declared.events.What.TheVariants.{Sporadic as Sporadi
 use Rattle.slot_core.specs.declared.jobs.Job.{Job}
 use Rattle.slot_core.specs.declared.jobs.Span.{Span}
 use Rattle.slot_core.specs.declared.tasks.Sporadic.{Sporadic}
-use Rattle.slot_core.specs.Answers.{relative_deadline, sporadic_answer}
-use Rattle.slot_core.specs.Executives.{Executive, Does}
-use Rattle.slot_core.specs.Matches.{HaveSameItems}
-use Rattle.slot_core.specs.Traces.{arrive}
+use Rattle.slot_core.specs.Runs.Answers.{relative_deadline, sporadic_answer}
+use Rattle.slot_core.specs.Keeping.Executives.{Executive, Does}
+use Rattle.slot_core.specs.Runs.Matches.{HaveSameItems}
+use Rattle.slot_core.specs.Runs.Traces.{arrive}
 use Rattle.slot_facts.proofs.Bounds.CycleDemand.{FitsCycle-from_Has}
 use Rattle.slot_facts.proofs.Legal.Rows.{sporadic_job-at}
 use Rattle.slot_facts.proofs.Lists.Members.{Has-from_slice_get}

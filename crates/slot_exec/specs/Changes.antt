@@ -7,11 +7,11 @@ use Rattle.slot_core.specs.declared.jobs.SoftJob.{SoftJob}
 use Rattle.slot_core.specs.declared.jobs.Span.{Span}
 use Rattle.slot_core.specs.declared.events.Ran.{Ran}
 use Rattle.slot_core.specs.declared.events.Ran.TheVariants.{Idle as RanIdle, Key as RanKey}
-use Rattle.slot_core.specs.Keys.{same_key}
-use Rattle.slot_core.specs.Kept.{AreApart}
-use Rattle.slot_core.specs.OfflineJobs.{later_job}
-use Rattle.slot_core.specs.Plans.{PlanParts}
-use Rattle.slot_core.specs.Safety.{after_run}
+use Rattle.slot_core.specs.Offline.Keys.{same_key}
+use Rattle.slot_core.specs.Keeping.Kept.{AreApart}
+use Rattle.slot_core.specs.Offline.OfflineJobs.{later_job}
+use Rattle.slot_core.specs.Keeping.Plans.{PlanParts}
+use Rattle.slot_core.specs.Claims.Safety.{after_run}
 use Rattle.spare_capacity.specs.Recurrence.{filled, last_end}
 use Rattle.interval_row.specs.Changes.{after_pass, appended, span_ending, with_less}
 use Rattle.slot_exec.specs.declared.runs.Chosen.{Chosen}

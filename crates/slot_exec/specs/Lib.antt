@@ -2,3 +2,4 @@ pub mod Parts
 pub mod Changes
 pub mod Offers
 pub mod Rooms
+pub mod TestSets

@@ -3,8 +3,8 @@ use Rattle.std.specs.Prelude.{◌≡◌, ℕ, ◌+◌, ◌-◌, ◌≤◌, ◌<�
 use Rattle.slot_core.specs.declared.jobs.Evidence.{Evidence}
 use Rattle.slot_core.specs.declared.jobs.Span.{Span}
 use Rattle.slot_core.specs.declared.tasks.Sporadic.{Sporadic}
-use Rattle.slot_core.specs.Demand.{need_by}
-use Rattle.slot_core.specs.Scenes.{Scene, horizon}
+use Rattle.slot_core.specs.Runs.Demand.{need_by}
+use Rattle.slot_core.specs.Runs.Scenes.{Scene, horizon}
 use Rattle.slot_core.specs.declared.events.Firm.{Firm as FirmAnswer}
 use Rattle.slot_core.specs.declared.events.Firm.TheVariants.{Accepted, Late, Far, NoRoom}
 use Rattle.sporadic_reserve.specs.Reserves.{Reserved}

@@ -4,9 +4,9 @@ use Rattle.slot_core.specs.declared.jobs.Job.{Job}
 use Rattle.slot_core.specs.declared.jobs.SoftJob.{SoftJob}
 use Rattle.slot_core.specs.declared.jobs.Span.{Span}
 use Rattle.slot_core.specs.declared.tasks.Sporadic.{Sporadic}
-use Rattle.slot_core.specs.Plans.{PlanParts, IsPlan}
-use Rattle.slot_core.specs.Spans.{spans_of}
-use Rattle.slot_core.specs.Executives.{Executive, StandsForSome}
+use Rattle.slot_core.specs.Keeping.Plans.{PlanParts, IsPlan}
+use Rattle.slot_core.specs.Runs.Spans.{spans_of}
+use Rattle.slot_core.specs.Keeping.Executives.{Executive, StandsForSome}
 use Rattle.sporadic_reserve.specs.Reserves.{without_name}
 use Rattle.slot_exec.specs.declared.rooms.Room.{Room}
 use Rattle.slot_exec.specs.Rooms.{RemembersScene}

@@ -6,8 +6,8 @@ use Rattle.slot_core.specs.declared.events.Spo.TheVariants.{Soon, Taken}
 use Rattle.slot_core.specs.declared.jobs.Job.{Job}
 use Rattle.slot_core.specs.declared.jobs.Span.{Span}
 use Rattle.slot_core.specs.declared.tasks.Sporadic.{Sporadic}
-use Rattle.slot_core.specs.Demand.{need_by, work_by}
-use Rattle.slot_core.specs.Scenes.{Scene, horizon}
+use Rattle.slot_core.specs.Runs.Demand.{need_by, work_by}
+use Rattle.slot_core.specs.Runs.Scenes.{Scene, horizon}
 use Rattle.spare_capacity.specs.Laws.{work_until}
 use Rattle.spare_capacity.specs.Recurrence.{last_end}
 use Rattle.sporadic_reserve.specs.Reserves.{Reserved}

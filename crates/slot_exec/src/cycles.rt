@@ -2,8 +2,8 @@
 
 ghost use Rattle.std.specs.Prelude.{◌≡◌, ◌+◌, ◌/◌, ◌%◌, ◌≤◌, ◌<◌, ◌^◌, ◌++◌, ◌==◌, length, IfOk};
 ghost use Rattle.slot_core.specs.declared.TheConstants.{CYCLES_LIMIT};
-ghost use Rattle.slot_core.specs.Kept.{AreApart};
-ghost use Rattle.slot_core.specs.Matches.{HaveSameItems};
+ghost use Rattle.slot_core.specs.Keeping.Kept.{AreApart};
+ghost use Rattle.slot_core.specs.Runs.Matches.{HaveSameItems};
 ghost use Rattle.spare_capacity.specs.Recurrence.{last_end};
 ghost use Rattle.interval_row.specs.Tables.{spans_of_pairs};
 ghost use Rattle.slot_exec.specs.Changes.{jobs_at, jobs_in_cycle, spans_at, HasPlaces};

@@ -2,8 +2,8 @@
 
 ghost use Rattle.std.specs.Prelude.{◌≡◌, ◌≤◌, false, true, if◌then◌else◌};
 ghost use Rattle.std.specs.Option.{option_map_or};
-ghost use Rattle.slot_core.specs.Keys.{is_soft};
-ghost use Rattle.slot_core.specs.Matches.{HaveSameItems};
+ghost use Rattle.slot_core.specs.Offline.Keys.{is_soft};
+ghost use Rattle.slot_core.specs.Runs.Matches.{HaveSameItems};
 ghost use Rattle.interval_row.specs.Tables.{spans_of_pairs};
 ghost use Rattle.scene_steps.specs.Ends.{ending_job, ending_soft, freed, jobs_left, soft_left, spans_left, AreDueInSpans};
 ghost use Rattle.slot_exec.specs.Rooms.{due_left};

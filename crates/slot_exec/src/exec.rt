@@ -1,27 +1,32 @@
 //! The executive and its events.
 
-ghost use Rattle.std.specs.Prelude.{◌≡◌, ◌≢◌, ◌↔◌, ◌⊎◌, ℕ, ◌+◌, ◌*◌, ◌≤◌, ◌<◌, ◌^◌, pos, ◌≤ℤ◌, [], Some, None, IfOk, IsTrue, Contains, count_by, length, slice_get, slice_index, slice_set};
+ghost use Rattle.std.specs.Prelude.{◌≡◌, ◌≢◌, ◌↔◌, ◌⊎◌, ℕ, ◌+◌, ◌*◌, ◌≤◌, ◌<◌, ◌^◌, pos, ◌≤ℤ◌, [], Some, None, IfOk, IsTrue, true, Contains, count_by, length, map, slice_get, slice_index, slice_set};
 ghost use Rattle.slot_core.specs.declared.TheConstants.{OFFER_LIMIT};
 ghost use Rattle.slot_core.specs.declared.events.Event.{Event};
 ghost use Rattle.slot_core.specs.declared.events.What.{What};
 ghost use Rattle.slot_core.specs.declared.jobs.Job.{Job};
-ghost use Rattle.slot_core.specs.Answers.{done_answer, firm_answer, soft_answer, sporadic_answer, withdraw_answer};
-ghost use Rattle.slot_core.specs.Choice.{choice};
+ghost use Rattle.slot_core.specs.Runs.Answers.{done_answer, firm_answer, soft_answer, sporadic_answer, withdraw_answer};
+ghost use Rattle.slot_core.specs.Runs.Choice.{choice};
 ghost use Rattle.slot_core.specs.declared.jobs.Evidence.{Evidence};
-ghost use Rattle.slot_core.specs.Demand.{HasRoom};
+ghost use Rattle.slot_core.specs.Runs.Demand.{HasRoom};
 ghost use Rattle.slot_exec.specs.Offers.{ShowsNoRoom};
-ghost use Rattle.slot_core.specs.Executives.{Does, IsKept, Shows, StandsFor, StandsForSome};
-ghost use Rattle.slot_core.specs.Futures.{OfferIsExact};
-ghost use Rattle.slot_core.specs.Histories.{History};
-ghost use Rattle.slot_core.specs.Keys.{same_key};
-ghost use Rattle.slot_core.specs.Plans.{IsPlan};
-ghost use Rattle.slot_core.specs.Scenes.{scene_of};
-ghost use Rattle.slot_core.specs.Spans.{shown_of, spans_of};
+ghost use Rattle.slot_core.specs.Keeping.Executives.{Does, IsKept, Shows, StandsFor, StandsForSome};
+ghost use Rattle.slot_core.specs.Claims.Futures.{OfferIsExact};
+ghost use Rattle.slot_core.specs.Runs.Histories.{History};
+ghost use Rattle.slot_core.specs.Runs.Arrivals.{key_in_set};
+ghost use Rattle.slot_core.specs.Runs.Matches.{HaveSameItems};
+ghost use Rattle.slot_core.specs.Offline.Keys.{same_key};
+ghost use Rattle.slot_core.specs.Keeping.Plans.{IsPlan};
+ghost use Rattle.slot_core.specs.Runs.Scenes.{remaining, scene_of};
+ghost use Rattle.slot_core.specs.Runs.Spans.{shown_of, spans_of};
 ghost use Rattle.spare_capacity.specs.Recurrence.{first_spare};
-ghost use Rattle.slot_core.specs.Traces.{arrive, slot, started, told_of_slot};
+ghost use Rattle.slot_core.specs.Runs.Traces.{arrive, slot, started, told_of_slot};
 ghost use Rattle.interval_row.specs.Changes.{ends_before};
 ghost use Rattle.scene_steps.specs.Steps.{separation_of};
+ghost use Rattle.sporadic_reserve.specs.Reserves.{without_name};
 
+#[cfg(test)]
+mod test_sets;
 #[cfg(test)]
 mod tests;
 
@@ -38,7 +43,7 @@ use cycle_plan::Plan;
 use interval_row::SpareTable;
 use job_queue::JobQueue;
 use slot_core::{
-    Done, Firm, Gone, Key, Memory, Ran, SHOWN_LIMIT, Shown, Soft, SoftJob, Span, Spo, Steps,
+    Done, Firm, Gone, Job, Key, Memory, Ran, SHOWN_LIMIT, Shown, Soft, SoftJob, Span, Spo, Steps,
     TaskSet,
 };
 use sporadic_reserve::Reserve;
@@ -67,7 +72,7 @@ pub struct Exec<T: SpareTable> {
 }
 
 impl<T: SpareTable> Model for Exec<T> {
-    ghost use Rattle.slot_core.specs.Executives.{Executive};
+    ghost use Rattle.slot_core.specs.Keeping.Executives.{Executive};
     ghost use Rattle.interval_row.specs.Tables.{spans_of_pairs};
     ghost use Rattle.slot_exec.specs.Parts.{executive, IsExecutive};
 
@@ -150,6 +155,37 @@ impl<T: SpareTable> Exec<T> {
         ensures plan { IsPlan self.now.plan }
     {
         self.plan.tasks()
+    }
+
+    /// How many guaranteed jobs remain. They are the remaining jobs of every history for which the
+    /// executive stands.
+    pub fn job_count(&self) -> u32
+        ensures count { result ≡ length self.now.scene.jobs }
+        ensures few { result ≤ 3 * self.now.plan.cycle }
+        ensures of_history { (h : History) → StandsFor self.now h → HaveSameItems
+            self.now.scene.jobs
+            (remaining self.now.plan.tasks self.now.plan.cycle h) }
+    {
+        self.queue.len()
+    }
+
+    /// The remaining job with so many others before it, in no order. One step.
+    pub fn job<L: Ledger>(&self, i: u32, steps: &mut Steps<L>) -> Job
+        requires { i < length self.now.scene.jobs }
+        ensures job { slice_get self.now.scene.jobs i ≡ Some result }
+        ensures named { key_in_set self.now.plan.tasks result.key ≡ true }
+        ensures one_step { steps.new ≡ steps.old + 1 }
+    {
+        self.queue.at(i, steps)
+    }
+
+    /// The next legal arrival of each sporadic task, and what they may still ask for.
+    pub fn reserve(&self) -> &Reserve
+        ensures nexts { result.now.nexts ≡ self.now.scene.nexts }
+        ensures sporadics { result.now.sporadics
+            ≡ map without_name self.now.plan.tasks.sporadics }
+    {
+        &self.reserve
     }
 
     /// How many spans there are up to the horizon: at least one, and at most three cycles of them.

@@ -12,8 +12,6 @@ mod rooms;
 mod runs;
 mod shown;
 mod sporadic_arrivals;
-#[cfg(test)]
-mod tests;
 mod withdrawals;
 
 pub use exec::Exec;

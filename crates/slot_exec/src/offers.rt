@@ -2,8 +2,8 @@
 
 ghost use Rattle.std.specs.Prelude.{◌≡◌, ◌⊎◌, ◌+◌, ◌-◌, ◌≤◌, ◌<◌, ◌^◌, [], ◌∷◌, ◌++◌, ◌*◌, pos, ◌≤ℤ◌, IsTrue};
 ghost use Rattle.slot_core.specs.declared.TheConstants.{OFFER_LIMIT};
-ghost use Rattle.slot_core.specs.Histories.{offered_job};
-ghost use Rattle.slot_core.specs.Matches.{HaveSameItems};
+ghost use Rattle.slot_core.specs.Runs.Histories.{offered_job};
+ghost use Rattle.slot_core.specs.Runs.Matches.{HaveSameItems};
 ghost use Rattle.spare_capacity.specs.Recurrence.{first_spare, last_end};
 ghost use Rattle.interval_row.specs.Changes.{ends_before};
 ghost use Rattle.interval_row.specs.Tables.{spans_of_pairs};

@@ -13,7 +13,7 @@ use sporadic_reserve::Reserve;
 use std::sync::ledger::Ledger;
 
 /// What is remembered of the room for soft work.
-#[derive(Clone, Copy, PartialEq, Eq, Debug)]
+#[derive(Clone, Copy, PartialEq, Eq)]
 pub struct Room {
     /// Up to each later time by which something is needed, so many slots are free.
     pub free: u64,

@@ -1,8 +1,8 @@
 //! What a slot runs.
 
 ghost use Rattle.std.specs.Prelude.{◌≡◌, ◌≤◌, length};
-ghost use Rattle.slot_core.specs.Choice.{earliest, ready};
-ghost use Rattle.slot_core.specs.Matches.{HaveSameItems};
+ghost use Rattle.slot_core.specs.Runs.Choice.{earliest, ready};
+ghost use Rattle.slot_core.specs.Runs.Matches.{HaveSameItems};
 ghost use Rattle.interval_row.specs.Tables.{spans_of_pairs};
 ghost use Rattle.guarantee.specs.Offers.{soft_fits};
 ghost use Rattle.slot_exec.specs.Rooms.{MaySearch, RemembersSpans};
@@ -17,7 +17,7 @@ use sporadic_reserve::Reserve;
 use std::sync::ledger::Ledger;
 
 /// What is chosen for a slot.
-#[derive(Clone, Copy, PartialEq, Eq, Debug)]
+#[derive(Clone, Copy, PartialEq, Eq)]
 pub enum Chosen {
     /// No job may run.
     Nothing,

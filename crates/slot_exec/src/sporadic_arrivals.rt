@@ -1,8 +1,8 @@
 //! Sporadic arrivals.
 
 ghost use Rattle.std.specs.Prelude.{◌≡◌, ℕ, ◌≤◌, ◌<◌, ◌^◌, false, length};
-ghost use Rattle.slot_core.specs.Histories.{sporadic_job};
-ghost use Rattle.slot_core.specs.Matches.{HaveSameItems};
+ghost use Rattle.slot_core.specs.Runs.Histories.{sporadic_job};
+ghost use Rattle.slot_core.specs.Runs.Matches.{HaveSameItems};
 ghost use Rattle.interval_row.specs.Tables.{spans_of_pairs};
 ghost use Rattle.scene_steps.specs.Joins.{HavePlace};
 ghost use Rattle.scene_steps.specs.SporadicArrivals.{arrival_answer, is_too_soon, jobs_after_arrival, nexts_after, spans_after_arrival};

@@ -13,7 +13,9 @@ pub mod Left
 pub mod NextArrivals
 pub mod Owned
 pub mod Rows
+pub mod RunKeys
 pub mod Served
 pub mod SoftOrder
 pub mod Steps
 pub mod Traces
+pub mod Works

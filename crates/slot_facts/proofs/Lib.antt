@@ -2,6 +2,7 @@ pub mod Bounds
 pub mod Choice
 pub mod Demand
 pub mod Histories
+pub mod Lawful
 pub mod Legal
 pub mod Lists
 pub mod Offers

@@ -3,4 +3,5 @@ pub mod Entries
 pub mod Following
 pub mod Lengths
 pub mod Named
+pub mod Times
 pub mod Told

@@ -4,6 +4,7 @@ pub mod Chains
 pub mod Counts
 pub mod Extras
 pub mod Fits
+pub mod LegalStarts
 pub mod NextCycle
 pub mod Numbers
 pub mod Queue

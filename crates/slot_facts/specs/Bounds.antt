@@ -4,19 +4,19 @@ use Rattle.slot_core.specs.declared.jobs.Job.{Job}
 use Rattle.slot_core.specs.declared.tasks.Sporadic.{Sporadic}
 use Rattle.slot_core.specs.declared.tasks.TaskSet.{TaskSet}
 use Rattle.slot_core.specs.declared.events.What.TheVariants.{Idle}
-use Rattle.slot_core.specs.Keys.{row_of, is_offline}
-use Rattle.slot_core.specs.Cycles.{cycle_of}
-use Rattle.slot_core.specs.Ranges.{is_sound}
-use Rattle.slot_core.specs.Feasible.{IsFeasible}
-use Rattle.slot_core.specs.Histories.{History, time_of, last_row, sporadic_job}
-use Rattle.slot_core.specs.Scenes.{Scene, guaranteed_in, unended, waiting_soft, next_arrivals, scene_in}
-use Rattle.slot_core.specs.Demand.{need_by}
-use Rattle.slot_core.specs.Choice.{earliest_ready}
-use Rattle.slot_core.specs.Safety.{after_slot, IsSafe}
-use Rattle.slot_core.specs.Traces.{slot, told_of, IsLegal}
-use Rattle.slot_core.specs.Kept.{ArePlanned, AreApart, KeepsBounds, KeepsSoftOrder, KeepsRows}
-use Rattle.slot_core.specs.Plans.{IsPlan}
-use Rattle.slot_core.specs.Executives.{Executive, StandsForSome, IsKept}
+use Rattle.slot_core.specs.Offline.Keys.{row_of, is_offline}
+use Rattle.slot_core.specs.Sets.Cycles.{cycle_of}
+use Rattle.slot_core.specs.Sets.Ranges.{is_sound}
+use Rattle.slot_core.specs.Feasibility.Feasible.{IsFeasible}
+use Rattle.slot_core.specs.Runs.Histories.{History, time_of, last_row, sporadic_job}
+use Rattle.slot_core.specs.Runs.Scenes.{Scene, guaranteed_in, unended, waiting_soft, next_arrivals, scene_in}
+use Rattle.slot_core.specs.Runs.Demand.{need_by}
+use Rattle.slot_core.specs.Runs.Choice.{earliest_ready}
+use Rattle.slot_core.specs.Claims.Safety.{after_slot, IsSafe}
+use Rattle.slot_core.specs.Runs.Traces.{slot, told_of, IsLegal}
+use Rattle.slot_core.specs.Keeping.Kept.{ArePlanned, AreApart, KeepsBounds, KeepsSoftOrder, KeepsRows}
+use Rattle.slot_core.specs.Keeping.Plans.{IsPlan}
+use Rattle.slot_core.specs.Keeping.Executives.{Executive, StandsForSome, IsKept}
 
 -- what a legal history keeps, with the offline jobs of so many cycles
 pub record HistoryIsKept (set : TaskSet) (cycles : ℕ) (h : History) : Type 0 where

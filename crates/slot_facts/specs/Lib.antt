@@ -1,4 +1,6 @@
 pub mod Bounds
+pub mod Lawful
+pub mod Lines
 pub mod Offers
 pub mod Patterns
 pub mod Schedules

@@ -1,20 +1,18 @@
 -- What can be served: every legal history for ever, and an offer exactly where there is room for
 -- it.
-use Rattle.std.specs.Prelude.{◌≡◌, ◌↔◌, ℕ, ◌+◌, ◌*◌, ◌/◌, ◌≤◌, ◌<◌, true, [], ◌∷◌, ◌++◌, All}
+use Rattle.std.specs.Prelude.{◌≡◌, ◌↔◌, ℕ, ◌+◌, ◌*◌, ◌/◌, ◌≤◌, ◌<◌, true, [], ◌∷◌, All}
 use Rattle.slot_core.specs.declared.tasks.TaskSet.{TaskSet}
-use Rattle.slot_core.specs.Cycles.{cycle_of}
-use Rattle.slot_core.specs.Ranges.{is_sound}
-use Rattle.slot_core.specs.Feasible.{IsFeasible}
-use Rattle.slot_core.specs.Sporadics.{IsLegalPattern, densest_pattern}
-use Rattle.slot_core.specs.Histories.{History, time_of, last_row, offered_job}
-use Rattle.slot_core.specs.Keys.{row_of}
-use Rattle.slot_core.specs.Kept.{KeepsBounds}
+use Rattle.slot_core.specs.Sets.Cycles.{cycle_of}
+use Rattle.slot_core.specs.Sets.Ranges.{is_sound}
+use Rattle.slot_core.specs.Feasibility.Feasible.{IsFeasible}
+use Rattle.slot_core.specs.Runs.Histories.{History, time_of, last_row, offered_job}
+use Rattle.slot_core.specs.Offline.Keys.{row_of}
+use Rattle.slot_core.specs.Keeping.Kept.{KeepsBounds}
 use Rattle.slot_core.specs.declared.jobs.Job.{Job}
-use Rattle.slot_core.specs.Scenes.{Scene, horizon, scene_of, scene_in}
-use Rattle.slot_core.specs.Demand.{HasRoom}
-use Rattle.slot_core.specs.Schedules.{HasSchedule}
-use Rattle.slot_core.specs.Traces.{IsLegal}
-use Rattle.slot_core.specs.Futures.{pattern_jobs, CanBeServed, CanBeServedUntil, OfferCanBeServed, OffersAreExact}
+use Rattle.slot_core.specs.Runs.Scenes.{Scene, horizon, scene_of, scene_in}
+use Rattle.slot_core.specs.Runs.Demand.{HasRoom}
+use Rattle.slot_core.specs.Runs.Traces.{IsLegal}
+use Rattle.slot_core.specs.Claims.Futures.{CanBeServed, CanBeServedUntil, OfferCanBeServed, LeavesNone, densest_until, OffersAreExact}
 
 -- whatever legal pattern follows, every legal history can be served up to any number of cycles past
 -- its horizon
@@ -48,17 +46,13 @@ TheDensestPatternShowsIt =
     → 1 ≤ slots
     → ¬ (HasRoom set.sporadics (cycle_of set) (scene_of set (cycle_of set) h) slots within)
     → let scene = scene_of set (cycle_of set) h in
-    let end = horizon (cycle_of set) scene.time in
-    let row = last_row h + 1 in
-    let pattern = densest_pattern 0 set.sporadics scene.nexts scene.time end in
-    IsLegalPattern set.sporadics scene.nexts scene.time pattern
-    × ¬ (HasSchedule
+    LeavesNone
     set
-    (scene.jobs
-    ++ offered_job row scene.time slots within ∷ []
-    ++ pattern_jobs set.sporadics (row + 1) pattern)
-    scene.time
-    end)
+    (cycle_of set)
+    h
+    slots
+    within
+    (densest_until set scene (horizon (cycle_of set) scene.time))
 
 -- room gives a schedule from any scene that keeps its bounds up to its horizon: for an offer in
 -- reach, with the jobs of the scene and those of any legal pattern, in rows above those of the jobs
@@ -78,7 +72,7 @@ RoomGivesASchedule =
     (offered_job row scene.time slots within ∷ [])
 
 -- so the offers of every legal history are answered exactly: each that was accepted could be
--- served, and for each that was refused for want of room, some legal pattern left no slot schedule
+-- served, and in reach one was refused exactly where some legal pattern left no slot schedule
 abbrev pub OffersAreAlwaysExact : Type 0
 OffersAreAlwaysExact =
     (set : TaskSet) (h : History)

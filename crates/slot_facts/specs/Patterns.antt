@@ -2,9 +2,9 @@
 -- demand.
 use Rattle.std.specs.Prelude.{◌≡◌, ℕ, ◌≤◌, List, All}
 use Rattle.slot_core.specs.declared.tasks.Sporadic.{Sporadic}
-use Rattle.slot_core.specs.Sporadics.{sporadic_demand, densest_pattern, IsLegalPattern}
-use Rattle.slot_core.specs.Futures.{pattern_jobs}
-use Rattle.slot_core.specs.Demand.{work_by, work_from}
+use Rattle.slot_core.specs.Feasibility.Sporadics.{sporadic_demand, densest_pattern, IsLegalPattern}
+use Rattle.slot_core.specs.Claims.Futures.{pattern_jobs}
+use Rattle.slot_core.specs.Runs.Demand.{work_by, work_from}
 
 -- each separation is at least one slot
 abbrev pub AreSeparated : List Sporadic → Type 0

@@ -2,13 +2,13 @@
 use Rattle.std.specs.Prelude.{◌≡◌, ℕ, true, List, take}
 use Rattle.slot_core.specs.declared.tasks.TaskSet.{TaskSet}
 use Rattle.slot_core.specs.declared.events.Arrival.{Arrival}
-use Rattle.slot_core.specs.Cycles.{cycle_of}
-use Rattle.slot_core.specs.Ranges.{is_sound}
-use Rattle.slot_core.specs.Feasible.{IsFeasible}
-use Rattle.slot_core.specs.Arrivals.{are_fitting}
-use Rattle.slot_core.specs.Histories.{History}
-use Rattle.slot_core.specs.Traces.{trace, history_of, IsLegal}
-use Rattle.slot_core.specs.Service.{IsServed, IsOrdered}
+use Rattle.slot_core.specs.Sets.Cycles.{cycle_of}
+use Rattle.slot_core.specs.Sets.Ranges.{is_sound}
+use Rattle.slot_core.specs.Feasibility.Feasible.{IsFeasible}
+use Rattle.slot_core.specs.Runs.Arrivals.{are_fitting}
+use Rattle.slot_core.specs.Runs.Histories.{History}
+use Rattle.slot_core.specs.Runs.Traces.{trace, history_of, IsLegal}
+use Rattle.slot_core.specs.Claims.Service.{IsServed, IsOrdered}
 
 -- every legal history of a feasible set is served and ordered
 abbrev pub EveryLegalHistoryIsServed : Type 0

@@ -3,10 +3,10 @@
 use Rattle.std.specs.Prelude.{◌≡◌, ◌↔◌, ℕ, true, Some}
 use Rattle.slot_core.specs.declared.jobs.Window.{Window}
 use Rattle.slot_core.specs.declared.tasks.TaskSet.{TaskSet}
-use Rattle.slot_core.specs.Cycles.{cycle_of}
-use Rattle.slot_core.specs.Ranges.{is_sound}
-use Rattle.slot_core.specs.Feasible.{IsFeasible, counterexample}
-use Rattle.slot_core.specs.Futures.{CyclesCanBeServed, DensestLeavesNone}
+use Rattle.slot_core.specs.Sets.Cycles.{cycle_of}
+use Rattle.slot_core.specs.Sets.Ranges.{is_sound}
+use Rattle.slot_core.specs.Feasibility.Feasible.{IsFeasible, counterexample}
+use Rattle.slot_core.specs.Claims.Futures.{CyclesCanBeServed, DensestLeavesNone}
 
 -- a set passes exactly where three cycles can be served, whatever legal pattern of arrivals comes
 abbrev pub TheVerdictMeansSchedules : Type 0

@@ -1,7 +1,7 @@
 //! Files that are read whole up to a limit.
 
 ghost use Rattle.std.specs.Prelude.{◌≡◌, ◌≢◌, ℕ, ◌+◌, ◌≤◌, List, Option, Some, IfSome, IfOk, vec_len};
-ghost use Rattle.slot_core.specs.Counts.{Rose};
+ghost use Rattle.slot_core.specs.Calls.Counts.{Rose};
 ghost use Rattle.slot_io.specs.Files.{Held, first_bytes};
 ghost use Rattle.slot_io.specs.declared.files.ReadFault.TheVariants.{Memory as MemoryFault};
 

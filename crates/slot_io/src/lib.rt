@@ -4,17 +4,15 @@
 //! hold, so that a contract can name it; over the host they tell nothing and are the trusted edge.
 #![tactic(auto)]
 
+pub mod arguments;
 mod calls;
-#[cfg(test)]
-mod fakes;
 pub mod files;
 pub mod host;
 pub mod memory_files;
 pub mod memory_sink;
 pub mod sink;
-#[cfg(test)]
-mod tests;
 
+pub use arguments::words_of;
 pub use files::{Files, ReadFault};
 pub use host::{HostFiles, HostSink};
 pub use memory_files::MemoryFiles;

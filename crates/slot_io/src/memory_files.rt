@@ -4,7 +4,7 @@ ghost use Rattle.std.specs.Prelude.{◌≡◌, ◌≢◌, ℕ, ◌+◌, ◌≤�
 ghost use Rattle.std.specs.Ordering.{nat_cmp, eq_by_cmp};
 ghost use Rattle.std.specs.Cmp.Lexicographic.{slice_cmp};
 ghost use Rattle.std.specs.FinMap.{insert, empty, get, from_entries};
-ghost use Rattle.slot_core.specs.Counts.{Rose};
+ghost use Rattle.slot_core.specs.Calls.Counts.{Rose};
 ghost use Rattle.slot_io.specs.Faults.{one_more};
 ghost use Rattle.slot_io.specs.Files.{Held, first_bytes, read_fails};
 

@@ -2,7 +2,7 @@
 
 ghost use Rattle.std.specs.Prelude.{◌≡◌, ◌+◌, ◌-◌, ◌≤◌, List, [], ◌∷◌, ◌++◌, Some, IsOk, IfOk, OnOk, OnErr, is_err, length, take, vec_len, vec_capacity, min, nat_eq, if◌then◌else◌};
 ghost use Rattle.std.specs.Io.KnownBytes.{Appends};
-ghost use Rattle.slot_core.specs.Counts.{Rose};
+ghost use Rattle.slot_core.specs.Calls.Counts.{Rose};
 ghost use Rattle.slot_io.specs.Faults.{one_more, is_next_call};
 ghost use Rattle.slot_io.specs.Sinks.{AppendsPart, put_fails, written_after};
 

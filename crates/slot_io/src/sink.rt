@@ -2,7 +2,7 @@
 
 ghost use Rattle.std.specs.Prelude.{◌≡◌, ℕ, ◌≤◌, List, [], Option, IsOk, OnOk, OnErr};
 ghost use Rattle.std.specs.Io.KnownBytes.{Appends};
-ghost use Rattle.slot_core.specs.Counts.{Rose};
+ghost use Rattle.slot_core.specs.Calls.Counts.{Rose};
 ghost use Rattle.slot_io.specs.Sinks.{AppendsPart};
 
 use slot_core::Failed;

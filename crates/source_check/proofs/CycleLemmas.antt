@@ -4,8 +4,8 @@ use Rattle.std.specs.List.{list_all}
 use Rattle.std.proofs.lemmas.Bool.{and_parts}
 use Rattle.std.proofs.lemmas.Bool.Decides.{nat_tests}
 use Rattle.slot_core.specs.declared.TheConstants.{SLOT_LIMIT}
-use Rattle.slot_core.specs.Cycles.{least_common_multiple, first_multiple_above}
-use Rattle.slot_core.specs.Ranges.{is_between}
+use Rattle.slot_core.specs.Sets.Cycles.{least_common_multiple, first_multiple_above}
+use Rattle.slot_core.specs.Sets.Ranges.{is_between}
 use Rattle.graph_unroll.proofs.MultipleLemmas.{le-fold}
 
 pub none_above : (a : ℕ) (ns : List ℕ) → list_all (is_between 1 SLOT_LIMIT) ns ≡ true → fold least_common_multiple a ns ≤ SLOT_LIMIT → first_multiple_above SLOT_LIMIT a ns ≡ None

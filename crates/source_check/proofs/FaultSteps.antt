@@ -15,7 +15,7 @@ use Rattle.slot_core.specs.declared.faults.TaskFault.{TaskFault}
 use Rattle.slot_core.specs.declared.faults.TaskFault.TheVariants.{Doubled, Memory, NoSuchTask}
 use Rattle.std.specs.Str.{bytes_eq}
 use Rattle.source_check.specs.Checks.{Tells}
-use Rattle.slot_core.specs.Faults.{fault_if, first_fault, names_fault, graph_names_fault, entries_fault}
+use Rattle.slot_core.specs.Sets.Faults.{fault_if, first_fault, names_fault, graph_names_fault, entries_fault}
 
 -- the items before a place, newest first
 abbrev pub earlier : {X : Type 0} → List X → ℕ → List X

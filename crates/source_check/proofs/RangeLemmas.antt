@@ -1,7 +1,7 @@
 -- What the ranges of a set say of its sizes.
 use Rattle.std.proofs.Common.{◌≡◌, true, get_or}
 use Rattle.slot_core.specs.declared.tasks.TaskSet.{TaskSet}
-use Rattle.slot_core.specs.Ranges.{is_in_range, graph_in_range}
+use Rattle.slot_core.specs.Sets.Ranges.{is_in_range, graph_in_range}
 use Rattle.slot_facts.proofs.Sets.Ranges.{SetRanges-from_test, few_graphs, few_tasks}
 use Rattle.graph_unroll.proofs.RangeLemmas.{list_all_get_or}
 use Rattle.source_check.specs.Checks.{AreFew}

@@ -3,7 +3,7 @@
 ghost use Rattle.std.specs.Prelude.{◌≡◌, ◌≤◌, ◌==◌, [], length};
 ghost use Rattle.std.specs.List.{list_any};
 ghost use Rattle.slot_core.specs.declared.TheConstants.{TASK_LIMIT};
-ghost use Rattle.slot_core.specs.Faults.{after_fault, entries_fault, first_fault};
+ghost use Rattle.slot_core.specs.Sets.Faults.{after_fault, entries_fault, first_fault};
 ghost use Rattle.source_check.specs.Checks.{AreFew, Tells};
 
 use slot_core::{Field, Graph, Part, Place, TaskFault};

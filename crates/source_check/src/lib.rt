@@ -3,16 +3,14 @@
 
 ghost use Rattle.std.specs.Prelude.{◌≡◌, ◌≢◌, true, Some, None, OnOk, IfErr, option_map};
 ghost use Rattle.std.specs.List.{list_all};
-ghost use Rattle.slot_core.specs.Cycles.{cycle_lengths, first_multiple_above};
-ghost use Rattle.slot_core.specs.Faults.{set_fault};
-ghost use Rattle.slot_core.specs.Ranges.{is_between, is_in_range};
+ghost use Rattle.slot_core.specs.Sets.Cycles.{cycle_lengths, first_multiple_above};
+ghost use Rattle.slot_core.specs.Sets.Faults.{set_fault};
+ghost use Rattle.slot_core.specs.Sets.Ranges.{is_between, is_in_range};
 ghost use Rattle.source_check.specs.Checks.{Tells};
 
 mod entries;
 mod loops;
 mod names;
-#[cfg(test)]
-mod tests;
 
 use entries::check_entries;
 use graph_unroll::cycle_of;

@@ -2,7 +2,7 @@
 
 ghost use Rattle.std.specs.Prelude.{◌≡◌, ◌≤◌, ◌<◌, ℕ, true, None, length};
 ghost use Rattle.slot_core.specs.declared.TheConstants.{TASK_LIMIT};
-ghost use Rattle.slot_core.specs.Faults.{after_fault, first_fault, loop_fault};
+ghost use Rattle.slot_core.specs.Sets.Faults.{after_fault, first_fault, loop_fault};
 ghost use Rattle.source_check.specs.Checks.{AreFew, TellsInMemory};
 
 use slot_core::{Graph, TaskFault};

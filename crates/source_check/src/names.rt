@@ -4,7 +4,7 @@ ghost use Rattle.std.specs.Prelude.{◌≡◌, ◌≤◌, [], length, map};
 ghost use Rattle.std.specs.List.{list_any};
 ghost use Rattle.std.specs.Str.{bytes_eq};
 ghost use Rattle.slot_core.specs.declared.TheConstants.{TASK_LIMIT};
-ghost use Rattle.slot_core.specs.Faults.{graph_names_fault, names_fault};
+ghost use Rattle.slot_core.specs.Sets.Faults.{graph_names_fault, names_fault};
 ghost use Rattle.source_check.specs.Checks.{AreFew, Tells};
 
 use slot_core::{Field, Graph, Name, Part, Place, Sporadic, Task, TaskFault};

@@ -11,8 +11,6 @@ ghost use Rattle.spare_capacity.specs.Refill.{refilled, CanRefill, IsShort, IsSt
 
 mod deadlines;
 pub mod laws;
-#[cfg(test)]
-mod tests;
 
 pub use deadlines::{available, free_until};
 use slot_core::Span;
@@ -85,9 +83,9 @@ fn spare_from(rows: &[Span], at: usize) -> i64
 }
 
 /// The row with its capacity, where the row after it has this one.
-fn with_spare(row: Span, later: i64) -> Span
+pub fn with_spare(row: Span, later: i64) -> Span
     requires short { IsShort row }
-    requires borrows_few { neg_ℤ (pos (2 ^ 60)) ≤ℤ later }
+    requires borrows_few { neg_ℤ (pos (2 ^ 61)) ≤ℤ later }
     ensures { result ≡ with_spare row later }
 {
     let slots = row.end - row.start;

@@ -2,7 +2,7 @@
 use Rattle.std.proofs.Common.{◌≡◌, ℕ, ◌+◌, ◌-◌, ◌*◌, ◌/◌, ◌<◌, ◌≤◌, max, ◌∙◌, inl, inr, arith}
 use Rattle.std.proofs.lemmas.Bool.{cases_lt}
 use Rattle.slot_core.specs.declared.tasks.Sporadic.{Sporadic}
-use Rattle.slot_core.specs.Sporadics.{arrivals_due}
+use Rattle.slot_core.specs.Feasibility.Sporadics.{arrivals_due}
 use Rattle.slot_facts.proofs.Demand.Arrivals.{arrivals_due-none, arrivals_due-spaced}
 use Rattle.slot_facts.proofs.Patterns.Counts.{arrivals_due-from, is_due, is_counted}
 use Rattle.sporadic_reserve.specs.Reserves.{IsNextRise}

@@ -5,7 +5,7 @@ use Rattle.std.proofs.Math.Nat.{mul-le-mul_left}
 use Rattle.std.proofs.lemmas.List.{take_all}
 use Rattle.std.proofs.lemmas.List.Sums.{sum_by-cons, sum_by_more}
 use Rattle.slot_core.specs.declared.tasks.Sporadic.{Sporadic}
-use Rattle.slot_core.specs.Sporadics.{arrivals_due, sporadic_demand}
+use Rattle.slot_core.specs.Feasibility.Sporadics.{arrivals_due, sporadic_demand}
 use Rattle.sporadic_reserve.specs.declared.rows.Row.{Row}
 use Rattle.sporadic_reserve.specs.Reserves.{without_name, IsNextRise}
 use Rattle.sporadic_reserve.specs.Rows.{reserved, task_of, AreRows, IsRow}

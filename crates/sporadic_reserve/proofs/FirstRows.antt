@@ -4,7 +4,7 @@ use Rattle.std.specs.List.{list_all}
 use Rattle.std.proofs.lemmas.Bool.{and_parts}
 use Rattle.slot_core.specs.declared.TheConstants.{SLOT_LIMIT}
 use Rattle.slot_core.specs.declared.tasks.Sporadic.{Sporadic}
-use Rattle.slot_core.specs.Ranges.{sporadic_in_range}
+use Rattle.slot_core.specs.Sets.Ranges.{sporadic_in_range}
 use Rattle.slot_facts.proofs.Sets.Ranges.{bounds, SporadicRanges-from_test}
 use Rattle.sporadic_reserve.specs.declared.rows.Row.{Row}
 use Rattle.sporadic_reserve.specs.Reserves.{without_name}

@@ -8,10 +8,5 @@
 
 pub mod reserve;
 mod rows;
-#[cfg(test)]
-mod tests;
 
 pub use reserve::Reserve;
-
-/// Most sporadic tasks that a reserve keeps.
-pub const RESERVE_LIMIT: usize = 8;

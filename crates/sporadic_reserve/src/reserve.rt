@@ -2,22 +2,22 @@
 
 ghost use Rattle.std.specs.Prelude.{◌≡◌, ℕ, ◌↔◌, ◌+◌, ◌≤◌, ◌<◌, ◌^◌, [], length, map, Some, IsTrue, IfErr, IfOk, IfSome, MatchOption, OnErr, OnOk, slice_get, slice_index, slice_set, true};
 ghost use Rattle.std.specs.List.{list_all};
+ghost use Rattle.slot_core.specs.declared.TheConstants.{SPORADIC_LIMIT};
 ghost use Rattle.slot_core.specs.declared.tasks.Sporadic.{Sporadic};
-ghost use Rattle.slot_core.specs.Ranges.{sporadic_in_range};
-ghost use Rattle.slot_core.specs.Sporadics.{sporadic_demand};
-ghost use Rattle.sporadic_reserve.specs.Reserves.{without_name, IsNextRise};
+ghost use Rattle.slot_core.specs.Sets.Ranges.{sporadic_in_range};
+ghost use Rattle.slot_core.specs.Feasibility.Sporadics.{sporadic_demand};
+ghost use Rattle.sporadic_reserve.specs.Reserves.{demand_limit, without_name, IsNextRise};
 ghost use Rattle.sporadic_reserve.specs.Rows.{first_row};
 
-use crate::RESERVE_LIMIT;
 use crate::rows::{Row, demand_and_rise, demand_of, move_next, next_rise};
 use arrayvec::ArrayVec;
-use slot_core::Sporadic;
+use slot_core::{SPORADIC_LIMIT, Sporadic};
 use std::marker::Model;
 
-/// Sporadic tasks, at most `RESERVE_LIMIT`, each with its next legal arrival. No call takes memory.
+/// Sporadic tasks, at most `SPORADIC_LIMIT`, each with its next legal arrival. No call takes memory.
 #[derive(Drop)]
 pub struct Reserve {
-    rows: ArrayVec<Row, RESERVE_LIMIT>,
+    rows: ArrayVec<Row, SPORADIC_LIMIT>,
 }
 
 impl Model for Reserve {
@@ -34,7 +34,7 @@ impl Model for Reserve {
 impl Reserve {
     /// The reserve of these tasks, which may all arrive from slot 0 on.
     pub fn new(rows: &[Sporadic]) -> Reserve
-        requires few { length rows.now ≤ RESERVE_LIMIT }
+        requires few { length rows.now ≤ SPORADIC_LIMIT }
         requires in_range { list_all sporadic_in_range rows.now ≡ true }
         ensures { result
             ≡ record {
@@ -86,12 +86,20 @@ impl Reserve {
         Ok(t + u64::from(row.deadline))
     }
 
+    /// The next legal arrival of the task of this index.
+    pub fn next_of(&self, index: u8) -> u64
+        requires { index < length self.now.nexts }
+        ensures { slice_get self.now.nexts index ≡ Some result }
+    {
+        self.rows[usize::from(index)].next
+    }
+
     /// The slots that the densest legal arrivals from `r` on need by `x`.
     pub fn demand(&self, r: u64, x: u64) -> u64
         requires near { r < 2 ^ 41 }
         requires soon { x < 2 ^ 41 }
         ensures demand { result ≡ sporadic_demand self.now.sporadics self.now.nexts r x }
-        ensures small { result ≤ 2 ^ 56 }
+        ensures small { result ≤ demand_limit }
         ensures most { (z : ℕ) → z ≤ x
             → sporadic_demand self.now.sporadics self.now.nexts r z ≤ result }
     {
@@ -115,7 +123,7 @@ impl Reserve {
         requires near { r < 2 ^ 41 }
         requires soon { x < 2 ^ 41 }
         ensures demand { result.0 ≡ sporadic_demand self.now.sporadics self.now.nexts r x }
-        ensures small { result.0 ≤ 2 ^ 56 }
+        ensures small { result.0 ≤ demand_limit }
         ensures rise { MatchOption result.1
             (self.now.sporadics ≡ [])
             (λ y. IsNextRise (λ z. sporadic_demand self.now.sporadics self.now.nexts r z) x y) }

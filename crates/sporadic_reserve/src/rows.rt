@@ -1,14 +1,13 @@
 //! The demand of sporadic tasks, over rows of their numbers.
 
 ghost use Rattle.std.specs.Prelude.{◌≡◌, ℕ, ◌+◌, ◌*◌, ◌≤◌, ◌<◌, ◌^◌, [], length, max, min, slice_set, MatchOption};
-ghost use Rattle.slot_core.specs.Sporadics.{arrivals_due, sporadic_demand};
-ghost use Rattle.sporadic_reserve.specs.Reserves.{IsNextRise};
+ghost use Rattle.slot_core.specs.declared.TheConstants.{SPORADIC_LIMIT};
+ghost use Rattle.slot_core.specs.Feasibility.Sporadics.{arrivals_due, sporadic_demand};
+ghost use Rattle.sporadic_reserve.specs.Reserves.{demand_limit, IsNextRise};
 ghost use Rattle.sporadic_reserve.specs.Rows.{reserved, task_of, AreRows, IsRow};
 
-use crate::RESERVE_LIMIT;
-
 /// The numbers of a sporadic task, and its next legal arrival.
-#[derive(Clone, Copy, PartialEq, Eq, Default, Debug)]
+#[derive(Clone, Copy, PartialEq, Eq, Default)]
 pub struct Row {
     pub wcet: u32,
     pub separation: u32,
@@ -54,12 +53,12 @@ fn next_due(row: Row, r: u64, x: u64) -> u64
 /// The slots that the densest arrivals from `r` on need by `x`.
 pub fn demand_of(rows: &[Row], r: u64, x: u64) -> u64
     requires rows { AreRows rows.now }
-    requires few { length rows.now ≤ RESERVE_LIMIT }
+    requires few { length rows.now ≤ SPORADIC_LIMIT }
     requires near { r < 2 ^ 41 }
     requires soon { x < 2 ^ 41 }
     ensures demand { let reserve = reserved rows.now in
         result ≡ sporadic_demand reserve.sporadics reserve.nexts r x }
-    ensures small { result ≤ 2 ^ 56 }
+    ensures small { result ≤ demand_limit }
     ensures most { let reserve = reserved rows.now in
         (z : ℕ) → z ≤ x → sporadic_demand reserve.sporadics reserve.nexts r z ≤ result }
 {
@@ -90,12 +89,12 @@ pub fn next_rise(rows: &[Row], r: u64, x: u64) -> Option<u64>
 /// What rows need by a time, and the first time after it at which that rises, in one pass.
 pub fn demand_and_rise(rows: &[Row], r: u64, x: u64) -> (u64, Option<u64>)
     requires rows { AreRows rows.now }
-    requires few { length rows.now ≤ RESERVE_LIMIT }
+    requires few { length rows.now ≤ SPORADIC_LIMIT }
     requires near { r < 2 ^ 41 }
     requires soon { x < 2 ^ 41 }
     ensures demand { let reserve = reserved rows.now in
         result.0 ≡ sporadic_demand reserve.sporadics reserve.nexts r x }
-    ensures small { result.0 ≤ 2 ^ 56 }
+    ensures small { result.0 ≤ demand_limit }
     ensures rise { let reserve = reserved rows.now in
         MatchOption result.1
         (rows.now ≡ [])

@@ -1,7 +1,7 @@
 //! The program, for a stored run of a plan in bytes.
 #![tactic(auto)]
 
-use host_run::run_on_host;
+use slot_cli::run_on_host;
 use std::process::ExitCode;
 
 /// Hands the host and its standard streams on.

@@ -9,10 +9,10 @@ use Rattle.std.proofs.lemmas.Nat.{le_bytes_2, le_bytes_4, le_bytes_8, from_le_by
 use Rattle.slot_core.specs.declared.TheConstants.{NAME_LIMIT}
 use Rattle.slot_core.specs.declared.faults.Part.{Part}
 use Rattle.slot_core.specs.declared.faults.Field.{Field}
-use Rattle.slot_core.specs.Names.{is_name}
-use Rattle.slot_core.specs.Ranges.{is_between}
+use Rattle.slot_core.specs.Sets.Names.{is_name}
+use Rattle.slot_core.specs.Sets.Ranges.{is_between}
 use Rattle.slot_facts.proofs.Sets.Ranges.{bounds}
-use Rattle.table_codec.specs.declared.faults.TableFault.{TableFault}
+use Rattle.table_faults.specs.declared.faults.TableFault.{TableFault}
 use Rattle.table_codec.specs.declared.layout.Layout.{Layout}
 use Rattle.table_codec.specs.declared.layout.NumberWidth.{NumberWidth}
 use Rattle.table_codec.specs.declared.layout.NumberWidth.TheVariants.{Two, Four}

@@ -1,5 +1,5 @@
 -- The table of a plan is no larger than a table file may be.
-use Rattle.std.proofs.Common.{◌≡◌, ℕ, ℤ, ◌+◌, ◌*◌, ◌≤◌, Bool, true, List, [], ◌∷◌, ◌++◌, length, refl, sym, subst, arith}
+use Rattle.std.proofs.Common.{◌≡◌, inl, inr, ℕ, ℤ, ◌+◌, ◌*◌, ◌≤◌, Bool, true, List, [], ◌∷◌, ◌++◌, length, refl, sym, ap, subst, arith}
 use Rattle.std.specs.Prelude.{flat_map, ◌&&◌, nat_lt}
 use Rattle.std.specs.Char.{is_ascii_alphabetic}
 use Rattle.std.specs.Int.{w32}
@@ -17,9 +17,9 @@ use Rattle.slot_core.specs.declared.tasks.Graph.{Graph}
 use Rattle.slot_core.specs.declared.tasks.Sporadic.{Sporadic}
 use Rattle.slot_core.specs.declared.tasks.TaskSet.{TaskSet}
 use Rattle.slot_core.specs.declared.faults.Part.TheVariants.{Top}
-use Rattle.slot_core.specs.Names.{is_name, is_name_byte}
-use Rattle.slot_core.specs.Plans.{PlanParts, IsPlan}
-use Rattle.slot_core.specs.Ranges.{task_in_range, graph_in_range, sporadic_in_range, is_sound}
+use Rattle.slot_core.specs.Sets.Names.{is_name, is_name_byte}
+use Rattle.slot_core.specs.Keeping.Plans.{PlanParts, IsPlan}
+use Rattle.slot_core.specs.Sets.Ranges.{task_in_range, graph_in_range, sporadic_in_range, is_sound}
 use Rattle.slot_facts.proofs.Sets.Ranges.{TaskRanges-from_test, GraphRanges-from_test, SetRanges-from_sound}
 use Rattle.table_codec.specs.declared.layout.Layout.{Layout}
 use Rattle.table_codec.specs.declared.layout.NumberWidth.{NumberWidth}
@@ -27,7 +27,7 @@ use Rattle.table_codec.specs.declared.layout.NumberWidth.TheVariants.{Two, Four}
 use Rattle.table_codec.specs.declared.layout.SpareWidth.{SpareWidth}
 use Rattle.table_codec.specs.declared.layout.SpareWidth.TheVariants.{Four as FourSpare, Eight}
 use Rattle.table_codec.specs.Forms.{number_form, signed_form, name_form}
-use Rattle.table_codec.specs.Grammar.{number_width, spare_width, layout_1, head_form, slots_form, index_form, spare_form, task_form, graph_form, sporadic_form, set_form, key_form, job_form, span_form, graph_of, task_of, instance_of, spelling_in, spelling}
+use Rattle.table_codec.specs.Grammar.{number_width, spare_width, layout_1, layout_2, head_form, slots_form, index_form, spare_form, task_form, graph_form, sporadic_form, set_form, key_form, job_form, span_form, graph_of, task_of, instance_of, spelling_in, Spells}
 use Rattle.table_codec.proofs.PlanSizes.{few_jobs, few_spans}
 
 -- ---- lists of pieces
@@ -150,7 +150,7 @@ length-span layout span =
 -- ---- the whole
 
 -- the bytes of a plan in any layout: head, set, jobs and spans
-pub length-spelling_in : (layout : Layout) (plan : PlanParts) → IsPlan plan → length (spelling_in layout plan) ≤ TABLE_FILE_LIMIT
+length-spelling_in : (layout : Layout) (plan : PlanParts) → IsPlan plan → length (spelling_in layout plan) ≤ TABLE_FILE_LIMIT
 length-spelling_in layout plan is_plan =
     let head = head_form.written layout in
     let set = (set_form layout).written plan.tasks in
@@ -173,5 +173,9 @@ length-spelling_in layout plan is_plan =
         let inner = (job_count ++ jobs) ++ ((span_count ++ spans) ++ []) in
         omega (arith, length-append head (((set ++ []) ++ inner) ++ []), length-append ((set ++ []) ++ inner) [], length-append (set ++ []) inner, length-append set [], length-two (job_count ++ jobs) (span_count ++ spans), length-append job_count jobs, length-append span_count spans)
 
-pub length-spelling : (plan : PlanParts) → IsPlan plan → length (spelling plan) ≤ TABLE_FILE_LIMIT
-length-spelling = length-spelling_in layout_1
+-- bytes that spell a plan
+pub length-spelled : (bytes : List ℕ) (plan : PlanParts) → IsPlan plan → Spells bytes plan → length bytes ≤ TABLE_FILE_LIMIT
+length-spelled bytes plan is_plan (inl is) =
+    omega (arith, ap (λ (text : List ℕ). length text) is, length-spelling_in layout_1 plan is_plan)
+length-spelled bytes plan is_plan (inr is) =
+    omega (arith, ap (λ (text : List ℕ). length text) is, length-spelling_in layout_2 plan is_plan)

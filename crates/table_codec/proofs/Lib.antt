@@ -10,3 +10,4 @@ pub mod SetLaws
 pub mod SourceFaults
 pub mod StoredLaws
 pub mod TableLaws
+pub mod WrittenSteps

@@ -1,8 +1,8 @@
 -- The plan of a set is the one that a table is compared with.
 use Rattle.std.proofs.Common.{◌≡◌, ◌<◌, Ok, ap, sym, subst, arith}
-use Rattle.slot_core.specs.Cycles.{cycle_of}
-use Rattle.slot_core.specs.Feasible.{IsFeasible}
-use Rattle.slot_core.specs.Plans.{PlanParts, IsPlan}
+use Rattle.slot_core.specs.Sets.Cycles.{cycle_of}
+use Rattle.slot_core.specs.Feasibility.Feasible.{IsFeasible}
+use Rattle.slot_core.specs.Keeping.Plans.{PlanParts, IsPlan}
 use Rattle.slot_facts.proofs.Demand.Feasible.{none-from_feasible}
 use Rattle.slot_facts.proofs.Offline.Jobs.{cycle-positive}
 use Rattle.slot_facts.proofs.Plans.Planned.{planned-from_plan}

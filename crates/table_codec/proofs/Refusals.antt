@@ -1,9 +1,10 @@
 -- Why a table is refused: a fault of its bytes or its set, or the counterexample to its set.
-use Rattle.std.proofs.Common.{◌≡◌, ◌⊎◌, inl, inr, ℕ, zero, suc, ◌+◌, ◌-◌, Bool, true, false, cond, pos, List, [], ◌∷◌, length, Option, Some, None, Ok, Err, refl, ap, subst, ◌∙◌}
+use Rattle.std.proofs.Common.{◌≡◌, ◌≢◌, ◌⊎◌, inl, inr, ℕ, zero, suc, ◌+◌, ◌-◌, ◌++◌, Bool, true, false, cond, pos, List, [], ◌∷◌, length, Option, Some, None, Ok, Err, refl, ap, subst, ◌∙◌, append_assoc}
 use Rattle.std.specs.Prelude.{nat_lt, nat_le, ◌==◌, codes, ⊤}
 use Rattle.std.specs.Int.{Width, w16, w32, byte_len}
 use Rattle.std.specs.Option.{option_map_or}
 use Rattle.std.specs.Str.{bytes_eq}
+use Rattle.std.proofs.lemmas.Bool.{eqb-false}
 use Rattle.slot_core.specs.declared.TheConstants.{GRAPH_LIMIT, TASK_LIMIT, AFTER_LIMIT, SPORADIC_LIMIT, SLOT_LIMIT, SOFT_LIMIT, NAME_LIMIT}
 use Rattle.slot_core.specs.declared.jobs.Window.{Window}
 use Rattle.slot_core.specs.declared.jobs.Job.{Job}
@@ -15,27 +16,30 @@ use Rattle.slot_core.specs.declared.faults.Field.{Field}
 use Rattle.slot_core.specs.declared.faults.Field.TheVariants.{Soft, Graph as GraphKey, Sporadic as SporadicKey, Period, Offset, Deadline, Task as TaskKey, Wcet, After, Separation}
 use Rattle.slot_core.specs.declared.faults.TaskFault.{TaskFault}
 use Rattle.slot_core.specs.declared.faults.TaskFault.TheVariants.{OutOfRange, TooMany, Missing}
-use Rattle.slot_core.specs.Cycles.{cycle_of}
-use Rattle.slot_core.specs.Faults.{set_fault}
-use Rattle.slot_core.specs.Feasible.{counterexample}
-use Rattle.slot_core.specs.Names.{is_name}
-use Rattle.slot_core.specs.Plans.{PlanParts, planned}
-use Rattle.slot_core.specs.Ranges.{is_between, is_sound}
+use Rattle.slot_core.specs.Sets.Cycles.{cycle_of}
+use Rattle.slot_core.specs.Sets.Faults.{set_fault}
+use Rattle.slot_core.specs.Feasibility.Feasible.{counterexample}
+use Rattle.slot_core.specs.Sets.Names.{is_name}
+use Rattle.slot_core.specs.Keeping.Plans.{PlanParts, planned}
+use Rattle.slot_core.specs.Sets.Ranges.{is_between, is_sound}
 use Rattle.table_codec.specs.declared.layout.Layout.{Layout}
-use Rattle.table_codec.specs.Faults.{IsOfSet}
-use Rattle.table_codec.specs.declared.faults.TableFault.{TableFault}
-use Rattle.table_codec.specs.declared.faults.TableFault.TheVariants.{Short, BadMagic, BadVersion, BadSource, Infeasible, WrongJobCount, WrongJob, WrongSpanCount, WrongSpan, Trailing}
+use Rattle.table_codec.specs.Faults.{IsOfSet, NamesUnknown}
+use Rattle.table_faults.specs.declared.faults.TableFault.{TableFault}
+use Rattle.table_faults.specs.declared.faults.TableFault.TheVariants.{Short, BadMagic, BadVersion, BadSource, Infeasible, WrongJobCount, WrongJob, WrongSpanCount, WrongSpan, Trailing}
 use Rattle.table_codec.specs.Readers.{Unread, Read, Reader, go_on, settled, bytes_at, end_at, each_at, same_at, value_of}
 use Rattle.table_codec.specs.Forms.{Form, bytes_form, byte_form, number_form, tested, stored, each, up_to, one_up_to, same_count, bad_name, text_form, name_form}
-use Rattle.table_codec.specs.Grammar.{number_width, spare_width, layout_1, head_form, slots_form, range_form, index_form, task_form, graph_form, sporadic_form, set_form, sound_set, source_form, plan_of, key_form, job_form, spare_form, span_form, is_same_job, is_same_span, jobs_form, spans_form, stored_form, plan_form, table_form, reading_of_table}
-use Rattle.table_codec.proofs.FormLaws.{at}
+use Rattle.table_codec.specs.Grammar.{number_width, spare_width, layout_1, layout_2, layout_of, head_form, slots_form, range_form, index_form, task_form, graph_form, sporadic_form, set_form, sound_set, source_form, plan_of, key_form, job_form, spare_form, span_form, is_same_job, is_same_span, jobs_form, spans_form, stored_form, plan_form, table_form, reading_of_table}
+use Rattle.table_codec.proofs.FieldLaws.{index_whole}
+use Rattle.table_codec.proofs.FormLaws.{IsBytes, Takes, Takes-then, at}
 use Rattle.table_codec.proofs.SourceFaults.{IsOfSets, set_fault-of_set}
-use Rattle.table_codec.proofs.TableLaws.{source_whole}
+use Rattle.table_codec.proofs.TableLaws.{magic_form, slot_whole, source_whole}
 
 -- ---- readers that never refuse a set as infeasible
 
--- a fault that is no counterexample: if it is one of the set, then none that only a text has
+-- a fault that is neither of the version nor a counterexample: if it is one of the set, then none
+-- that only a text has
 abbrev IsPlain : TableFault → Type 0
+IsPlain (BadVersion version) = ⊥
 IsPlain (BadSource fault) = IsOfSet fault
 IsPlain (Infeasible window) = ⊥
 IsPlain _ = ⊤
@@ -209,14 +213,6 @@ stored_plan_plain layout plan =
     then_plain (jobs_form layout plan.jobs).read _ (jobs_plain layout plan.jobs) (λ jobs.
     then_plain (spans_form layout plan.spans).read _ (spans_plain layout plan.spans) (λ spans. done_plain plan))
 
-head_plain : TellsPlain head_form.read
-head_plain =
-    let magic = tested (bytes_form 4) (λ text. bytes_eq text (codes "SLOT")) (λ _. BadMagic) in
-    let letters : TellsPlain magic.read = then_plain (bytes_at 4) _ (bytes_plain 4) (λ text. test_plain (bytes_eq text (codes "SLOT")) text BadMagic tt) in
-    then_plain magic.read _ letters (λ slot.
-    then_plain (number_form w16).read _ (number_plain w16) (λ version.
-    test_plain (version == layout_1.version) layout_1 (BadVersion version) tt))
-
 end_plain : TellsPlain end_at
 end_plain input fault h = by_test (length input.left == 0) _ h
   where
@@ -226,6 +222,42 @@ end_plain input fault h = by_test (length input.left == 0) _ h
         let same : Trailing (input.whole - length input.left) ≡ fault = cc in subst IsPlain same tt
 
 -- ---- the whole
+
+-- what is said of a table whose version is refused
+abbrev IsOfVersion : List ℕ → TableFault → Type 0
+IsOfVersion bytes fault = (version : ℕ) × (BadVersion version ≡ fault) × (IsBytes bytes → NamesUnknown bytes version)
+
+-- a version without a layout is neither of the two
+unknown_layout : (version : ℕ) (input : Unread) (fault : TableFault) → settled (layout_of version) input ≡ Err fault → (BadVersion version ≡ fault) × (version ≢ 1) × (version ≢ 2)
+unknown_layout version input fault h =
+    by_tests (version == 1) (version == 2) refl refl h
+  where
+    by_tests : (first second : Bool) → (version == 1) ≡ first → (version == 2) ≡ second → settled (cond first (Ok layout_1) (cond second (Ok layout_2) (Err (BadVersion version)))) input ≡ Err fault → (BadVersion version ≡ fault) × (version ≢ 1) × (version ≢ 2)
+    by_tests true second one two h = cc
+    by_tests false true one two h = cc
+    by_tests false false one two h =
+        (cc, (λ is. eqb-false version 1 one is), (λ is. eqb-false version 2 two is))
+
+-- why a head is refused
+head_refused : (bytes : List ℕ) (fault : TableFault) → head_form.read (at (length bytes) bytes) ≡ Err fault → IsPlain fault ⊎ IsOfVersion bytes fault
+head_refused bytes fault h =
+    let input = at (length bytes) bytes in
+    let letters : TellsPlain magic_form.read = then_plain (bytes_at 4) _ (bytes_plain 4) (λ text. test_plain (bytes_eq text (codes "SLOT")) text BadMagic tt) in
+    fails {P = IsPlain fault ⊎ IsOfVersion bytes fault} (magic_form.read input) fault h (λ h. inl (letters input fault h)) (λ text i1 r1 h.
+    fails {P = IsPlain fault ⊎ IsOfVersion bytes fault} (index_form.read i1) {f = λ version. settled (layout_of version)} fault h (λ h. inl (number_plain w16 i1 fault h)) (λ version i2 r2 h.
+    let (same, one, two) = unknown_layout version i2 fault h in
+    let (t1, slot) = slot_whole.of_read input text i1 r1 in
+    let (t2, _) = index_whole.of_read i1 version i2 r2 in
+    let t1 : Takes input (codes "SLOT") i1 = subst (λ t. Takes input t i1) slot t1 in
+    inr (
+      version,
+      same,
+      λ small. record {
+        begins = (i2.left, (Takes-then t1 t2).parts small ∙ append_assoc (codes "SLOT") (index_form.written version) i2.left);
+        not_first = one;
+        not_second = two;
+      },
+    )))
 
 -- what is said of a table that is refused as infeasible: a sound set at its front has this
 -- counterexample
@@ -246,19 +278,20 @@ value-refused (Err other) fault h = let same : other ≡ fault = cc in ap Err sa
 
 -- why a table is refused
 abbrev IsReason : List ℕ → TableFault → Type 0
-IsReason bytes fault = IsPlain fault ⊎ ((window : Window) × (Infeasible window ≡ fault) × IsTableSet bytes window)
+IsReason bytes fault =
+    (IsPlain fault ⊎ IsOfVersion bytes fault) ⊎ ((window : Window) × (Infeasible window ≡ fault) × IsTableSet bytes window)
 
 reason-from_reading : (bytes : List ℕ) (fault : TableFault) → reading_of_table bytes ≡ Err fault → IsReason bytes fault
 reason-from_reading bytes fault is =
     let input = at (length bytes) bytes in
-    let h = value-refused ((table_form layout_1).read input) fault is in
-    fails {P = IsReason bytes fault} (head_form.read input) fault h (λ h. inl (head_plain input fault h)) (λ layout i1 head h.
+    let h = value-refused ((table_form layout_2).read input) fault is in
+    fails {P = IsReason bytes fault} (head_form.read input) fault h (λ h. inl (head_refused bytes fault h)) (λ layout i1 head h.
     fails {P = IsReason bytes fault} ((plan_form layout).read i1) fault h (of_plan layout i1 head) (λ plan i2 _ h.
-    inl (then_plain end_at _ end_plain (λ u. done_plain plan) i2 fault h)))
+    inl (inl (then_plain end_at _ end_plain (λ u. done_plain plan) i2 fault h))))
   where
     of_plan : (layout : Layout) (i1 : Unread) → head_form.read (at (length bytes) bytes) ≡ Ok (layout, i1) → (plan_form layout).read i1 ≡ Err fault → IsReason bytes fault
     of_plan layout i1 head h =
-        fails {P = IsReason bytes fault} ((source_form layout).read i1) fault h (λ h. inl (source_plain layout i1 fault h)) (λ set i2 read h.
+        fails {P = IsReason bytes fault} ((source_form layout).read i1) fault h (λ h. inl (inl (source_plain layout i1 fault h))) (λ set i2 read h.
         fails {P = IsReason bytes fault} (settled (plan_of set) i2) fault h (λ h.
         let (window, same, found) = refused-found set (counterexample set (cycle_of set)) i2 fault h in
         inr (
@@ -270,21 +303,35 @@ reason-from_reading bytes fault is =
             sound = ((source_whole layout).of_read i1 set i2 read).1;
             found = found;
           },
-        )) (λ plan i3 _ h. inl (stored_plan_plain layout plan i3 fault h)))
+        )) (λ plan i3 _ h. inl (inl (stored_plan_plain layout plan i3 fault h))))
 
 -- a fault of the set that a table tells is none that only a text has
 pub source-of_set : (bytes : List ℕ) (fault : TaskFault) → reading_of_table bytes ≡ Err (BadSource fault) → IsOfSet fault
 source-of_set bytes fault is =
     elim (reason-from_reading bytes (BadSource fault) is) [
-      | inl plain ↦ plain
+      | inl (inl plain) ↦ plain
+      | inl (inr other) ↦ let (version, same, names) = other in cc
       | inr counter ↦ let (window, same, set) = counter in cc
     ]
+
+-- a version that is refused is neither of the two
+pub unknown-from_reading : (bytes : List ℕ) (version : ℕ) → IsBytes bytes → reading_of_table bytes ≡ Err (BadVersion version) → NamesUnknown bytes version
+unknown-from_reading bytes version small is =
+    elim (reason-from_reading bytes (BadVersion version) is) [
+      | inl (inl plain) ↦ absurd plain
+      | inl (inr other) ↦ let (found, same, names) = other in by_version found same (names small)
+      | inr counter ↦ let (window, same, set) = counter in cc
+    ]
+  where
+    by_version : (found : ℕ) → BadVersion found ≡ BadVersion version → NamesUnknown bytes found → NamesUnknown bytes version
+    by_version found h names = let same : found ≡ version = cc in subst (NamesUnknown bytes) same names
 
 -- a table that is refused as infeasible has a sound set with this counterexample
 pub IsTableSet-refused : (bytes : List ℕ) (window : Window) → reading_of_table bytes ≡ Err (Infeasible window) → IsTableSet bytes window
 IsTableSet-refused bytes window is =
     elim (reason-from_reading bytes (Infeasible window) is) [
-      | inl plain ↦ absurd plain
+      | inl (inl plain) ↦ absurd plain
+      | inl (inr other) ↦ let (version, same, names) = other in cc
       | inr counter ↦ let (found, same, set) = counter in by_window found same set
     ]
   where

@@ -15,9 +15,9 @@ use Rattle.slot_core.specs.declared.faults.Field.TheVariants.{Name, After}
 use Rattle.slot_core.specs.declared.faults.Place.{Place}
 use Rattle.slot_core.specs.declared.faults.TaskFault.{TaskFault}
 use Rattle.slot_core.specs.declared.faults.TaskFault.TheVariants.{Doubled, NoSuchTask, Loop, CycleTooLong}
-use Rattle.slot_core.specs.Cycles.{cycle_lengths, first_multiple_above}
-use Rattle.slot_core.specs.Faults.{fault_if, first_fault, names_fault, graph_names_fault, entries_fault, task_fault, after_fault, loop_fault, set_fault}
-use Rattle.slot_core.specs.Precedence.{is_on_loop}
+use Rattle.slot_core.specs.Sets.Cycles.{cycle_lengths, first_multiple_above}
+use Rattle.slot_core.specs.Sets.Faults.{fault_if, first_fault, names_fault, graph_names_fault, entries_fault, task_fault, after_fault, loop_fault, set_fault}
+use Rattle.slot_core.specs.Offline.Precedence.{is_on_loop}
 use Rattle.table_codec.specs.Faults.{IsOfSet}
 
 -- the fault, if there is one, is one of a set

@@ -21,20 +21,21 @@ use Rattle.slot_core.specs.declared.faults.Field.TheVariants.{After}
 use Rattle.slot_core.specs.declared.faults.Place.{Place}
 use Rattle.slot_core.specs.declared.faults.TaskFault.{TaskFault}
 use Rattle.slot_core.specs.declared.faults.TaskFault.TheVariants.{NoSuchTask}
-use Rattle.slot_core.specs.Cycles.{cycle_of}
-use Rattle.slot_core.specs.Faults.{fault_if, first_fault, entries_fault, task_fault, after_fault, set_fault}
-use Rattle.slot_core.specs.Feasible.{counterexample}
-use Rattle.slot_core.specs.Plans.{PlanParts, IsPlan, planned}
-use Rattle.slot_core.specs.Ranges.{graph_in_range, is_in_range, is_sound}
+use Rattle.slot_core.specs.Sets.Cycles.{cycle_of}
+use Rattle.slot_core.specs.Sets.Faults.{fault_if, first_fault, entries_fault, task_fault, after_fault, set_fault}
+use Rattle.slot_core.specs.Feasibility.Feasible.{counterexample}
+use Rattle.slot_core.specs.Keeping.Plans.{PlanParts, IsPlan, planned}
+use Rattle.slot_core.specs.Sets.Ranges.{graph_in_range, is_in_range, is_sound}
 use Rattle.slot_facts.proofs.Sets.Ranges.{SetRanges-from_test, few_tasks}
-use Rattle.table_codec.specs.declared.faults.TableFault.{TableFault}
-use Rattle.table_codec.specs.declared.faults.TableFault.TheVariants.{Memory, Short, BadMagic, BadVersion, BadSource, Infeasible, WrongJobCount, WrongJob, WrongSpanCount, WrongSpan, Trailing}
+use Rattle.table_faults.specs.declared.faults.TableFault.{TableFault}
+use Rattle.table_faults.specs.declared.faults.TableFault.TheVariants.{Memory, Short, BadMagic, BadVersion, BadSource, Infeasible, WrongJobCount, WrongJob, WrongSpanCount, WrongSpan, Trailing}
 use Rattle.table_codec.specs.declared.layout.Layout.{Layout}
 use Rattle.table_codec.specs.Readers.{Unread, Read, go_on, settled, end_at, value_of}
-use Rattle.table_codec.specs.Forms.{tested, bytes_form}
-use Rattle.table_codec.specs.Grammar.{layout_1, layout_of, head_form, index_form, set_form, sound_set, source_form, plan_of, jobs_form, spans_form, stored_form, plan_form, table_form, spelling, reading_of_table, AnswersAs}
+use Rattle.table_codec.specs.Faults.{NamesUnknown}
+use Rattle.table_codec.specs.Forms.{Form, tested, bytes_form}
+use Rattle.table_codec.specs.Grammar.{layout_1, layout_2, layout_of, head_form, index_form, set_form, sound_set, source_form, plan_of, jobs_form, spans_form, stored_form, plan_form, table_form, spelling_in, Spells, reading_of_table, AnswersAs}
 use Rattle.table_codec.specs.Sizes.{FitsSpan}
-use Rattle.table_codec.proofs.FormLaws.{IsBytes, Takes, Takes-then, takes_nothing, at, step, settles, value_same, passes, ReadsWhole, ReadsBack, tested_whole, bytes_whole, bytes_back}
+use Rattle.table_codec.proofs.FormLaws.{IsBytes, Takes, Takes-then, takes_nothing, at, step, settles, value_same, ReadsWhole, ReadsBack, tested_whole, bytes_whole, bytes_back}
 use Rattle.table_codec.proofs.FieldLaws.{index_whole, index_back}
 use Rattle.table_codec.proofs.PlanSizes.{few_jobs, few_spans, all_stored_jobs, all_fitting_spans}
 use Rattle.table_codec.proofs.Planned.{plan_of-plan}
@@ -143,24 +144,41 @@ plan_whole layout = record {
 abbrev pub IsKnown : Layout → Type 0
 IsKnown layout = layout_of layout.version ≡ Ok layout
 
-known_layout : (version : ℕ) (layout : Layout) → layout_of version ≡ Ok layout → (version ≡ 1) × (layout_1 ≡ layout)
-known_layout version layout h =
-    let (same, value) = passes (version == 1) layout_1 layout (BadVersion version) h in
-    (eqb-true version 1 same, value)
+-- the layout of a version says the version, and is one of the two
+known_layout : (version : ℕ) (layout : Layout) → layout_of version ≡ Ok layout → (version ≡ layout.version) × ((layout_1 ≡ layout) ⊎ (layout_2 ≡ layout))
+known_layout version layout =
+    by_tests (version == 1) (version == 2) (eqb-true version 1) (eqb-true version 2)
+  where
+    by_tests : (first second : Bool) → (first ≡ true → version ≡ 1) → (second ≡ true → version ≡ 2) → ◌≡◌ {A = Result Layout TableFault} (cond first (Ok layout_1) (cond second (Ok layout_2) (Err (BadVersion version)))) (Ok layout) → (version ≡ layout.version) × ((layout_1 ≡ layout) ⊎ (layout_2 ≡ layout))
+    by_tests true second one two h =
+        let same = value_same layout_1 layout h in
+        (one refl ∙ ap (λ (l : Layout). l.version) same, inl same)
+    by_tests false true one two h =
+        let same = value_same layout_2 layout h in
+        (two refl ∙ ap (λ (l : Layout). l.version) same, inr same)
+    by_tests false false one two h = cc
+
+-- what is read as SLOT is SLOT
+abbrev pub magic_form : Form (List ℕ) (List ℕ)
+magic_form = tested (bytes_form 4) (λ text. bytes_eq text (codes "SLOT")) (λ _. BadMagic)
+
+pub slot_whole : ReadsWhole magic_form (λ text. text ≡ codes "SLOT")
+slot_whole = record {
+  of_read = λ input text rest h.
+      let read : ReadsWhole magic_form (λ t. (bytes_eq t (codes "SLOT") ≡ true) × (length t ≡ 4)) = tested_whole _ _ (bytes_whole 4) in
+      let (takes, slot) = read.of_read input text rest h in
+      (takes, (bytes_eq-Decides text (codes "SLOT")).0 slot.0);
+}
 
 head_whole : ReadsWhole head_form (λ layout. IsKnown layout)
 head_whole = record {
   of_read = λ input layout rest h.
-      let magic = tested (bytes_form 4) (λ text. bytes_eq text (codes "SLOT")) (λ _. BadMagic) in
-      step (magic.read input) h (λ text i1 r1 h.
+      step (magic_form.read input) h (λ text i1 r1 h.
       step (index_form.read i1) {f = λ version. settled (layout_of version)} h (λ version i2 r2 h.
-      let slot_read : ReadsWhole magic (λ t. (bytes_eq t (codes "SLOT") ≡ true) × (length t ≡ 4)) = tested_whole _ _ (bytes_whole 4) in
-      let (t1, slot) = slot_read.of_read input text i1 r1 in
+      let (t1, letters) = slot_whole.of_read input text i1 r1 in
       let (t2, _) = index_whole.of_read i1 version i2 r2 in
       let (is, same) = settles (layout_of version) i2 layout rest h in
-      let (one, value) = known_layout version layout is in
-      let letters : text ≡ codes "SLOT" = (bytes_eq-Decides text (codes "SLOT")).0 slot.0 in
-      let stated : version ≡ layout.version = one ∙ ap (λ (l : Layout). l.version) value in
+      let (stated, _) = known_layout version layout is in
       let t1 : Takes input (codes "SLOT") i1 = subst (λ t. Takes input t i1) letters t1 in
       let t2 : Takes i1 (index_form.written layout.version) i2 = subst (λ n. Takes i1 (index_form.written n) i2) stated t2 in
       let all : Takes input (head_form.written layout) i2 = Takes-then t1 (Takes-then t2 (takes_nothing i2)) in
@@ -192,7 +210,7 @@ value-cases (Err fault) x h = cc
 were_written : (bytes : List ℕ) (plan : PlanParts) → reading_of_table bytes ≡ Ok plan → WereWritten bytes plan
 were_written bytes plan h =
     let input = at (length bytes) bytes in
-    let (rest, read) = value-cases ((table_form layout_1).read input) plan h in
+    let (rest, read) = value-cases ((table_form layout_2).read input) plan h in
     step (head_form.read input) read (λ layout i1 r1 h.
     step ((plan_form layout).read i1) h (λ p i2 r2 h.
     step (end_at i2) {f = λ _. settled (Ok p)} h (λ u i3 r3 h.
@@ -210,12 +228,15 @@ were_written bytes plan h =
       settled = subst IsSettled same settled_plan;
     })))
 
--- all bytes of a table that is read are the spelling of its plan
-pub spelled-from_reading : (bytes : List ℕ) (plan : PlanParts) → IsBytes bytes → reading_of_table bytes ≡ Ok plan → spelling plan ≡ bytes
+-- all bytes of a table that is read spell its plan
+pub spelled-from_reading : (bytes : List ℕ) (plan : PlanParts) → IsBytes bytes → reading_of_table bytes ≡ Ok plan → Spells bytes plan
 spelled-from_reading bytes plan small h =
     let w = were_written bytes plan h in
-    let (_, first) = known_layout w.layout.version w.layout w.known in
-    ap (λ (l : Layout). (table_form l).written plan) first ∙ sym (w.spelled small)
+    let text = λ (l : Layout). (table_form l).written plan in
+    elim (known_layout w.layout.version w.layout w.known).1 [
+      | inl first ↦ inl (w.spelled small ∙ ap text (sym first))
+      | inr second ↦ inr (w.spelled small ∙ ap text (sym second))
+    ]
 
 -- a plan that is read is sound, feasible, and made of its set
 pub settled-from_reading : (bytes : List ℕ) (plan : PlanParts) → reading_of_table bytes ≡ Ok plan → IsSettled plan
@@ -307,6 +328,25 @@ head_back layout known small = record {
     regroup : (a b tail : List ℕ) → (a ++ (b ++ [])) ++ tail ≡ a ++ (b ++ tail)
     regroup a b tail = simp append_assoc
 
+-- a version without a layout is refused
+unknown-layout_of : (version : ℕ) → version ≢ 1 → version ≢ 2 → layout_of version ≡ Err (BadVersion version)
+unknown-layout_of version one two =
+    rw (eqb-other version 1 one, eqb-other version 2 two) refl
+  where
+    eqb-other : (m n : ℕ) → m ≢ n → (m == n) ≡ false
+    eqb-other m n other = grind (arith, nat_tests, other)
+
+pub unknown-refused : (bytes : List ℕ) (version : ℕ) → version < 2 ^ 16 → NamesUnknown bytes version → reading_of_table bytes ≡ Err (BadVersion version)
+unknown-refused bytes version small unknown =
+    let n = length bytes in
+    let (more, is) = unknown.begins in
+    let text = index_form.written version in
+    let head : head_form.read (at n (codes "SLOT" ++ (text ++ more))) ≡ Err (BadVersion version) = rw ((bytes_back 4 (codes "SLOT") refl).again n (text ++ more), (index_back version small).again n more, unknown-layout_of version unknown.not_first unknown.not_second) refl in
+    ap (λ left. value_of ((table_form layout_2).read (at n left))) is ∙ after_head (head_form.read (at n (codes "SLOT" ++ (text ++ more)))) head
+  where
+    after_head : (r : Read Layout) → r ≡ Err (BadVersion version) → value_of (go_on r (λ l input. go_on ((plan_form l).read input) (λ p input. go_on (end_at input) (λ _. settled (Ok p))))) ≡ Err (BadVersion version)
+    after_head r e = rw e refl
+
 -- what is read of a plan's bytes in a known layout and of bytes after them: the plan, and then the
 -- end
 pub reading-again : (own layout : Layout) → IsKnown layout → layout.version < 2 ^ 16 → (whole : ℕ) (plan : PlanParts) (tail : List ℕ) → IsPlan plan → (table_form own).read (at whole ((table_form layout).written plan ++ tail)) ≡ go_on (end_at (at whole tail)) (λ _. settled (Ok plan))
@@ -326,11 +366,22 @@ reading-again own layout known small whole plan tail is_plan =
     after_body : (r : Read PlanParts) → r ≡ Ok (plan, at whole tail) → go_on r (λ p input. go_on (end_at input) (λ _. settled (Ok p))) ≡ go_on (end_at (at whole tail)) (λ _. settled (Ok plan))
     after_body r e = rw e refl
 
--- a plan's spelling is read
-pub reading-from_spelled : (bytes : List ℕ) (plan : PlanParts) → IsPlan plan → bytes ≡ spelling plan → reading_of_table bytes ≡ Ok plan
-reading-from_spelled bytes plan is_plan is =
-    let text : bytes ≡ spelling plan ++ [] = is ∙ sym (append-nil (spelling plan)) in
-    ap (λ left. value_of ((table_form layout_1).read (at (length bytes) left))) text ∙ ap value_of (reading-again layout_1 layout_1 refl (omega arith) (length bytes) plan [] is_plan)
+-- the reading of a plan's bytes in a known layout and of bytes after them
+reading-longer : (layout : Layout) → IsKnown layout → layout.version < 2 ^ 16 → (bytes tail : List ℕ) (plan : PlanParts) → IsPlan plan → bytes ≡ spelling_in layout plan ++ tail → reading_of_table bytes ≡ value_of (go_on (end_at (at (length bytes) tail)) (λ _. settled (Ok plan)))
+reading-longer layout known small bytes tail plan is_plan is =
+    ap (λ left. value_of ((table_form layout_2).read (at (length bytes) left))) is ∙ ap value_of (reading-again layout_2 layout known small (length bytes) plan tail is_plan)
+
+-- the same of bytes that spell it
+reading-spelled : (bytes front tail : List ℕ) (plan : PlanParts) → IsPlan plan → Spells front plan → bytes ≡ front ++ tail → reading_of_table bytes ≡ value_of (go_on (end_at (at (length bytes) tail)) (λ _. settled (Ok plan)))
+reading-spelled bytes front tail plan is_plan (inl is) more =
+    reading-longer layout_1 refl (omega arith) bytes tail plan is_plan (more ∙ ap (λ t. t ++ tail) is)
+reading-spelled bytes front tail plan is_plan (inr is) more =
+    reading-longer layout_2 refl (omega arith) bytes tail plan is_plan (more ∙ ap (λ t. t ++ tail) is)
+
+-- what spells a plan is read as it
+pub reading-from_spelled : (bytes : List ℕ) (plan : PlanParts) → IsPlan plan → Spells bytes plan → reading_of_table bytes ≡ Ok plan
+reading-from_spelled bytes plan is_plan spells =
+    reading-spelled bytes bytes [] plan is_plan spells (sym (append-nil bytes))
 
 -- bytes after it are told
 trailing : (whole x : ℕ) (more : List ℕ) (plan : PlanParts) → value_of (go_on (end_at (at whole (x ∷ more))) (λ _. settled (Ok plan))) ≡ Err (Trailing (whole - length (x ∷ more)))
@@ -339,19 +390,17 @@ trailing whole x more plan =
     rw some refl
 
 -- no spelling begins another
-pub no_prefix : (a b : PlanParts) (more : List ℕ) → IsPlan a → IsPlan b → spelling b ≡ spelling a ++ more → more ≡ []
-no_prefix a b [] plan_a plan_b e = refl
-no_prefix a b (x ∷ more) plan_a plan_b e =
-    let n = length (spelling b) in
-    let whole : reading_of_table (spelling b) ≡ Ok b = reading-from_spelled (spelling b) b plan_b refl in
-    let read : reading_of_table (spelling b) ≡ value_of ((table_form layout_1).read (at n (spelling a ++ (x ∷ more)))) = ap (λ left. value_of ((table_form layout_1).read (at n left))) e in
-    let longer : reading_of_table (spelling b) ≡ Err (Trailing (n - length (x ∷ more))) = read ∙ ap value_of (reading-again layout_1 layout_1 refl (omega arith) n a (x ∷ more) plan_a) ∙ trailing n x more a in
-    cc (sym whole ∙ longer)
+pub no_prefix : (a b : PlanParts) (front whole more : List ℕ) → IsPlan a → IsPlan b → Spells front a → Spells whole b → whole ≡ front ++ more → more ≡ []
+no_prefix a b front whole [] plan_a plan_b of_a of_b e = refl
+no_prefix a b front whole (x ∷ more) plan_a plan_b of_a of_b e =
+    let read = reading-from_spelled whole b plan_b of_b in
+    let longer = reading-spelled whole front (x ∷ more) a plan_a of_a e ∙ trailing (length whole) x more a in
+    cc (sym read ∙ longer)
 
 -- ---- what an answer says
 
--- an answer of a plan is spelled so
-pub spelled-from_answer : (answer : Result PlanParts TableFault) (bytes : List ℕ) → IsBytes bytes → AnswersAs answer (reading_of_table bytes) → IfOk answer (λ plan. spelling plan ≡ bytes)
+-- the bytes spell the plan that is answered
+pub spelled-from_answer : (answer : Result PlanParts TableFault) (bytes : List ℕ) → IsBytes bytes → AnswersAs answer (reading_of_table bytes) → IfOk answer (Spells bytes)
 spelled-from_answer (Ok plan) bytes small read = spelled-from_reading bytes plan small read
 spelled-from_answer (Err fault) bytes small read = tt
 
@@ -370,7 +419,7 @@ memory_or (WrongSpan place stored computed) = inr (λ h. cc)
 memory_or (Trailing at) = inr (λ h. cc)
 
 -- of bytes that spell a plan the answer is that plan, where memory lasts
-pub every-from_answer : (answer : Result PlanParts TableFault) (bytes : List ℕ) → AnswersAs answer (reading_of_table bytes) → (plan : PlanParts) → IsPlan plan → bytes ≡ spelling plan → MatchResult answer (λ p. p ≡ plan) (λ fault. fault ≡ Memory)
+pub every-from_answer : (answer : Result PlanParts TableFault) (bytes : List ℕ) → AnswersAs answer (reading_of_table bytes) → (plan : PlanParts) → IsPlan plan → Spells bytes plan → MatchResult answer (λ p. p ≡ plan) (λ fault. fault ≡ Memory)
 every-from_answer (Ok p) bytes read plan is_plan is =
     let whole = reading-from_spelled bytes plan is_plan is in cc
 every-from_answer (Err fault) bytes read plan is_plan is =
@@ -379,6 +428,20 @@ every-from_answer (Err fault) bytes read plan is_plan is =
       | inl memory ↦ memory
       | inr other ↦ let told = read other in cc
     ]
+
+-- a version that is refused is read so
+pub version-from_answer : (answer : Result PlanParts TableFault) (bytes : List ℕ) (version : ℕ) → AnswersAs answer (reading_of_table bytes) → answer ≡ Err (BadVersion version) → reading_of_table bytes ≡ Err (BadVersion version)
+version-from_answer answer bytes version read is =
+    let told : AnswersAs (Err (BadVersion version)) (reading_of_table bytes) = subst (λ a. AnswersAs a (reading_of_table bytes)) is read in
+    told (λ h. cc)
+
+-- of bytes of no known version no plan is answered, and no other fault
+pub unknown-from_answer : (answer : Result PlanParts TableFault) (bytes : List ℕ) (version : ℕ) → AnswersAs answer (reading_of_table bytes) → version < 2 ^ 16 → NamesUnknown bytes version → MatchResult answer (λ _. ⊥) (λ fault. fault ≢ Memory → fault ≡ BadVersion version)
+unknown-from_answer (Ok p) bytes version read small unknown =
+    let told = unknown-refused bytes version small unknown in cc
+unknown-from_answer (Err fault) bytes version read small unknown = λ other.
+    let told = unknown-refused bytes version small unknown in
+    let own = read other in cc
 
 -- a fault of the set is read
 pub source-from_answer : (answer : Result PlanParts TableFault) (bytes : List ℕ) (fault : TaskFault) → AnswersAs answer (reading_of_table bytes) → answer ≡ Err (BadSource fault) → reading_of_table bytes ≡ Err (BadSource fault)

@@ -1,25 +1,18 @@
--- What the faults of lower calls are as faults of a table.
-use Rattle.std.specs.Prelude.{⊤}
+-- The versions that are refused, and the faults of a task set that a table may have.
+use Rattle.std.specs.Prelude.{◌≡◌, ◌≢◌, ◌++◌, ℕ, List, codes, ⊤}
 use Rattle.slot_core.specs.declared.faults.TaskFault.{TaskFault}
-use Rattle.slot_core.specs.declared.faults.TaskFault.TheVariants.{Memory as NoMemory, NotToml, UnknownKey, WrongKind}
-use Rattle.cycle_plan.specs.declared.plan.PlanFault.{PlanFault}
-use Rattle.cycle_plan.specs.declared.plan.PlanFault.TheVariants.{Memory as NoMemoryForPlan, Infeasible as NoPlan}
-use Rattle.table_codec.specs.declared.faults.TableFault.{TableFault}
-use Rattle.table_codec.specs.declared.faults.TableFault.TheVariants.{Memory, BadSource, Infeasible}
+use Rattle.slot_core.specs.declared.faults.TaskFault.TheVariants.{Memory, NotToml, UnknownKey, WrongKind}
+use Rattle.table_codec.specs.Grammar.{index_form}
 
--- the fault of a task set, or want of memory
-abbrev pub set_refused : TaskFault → TableFault
-set_refused NoMemory = Memory
-set_refused fault = BadSource fault
-
--- the counterexample, or want of memory
-abbrev pub plan_refused : PlanFault → TableFault
-plan_refused NoMemoryForPlan = Memory
-plan_refused (NoPlan window) = Infeasible window
+-- the bytes begin as a table of this version, which is neither of the two
+pub record NamesUnknown (bytes : List ℕ) (version : ℕ) : Type 0 where
+  pub begins : (more : List ℕ) × (bytes ≡ codes "SLOT" ++ (index_form.written version ++ more))
+  pub not_first : version ≢ 1
+  pub not_second : version ≢ 2
 
 -- a fault that a set may have which is no text: neither want of memory nor a fault of TOML
 abbrev pub IsOfSet : TaskFault → Type 0
-IsOfSet NoMemory = ⊥
+IsOfSet Memory = ⊥
 IsOfSet NotToml = ⊥
 IsOfSet (UnknownKey _) = ⊥
 IsOfSet (WrongKind _) = ⊥

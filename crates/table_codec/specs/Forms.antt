@@ -6,10 +6,10 @@ use Rattle.slot_core.specs.declared.faults.Part.{Part}
 use Rattle.slot_core.specs.declared.faults.Field.{Field}
 use Rattle.slot_core.specs.declared.faults.Field.TheVariants.{Name}
 use Rattle.slot_core.specs.declared.faults.TaskFault.TheVariants.{Missing, OutOfRange, BadName, TooMany}
-use Rattle.slot_core.specs.Names.{is_name}
-use Rattle.slot_core.specs.Ranges.{is_between}
-use Rattle.table_codec.specs.declared.faults.TableFault.{TableFault}
-use Rattle.table_codec.specs.declared.faults.TableFault.TheVariants.{BadSource}
+use Rattle.slot_core.specs.Sets.Names.{is_name}
+use Rattle.slot_core.specs.Sets.Ranges.{is_between}
+use Rattle.table_faults.specs.declared.faults.TableFault.{TableFault}
+use Rattle.table_faults.specs.declared.faults.TableFault.TheVariants.{BadSource}
 use Rattle.table_codec.specs.Readers.{Reader, go_on, settled, bytes_at, end_at, each_at, same_at}
 
 -- how a part of a whole is spelled and read: its value in the whole, the bytes that it writes of

@@ -1,6 +1,6 @@
 -- The grammar of a table: each part is one form, which says how it is spelled and how it is read.
 -- All numbers stand with the least byte first.
-use Rattle.std.specs.Prelude.{◌≡◌, ◌≢◌, MatchResult, ℕ, ℤ, ◌-◌, ◌==◌, ◌&&◌, Bool, List, length, slice_index, if◌then◌else◌, Result, Ok, Err, codes}
+use Rattle.std.specs.Prelude.{◌≡◌, ◌≢◌, ◌⊎◌, MatchResult, ℕ, ℤ, ◌-◌, ◌==◌, ◌&&◌, Bool, List, length, slice_index, if◌then◌else◌, Result, Ok, Err, codes}
 use Rattle.std.specs.Int.{Width, w16, w32, w64}
 use Rattle.std.specs.Option.{option_map_or}
 use Rattle.std.specs.Ordering.{int_eq}
@@ -19,13 +19,13 @@ use Rattle.slot_core.specs.declared.faults.Part.{Part}
 use Rattle.slot_core.specs.declared.faults.Field.{Field}
 use Rattle.slot_core.specs.declared.faults.Part.TheVariants.{Top, Graph as GraphPart, Task as TaskPart, Sporadic as SporadicPart}
 use Rattle.slot_core.specs.declared.faults.Field.TheVariants.{Soft, Graph as GraphKey, Sporadic, Period, Offset, Deadline, Task as TaskKey, Wcet, After, Separation}
-use Rattle.slot_core.specs.Cycles.{cycle_of}
-use Rattle.slot_core.specs.Faults.{set_fault}
-use Rattle.slot_core.specs.Feasible.{counterexample}
-use Rattle.slot_core.specs.Keys.{key_order}
-use Rattle.slot_core.specs.Plans.{PlanParts, planned}
-use Rattle.table_codec.specs.declared.faults.TableFault.{TableFault}
-use Rattle.table_codec.specs.declared.faults.TableFault.TheVariants.{Memory, BadMagic, BadVersion, BadSource, Infeasible, WrongJobCount, WrongJob, WrongSpanCount, WrongSpan}
+use Rattle.slot_core.specs.Sets.Cycles.{cycle_of}
+use Rattle.slot_core.specs.Sets.Faults.{set_fault}
+use Rattle.slot_core.specs.Feasibility.Feasible.{counterexample}
+use Rattle.slot_core.specs.Offline.Keys.{key_order}
+use Rattle.slot_core.specs.Keeping.Plans.{PlanParts, planned}
+use Rattle.table_faults.specs.declared.faults.TableFault.{TableFault}
+use Rattle.table_faults.specs.declared.faults.TableFault.TheVariants.{Memory, BadMagic, BadVersion, BadSource, Infeasible, WrongJobCount, WrongJob, WrongSpanCount, WrongSpan}
 use Rattle.table_codec.specs.declared.layout.Layout.{Layout}
 use Rattle.table_codec.specs.declared.layout.NumberWidth.{NumberWidth}
 use Rattle.table_codec.specs.declared.layout.NumberWidth.TheVariants.{Two, Four}
@@ -48,9 +48,16 @@ spare_width Eight = w64
 abbrev pub layout_1 : Layout
 layout_1 = record { version = 1; number = Two; spare = FourSpare }
 
+-- the second version: lengths and times of four bytes, capacities of eight
+abbrev pub layout_2 : Layout
+layout_2 = record { version = 2; number = Four; spare = Eight }
+
 -- the layout of a version
 abbrev pub layout_of : ℕ → Result Layout TableFault
-layout_of version = if version == layout_1.version then Ok layout_1 else Err (BadVersion version)
+layout_of version =
+    if version == layout_1.version then Ok layout_1
+    else if version == layout_2.version then Ok layout_2
+    else Err (BadVersion version)
 
 -- SLOT, and the version, which tells the layout
 abbrev pub head_form : Form Layout Layout
@@ -248,14 +255,22 @@ table_form own = do
 abbrev pub spelling_in : Layout → PlanParts → List ℕ
 spelling_in layout plan = (table_form layout).written plan
 
--- the bytes of a plan: its one spelling
+-- the bytes of a plan in the first version, which is no longer written
+abbrev pub first_spelling : PlanParts → List ℕ
+first_spelling plan = spelling_in layout_1 plan
+
+-- the bytes of a plan: the second version, which is written
 abbrev pub spelling : PlanParts → List ℕ
-spelling plan = spelling_in layout_1 plan
+spelling plan = spelling_in layout_2 plan
+
+-- the bytes spell the plan, in one of the versions
+abbrev pub Spells : List ℕ → PlanParts → Type 0
+Spells bytes plan = (bytes ≡ first_spelling plan) ⊎ (bytes ≡ spelling plan)
 
 -- the reading of the bytes of a table: the plan that all of them spell, or their first fault
 abbrev pub reading_of_table : List ℕ → Result PlanParts TableFault
 reading_of_table bytes =
-    value_of ((table_form layout_1).read (record { whole = length bytes; left = bytes }))
+    value_of ((table_form layout_2).read (record { whole = length bytes; left = bytes }))
 
 -- the code's answer is what is read, but that memory may run out
 abbrev pub AnswersAs : Result PlanParts TableFault → Result PlanParts TableFault → Type 0

@@ -1,5 +1,3 @@
-pub mod FaultNumbers
-pub mod FaultTexts
 pub mod Faults
 pub mod Forms
 pub mod Grammar

@@ -1,7 +1,7 @@
 //! The layouts of a table: the widths of its fields.
 
 ghost use Rattle.std.specs.Prelude.{◌≡◌};
-ghost use Rattle.table_codec.specs.Grammar.{layout_1, layout_of};
+ghost use Rattle.table_codec.specs.Grammar.{layout_1, layout_2, layout_of};
 
 use crate::TableFault;
 
@@ -46,14 +46,25 @@ impl Layout {
         }
     }
 
+    /// The second version.
+    pub fn second() -> Layout
+        ensures { result ≡ layout_2 }
+    {
+        Layout {
+            version: 2,
+            number: NumberWidth::Four,
+            spare: SpareWidth::Eight,
+        }
+    }
+
     /// The layout of a version.
     pub fn of(version: u16) -> Result<Layout, TableFault>
         ensures { result ≡ layout_of version }
     {
-        let layout = Layout::first();
-        if version != layout.version {
-            return Err(TableFault::BadVersion(version));
+        match version {
+            1 => Ok(Layout::first()),
+            2 => Ok(Layout::second()),
+            _ => Err(TableFault::BadVersion(version)),
         }
-        Ok(layout)
     }
 }

@@ -1,17 +1,17 @@
 //! A table as a plan: its parts in their order.
 
 ghost use Rattle.std.specs.Prelude.{◌≡◌, true, IfOk};
-ghost use Rattle.slot_core.specs.Plans.{IsPlan};
-ghost use Rattle.slot_core.specs.Ranges.{is_in_range, is_sound};
+ghost use Rattle.slot_core.specs.Keeping.Plans.{IsPlan};
+ghost use Rattle.slot_core.specs.Sets.Ranges.{is_in_range, is_sound};
 ghost use Rattle.table_codec.specs.Readers.{Reads, ReadsAs, Unread, settled};
-ghost use Rattle.table_codec.specs.Grammar.{head_form, layout_1, plan_form, plan_of, set_form, sound_set, source_form, stored_form, table_form};
+ghost use Rattle.table_codec.specs.Grammar.{head_form, layout_2, plan_form, plan_of, set_form, sound_set, source_form, stored_form, table_form};
 
 use crate::TableFault;
 use crate::layout::Layout;
 use crate::reader::Input;
 use crate::source::read_set;
 use crate::stored::{check_jobs, check_spans};
-use cycle_plan::{Plan, make_plan};
+use cycle_plan::{Plan, PlanFault, make_plan};
 use slot_core::TaskSet;
 use source_check::check;
 use std::alloc::Global;
@@ -44,8 +44,11 @@ fn plan_of(alloc: Global, set: TaskSet) -> Result<Plan, TableFault>
     ensures reading { (input : Unread) → Reads (settled (plan_of set)) result input input }
     ensures plan { IfOk result IsPlan }
 {
-    let plan = make_plan(alloc, set)?;
-    Ok(plan)
+    match make_plan(alloc, set) {
+        Ok(plan) => Ok(plan),
+        Err(PlanFault::Memory) => Err(TableFault::Memory),
+        Err(PlanFault::Infeasible(window)) => Err(TableFault::Infeasible(window)),
+    }
 }
 
 /// A sound set.
@@ -81,7 +84,7 @@ fn read_plan(alloc: Global, input: &mut Input, layout: Layout) -> Result<Plan, T
 
 /// The plan of a whole table.
 pub fn read_table(alloc: Global, input: &mut Input) -> Result<Plan, TableFault>
-    ensures reading { Reads (table_form layout_1).read result input.old input.new }
+    ensures reading { Reads (table_form layout_2).read result input.old input.new }
     ensures plan { IfOk result IsPlan }
 {
     let layout = read_head(input)?;

@@ -5,7 +5,7 @@ ghost use Rattle.std.specs.Int.{w32, w64};
 ghost use Rattle.std.specs.List.{list_all};
 ghost use Rattle.slot_core.specs.declared.jobs.Job.{Job};
 ghost use Rattle.slot_core.specs.declared.jobs.Span.{Span};
-ghost use Rattle.slot_core.specs.Ranges.{graph_in_range, is_in_range, sporadic_in_range, task_in_range};
+ghost use Rattle.slot_core.specs.Sets.Ranges.{graph_in_range, is_in_range, sporadic_in_range, task_in_range};
 ghost use Rattle.table_codec.specs.Forms.{name_form, number_form, signed_form};
 ghost use Rattle.table_codec.specs.Grammar.{graph_form, head_form, index_form, job_form, jobs_form, key_form, set_form, slots_form, span_form, spans_form, spare_form, spare_width, sporadic_form, table_form, task_form};
 ghost use Rattle.table_codec.specs.Sizes.{Fits, FitsJob, FitsKey, FitsSpan};

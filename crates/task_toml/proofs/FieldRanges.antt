@@ -4,12 +4,12 @@ use Rattle.std.proofs.lemmas.Bool.{cases_Bool}
 use Rattle.std.proofs.lemmas.Bool.Decides.{nat_tests}
 use Rattle.std.specs.Option.{ForSome}
 use Rattle.toml.specs.Data.{Data, string, integer, Items, Members}
-use Rattle.slot_core.specs.Results.{◌>>=◌}
+use Rattle.slot_core.specs.Calls.Results.{◌>>=◌}
 use Rattle.slot_core.specs.declared.faults.Place.{Place}
 use Rattle.slot_core.specs.declared.faults.TaskFault.{TaskFault}
 use Rattle.slot_core.specs.declared.faults.TaskFault.TheVariants.{Missing, WrongKind}
-use Rattle.slot_core.specs.Names.{is_name}
-use Rattle.slot_core.specs.Ranges.{is_between}
+use Rattle.slot_core.specs.Sets.Names.{is_name}
+use Rattle.slot_core.specs.Sets.Ranges.{is_between}
 use Rattle.task_toml.specs.TomlFields.{Read, or_fault, number_at, name_at}
 use Rattle.task_toml.specs.Reading.{all_tables, all_texts, at_most, items_at, texts_at, tables_at, some_tables_at}
 

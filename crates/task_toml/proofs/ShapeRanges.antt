@@ -5,7 +5,7 @@ use Rattle.std.proofs.lemmas.List.{length-map}
 use Rattle.std.specs.List.{list_all}
 use Rattle.std.specs.Option.{ForSome}
 use Rattle.toml.specs.Data.{Members}
-use Rattle.slot_core.specs.Results.{◌>>=◌}
+use Rattle.slot_core.specs.Calls.Results.{◌>>=◌}
 use Rattle.slot_core.specs.declared.TheConstants.{TASK_LIMIT, AFTER_LIMIT, GRAPH_LIMIT, SPORADIC_LIMIT, SLOT_LIMIT, SOFT_LIMIT, SOFT_DEFAULT}
 use Rattle.slot_core.specs.declared.tasks.Graph.{Graph}
 use Rattle.slot_core.specs.declared.tasks.Sporadic.{Sporadic as SporadicTask}
@@ -14,8 +14,8 @@ use Rattle.slot_core.specs.declared.faults.Part.TheVariants.{Top, Graph as Graph
 use Rattle.slot_core.specs.declared.faults.Field.{Field}
 use Rattle.slot_core.specs.declared.faults.Field.TheVariants.{Soft, Graph as GraphKey, Sporadic, Name, Period, Offset, Deadline, Task as TaskKey, Wcet, After, Separation}
 use Rattle.slot_core.specs.declared.faults.Place.{Place}
-use Rattle.slot_core.specs.Names.{is_name}
-use Rattle.slot_core.specs.Ranges.{is_between, task_in_range, graph_in_range, sporadic_in_range, is_in_range}
+use Rattle.slot_core.specs.Sets.Names.{is_name}
+use Rattle.slot_core.specs.Sets.Ranges.{is_between, task_in_range, graph_in_range, sporadic_in_range, is_in_range}
 use Rattle.task_toml.specs.TomlFields.{Read, known_keys, at_key}
 use Rattle.task_toml.specs.Reading.{NamedTask, each, task_of, with_indexes, graph_of, sporadic_of, shaped_set}
 use Rattle.task_toml.proofs.FieldRanges.{number_at-Ok, name_at-Ok, texts_at-Ok, tables_at-Ok, some_tables_at-Ok}

@@ -3,11 +3,11 @@ use Rattle.std.proofs.Common.{◌≡◌, ℕ, true, List, Option, None, Some, Ok
 use Rattle.std.specs.Prelude.{is_none}
 use Rattle.std.specs.Option.{option_map_or}
 use Rattle.toml.specs.Data.{Members}
-use Rattle.slot_core.specs.Results.{◌>>=◌}
+use Rattle.slot_core.specs.Calls.Results.{◌>>=◌}
 use Rattle.slot_core.specs.declared.faults.TaskFault.{TaskFault}
 use Rattle.slot_core.specs.declared.tasks.TaskSet.{TaskSet}
-use Rattle.slot_core.specs.Faults.{set_fault}
-use Rattle.slot_core.specs.Ranges.{is_sound}
+use Rattle.slot_core.specs.Sets.Faults.{set_fault}
+use Rattle.slot_core.specs.Sets.Ranges.{is_sound}
 use Rattle.task_toml.specs.Reading.{shaped_set, document_of, without_fault, reading_of_tasks}
 use Rattle.task_toml.specs.TomlFields.{Read}
 use Rattle.task_toml.proofs.ShapeRanges.{shaped_set-Ok}

@@ -5,7 +5,7 @@ use Rattle.std.specs.Str.{is_utf8}
 use Rattle.std.specs.List.{position_or_len}
 use Rattle.toml.specs.Data.{Data, string, array, table, Items, no_items, item, Members}
 use Rattle.toml.specs.Parse.{parse_document}
-use Rattle.slot_core.specs.Results.{◌>>=◌}
+use Rattle.slot_core.specs.Calls.Results.{◌>>=◌}
 use Rattle.slot_core.specs.declared.TheConstants.{GRAPH_LIMIT, TASK_LIMIT, AFTER_LIMIT, SPORADIC_LIMIT, SLOT_LIMIT, SOFT_LIMIT, SOFT_DEFAULT}
 use Rattle.slot_core.specs.declared.tasks.Task.{Task}
 use Rattle.slot_core.specs.declared.tasks.Graph.{Graph}
@@ -16,7 +16,7 @@ use Rattle.slot_core.specs.declared.faults.Field.TheVariants.{Soft, Graph as Gra
 use Rattle.slot_core.specs.declared.faults.Place.{Place}
 use Rattle.slot_core.specs.declared.faults.TaskFault.TheVariants.{NotToml, Missing, WrongKind, TooMany}
 use Rattle.std.specs.Str.{bytes_eq}
-use Rattle.slot_core.specs.Faults.{set_fault}
+use Rattle.slot_core.specs.Sets.Faults.{set_fault}
 use Rattle.task_toml.specs.TomlFields.{Read, or_fault, known_keys, at_key, number_at, name_at}
 
 -- the tables of an array; none where an item is of another kind

@@ -8,9 +8,9 @@ use Rattle.slot_core.specs.declared.faults.Field.TheVariants.{Soft, Graph, Spora
 use Rattle.slot_core.specs.declared.faults.Place.{Place}
 use Rattle.slot_core.specs.declared.faults.TaskFault.{TaskFault}
 use Rattle.slot_core.specs.declared.faults.TaskFault.TheVariants.{Memory, UnknownKey, Missing, WrongKind, OutOfRange, BadName}
-use Rattle.slot_core.specs.Names.{is_name}
+use Rattle.slot_core.specs.Sets.Names.{is_name}
 use Rattle.std.specs.Str.{bytes_eq}
-use Rattle.slot_core.specs.FaultTexts.{field_word}
+use Rattle.slot_core.specs.Output.FaultTexts.{field_word}
 
 -- a value or the first fault
 abbrev pub Read : Type 0 → Type 0

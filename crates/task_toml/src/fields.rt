@@ -3,7 +3,7 @@
 ghost use Rattle.std.specs.Prelude.{◌≡◌, ◌≤◌, ◌&&◌, pos, nat_abs, int_le, Ok, Err, option_map};
 ghost use Rattle.std.specs.Prelude.{if◌then◌else◌, IfOk, MatchResult};
 ghost use Rattle.std.specs.Option.{ForSome};
-ghost use Rattle.slot_core.specs.FaultTexts.{field_word};
+ghost use Rattle.slot_core.specs.Output.FaultTexts.{field_word};
 ghost use Rattle.task_toml.specs.TomlFields.{known_keys, knows_key, number_at, name_at, at_key};
 ghost use Rattle.toml.specs.View.{table_view, view};
 

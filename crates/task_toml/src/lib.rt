@@ -2,7 +2,7 @@
 #![tactic(auto)]
 
 ghost use Rattle.std.specs.Prelude.{◌≡◌, ◌≢◌, Ok, Err, true, IfOk, IfErr};
-ghost use Rattle.slot_core.specs.Ranges.{is_sound};
+ghost use Rattle.slot_core.specs.Sets.Ranges.{is_sound};
 ghost use Rattle.task_toml.specs.Reading.{document_of, reading_of_tasks, shaped_set};
 ghost use Rattle.task_toml.specs.TomlFields.{Answers, AnswersAs};
 ghost use Rattle.toml.specs.View.{table_view};
@@ -10,8 +10,6 @@ ghost use Rattle.toml.specs.View.{table_view};
 mod fields;
 mod graphs;
 mod tables;
-#[cfg(test)]
-mod tests;
 
 use fields::{check_keys, number_at};
 use graphs::{read_graphs, read_sporadics};

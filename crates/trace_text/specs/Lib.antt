@@ -1,2 +1,3 @@
+pub mod RunLines
 pub mod TakerLaws
 pub mod Takers

@@ -6,7 +6,7 @@ use Rattle.std.proofs.lemmas.Grind.{flat_map-append}
 use Rattle.std.specs.Io.KnownBytes.{Appends}
 use Rattle.slot_core.specs.declared.events.Entry.{Entry}
 use Rattle.slot_core.specs.declared.tasks.TaskSet.{TaskSet}
-use Rattle.slot_core.specs.Texts.{entry_line, trace_text}
+use Rattle.slot_core.specs.Output.Texts.{entry_line, trace_text}
 use Rattle.trace_text.specs.Takers.{AppendsBroken}
 
 -- no entries

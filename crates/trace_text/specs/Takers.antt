@@ -3,7 +3,7 @@ use Rattle.std.specs.Prelude.{◌≡◌, ℕ, List, [], ◌∷◌, ◌++◌, tak
 use Rattle.std.specs.Io.KnownBytes.{Appends}
 use Rattle.slot_core.specs.declared.events.Entry.{Entry}
 use Rattle.slot_core.specs.declared.tasks.TaskSet.{TaskSet}
-use Rattle.slot_core.specs.Texts.{entry_line, trace_text}
+use Rattle.slot_core.specs.Output.Texts.{entry_line, trace_text}
 
 -- known bytes grow by the lines of the entries before a last one, and by a part of its line from
 -- the front

@@ -1,8 +1,8 @@
 //! The texts of entries and keys.
 
 ghost use Rattle.std.specs.Prelude.{◌≡◌, ◌≤◌, ◌+◌, [], ◌++◌, true, length};
-ghost use Rattle.slot_core.specs.Arrivals.{key_in_set, what_in_set};
-ghost use Rattle.slot_core.specs.Texts.{entry_line, key_text, spans_text};
+ghost use Rattle.slot_core.specs.Runs.Arrivals.{key_in_set, what_in_set};
+ghost use Rattle.slot_core.specs.Output.Texts.{entry_line, key_text, spans_text};
 
 use crate::keys::push_key;
 use crate::line::Line;

@@ -2,9 +2,9 @@
 
 ghost use Rattle.std.specs.Prelude.{◌≡◌, ◌≤◌, ◌+◌, true, length, codes, decimal, ◌&&◌, ◌++◌, ◌∷◌, Some, slice_get, nat_lt};
 ghost use Rattle.slot_core.specs.declared.TheConstants.{NAME_LIMIT};
-ghost use Rattle.slot_core.specs.Arrivals.{key_in_set};
-ghost use Rattle.slot_core.specs.OfflineJobs.{tasks_of};
-ghost use Rattle.slot_core.specs.Texts.{key_text, graph_name, task_name, sporadic_name};
+ghost use Rattle.slot_core.specs.Runs.Arrivals.{key_in_set};
+ghost use Rattle.slot_core.specs.Offline.OfflineJobs.{tasks_of};
+ghost use Rattle.slot_core.specs.Output.Texts.{key_text, graph_name, task_name, sporadic_name};
 
 use crate::line::Line;
 use slot_core::{Graph, Key, Name, TaskSet};

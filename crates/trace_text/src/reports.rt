@@ -1,8 +1,8 @@
 //! The lines of a shown plan.
 
 ghost use Rattle.std.specs.Prelude.{◌≡◌, true};
-ghost use Rattle.slot_core.specs.Arrivals.{key_in_set};
-ghost use Rattle.slot_core.specs.Reports.{job_line, span_line};
+ghost use Rattle.slot_core.specs.Runs.Arrivals.{key_in_set};
+ghost use Rattle.slot_core.specs.Output.Reports.{job_line, span_line};
 
 use crate::keys::push_key;
 use crate::line::Line;

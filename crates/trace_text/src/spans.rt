@@ -3,7 +3,7 @@
 ghost use Rattle.std.specs.Prelude.{◌≡◌, ◌≤◌, ◌+◌, length, codes, ◌++◌, ◌∷◌, flat_map};
 ghost use Rattle.slot_core.specs.declared.TheConstants.{SHOWN_LIMIT};
 ghost use Rattle.slot_core.specs.declared.jobs.Span.{Span};
-ghost use Rattle.slot_core.specs.Texts.{span_text, shown_text};
+ghost use Rattle.slot_core.specs.Output.Texts.{span_text, shown_text};
 
 use crate::line::Line;
 use slot_core::{Shown, Span};

@@ -33,7 +33,7 @@ impl<'s, K: Sink> Taker for TextTaker<'s, K> {
     ghost use Rattle.std.proofs.Common.{◌∙◌};
     ghost use Rattle.std.proofs.KnownBytes.{Appends-nil};
     ghost use Rattle.std.specs.Io.KnownBytes.{Appends};
-    ghost use Rattle.slot_core.specs.Texts.{trace_text};
+    ghost use Rattle.slot_core.specs.Output.Texts.{trace_text};
     ghost use Rattle.trace_text.specs.TakerLaws.{broken-later, broken-some, text-more};
     ghost use Rattle.trace_text.specs.Takers.{AppendsBroken};
 

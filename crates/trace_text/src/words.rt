@@ -2,8 +2,8 @@
 
 ghost use Rattle.std.specs.Prelude.{◌≡◌, ◌≤◌, ◌+◌, true, length, codes, decimal, ◌++◌, ◌∷◌, nat_lt};
 ghost use Rattle.slot_core.specs.declared.jobs.Key.TheVariants.{Firm as FirmKey};
-ghost use Rattle.slot_core.specs.Arrivals.{key_in_set, what_in_set};
-ghost use Rattle.slot_core.specs.Texts.{key_text, sporadic_name, worded, soft_text, firm_text, sporadic_text, done_text, gone_text, what_text};
+ghost use Rattle.slot_core.specs.Runs.Arrivals.{key_in_set, what_in_set};
+ghost use Rattle.slot_core.specs.Output.Texts.{key_text, sporadic_name, worded, soft_text, firm_text, sporadic_text, done_text, gone_text, what_text};
 
 use crate::keys::{push_key, push_sporadic};
 use crate::line::Line;

@@ -6,7 +6,7 @@ use Rattle.std.proofs.lemmas.List.{take_more, take_all, drop_more, drop_all, get
 use Rattle.std.proofs.lemmas.Option.{slice_get-get_or}
 use Rattle.slot_core.specs.declared.TheConstants.{SLOT_LIMIT, TASK_LIMIT}
 use Rattle.slot_core.specs.declared.tasks.Task.{Task}
-use Rattle.slot_core.specs.Precedence.{after_of, wcet_of, comes_after, longest_before, longest_after}
+use Rattle.slot_core.specs.Offline.Precedence.{after_of, wcet_of, comes_after, longest_before, longest_after}
 use Rattle.slot_facts.proofs.Lists.Members.{Has, Has-append_cases, Has-from_Contains}
 use Rattle.window_derive.specs.Orders.{IsOrder}
 use Rattle.window_derive.specs.Chains.{AreOrderable, AreChainsBefore, AreChainsAfter}

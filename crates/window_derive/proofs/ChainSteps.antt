@@ -9,7 +9,7 @@ use Rattle.std.proofs.lemmas.List.Sums.{sum_by-cons}
 use Rattle.std.proofs.lemmas.Option.{slice_get-get_or}
 use Rattle.slot_core.specs.declared.TheConstants.{SLOT_LIMIT, TASK_LIMIT}
 use Rattle.slot_core.specs.declared.tasks.Task.{Task}
-use Rattle.slot_core.specs.Precedence.{after_of, wcet_of, comes_after, predecessors, successors, chains, longest_before, longest_after, is_on_loop}
+use Rattle.slot_core.specs.Offline.Precedence.{after_of, wcet_of, comes_after, predecessors, successors, chains, longest_before, longest_after, is_on_loop}
 use Rattle.slot_facts.proofs.Lists.Members.{Has, Has-map, Has-map_cases, Has-flat_map, Has-flat_map_cases, Has-filter, Has-filter_passes, Has-range_with_len, Has-from_slice_get, fold_max-at, fold_max-le}
 use Rattle.slot_facts.proofs.Offline.Chains.{HasNoLoop, longest_before-step, longest_after-step}
 use Rattle.slot_facts.proofs.Offline.ChainRoom.{chain_room, sum_below}

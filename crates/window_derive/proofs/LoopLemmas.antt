@@ -8,7 +8,7 @@ use Rattle.std.proofs.lemmas.List.{get_or-set_same, get_or-set_other}
 use Rattle.std.proofs.lemmas.List.Elements.{Contains-get_or}
 use Rattle.std.proofs.lemmas.Option.{slice_get-get_or, slice_get_past}
 use Rattle.slot_core.specs.declared.tasks.Task.{Task}
-use Rattle.slot_core.specs.Precedence.{after_of, wcet_of, comes_after, leads_to}
+use Rattle.slot_core.specs.Offline.Precedence.{after_of, wcet_of, comes_after, leads_to}
 use Rattle.slot_facts.proofs.Lists.Members.{Has-from_Contains, list_any-from_Has}
 use Rattle.slot_facts.proofs.Lists.Tests.{list_any-same}
 use Rattle.window_derive.specs.Marks.{is_marked}

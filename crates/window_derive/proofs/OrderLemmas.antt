@@ -10,7 +10,7 @@ use Rattle.std.proofs.lemmas.Map.Keys.{IsDistinct-push}
 use Rattle.std.proofs.lemmas.Map.Steps.{length-le_from_distinct_below}
 use Rattle.std.proofs.lemmas.Option.{slice_get-get_or}
 use Rattle.slot_core.specs.declared.tasks.Task.{Task}
-use Rattle.slot_core.specs.Precedence.{after_of, comes_after, predecessors, leads_to, is_on_loop}
+use Rattle.slot_core.specs.Offline.Precedence.{after_of, comes_after, predecessors, leads_to, is_on_loop}
 use Rattle.slot_facts.proofs.Lists.Members.{Has, Contains-from_Has, Has-append_cases, Has-append_right, Has-filter, Has-filter_passes, Has-range_with_len, Has-range_with_len_bounds, Has-from_list_any, passes_from_list_all, AllByRecursion-from_Has}
 use Rattle.window_derive.specs.Orders.{IsOrder, is_listed, next_task, first_on_loop}
 use Rattle.window_derive.specs.Marks.{is_marked, next_by}

@@ -10,10 +10,10 @@ use Rattle.slot_core.specs.declared.jobs.Job.{Job}
 use Rattle.slot_core.specs.declared.jobs.RawJob.{RawJob}
 use Rattle.slot_core.specs.declared.tasks.Graph.{Graph}
 use Rattle.slot_core.specs.declared.tasks.TaskSet.{TaskSet}
-use Rattle.slot_core.specs.Cycles.{cycle_of}
-use Rattle.slot_core.specs.OfflineJobs.{raw_jobs, derived_job, chain_before, chain_after}
-use Rattle.slot_core.specs.Precedence.{is_on_loop, longest_before, longest_after}
-use Rattle.slot_core.specs.Ranges.{is_sound}
+use Rattle.slot_core.specs.Sets.Cycles.{cycle_of}
+use Rattle.slot_core.specs.Offline.OfflineJobs.{raw_jobs, derived_job, chain_before, chain_after}
+use Rattle.slot_core.specs.Offline.Precedence.{is_on_loop, longest_before, longest_after}
+use Rattle.slot_core.specs.Sets.Ranges.{is_sound}
 use Rattle.slot_facts.proofs.Lists.Members.{Has, Has-range_with_len_bounds}
 use Rattle.slot_facts.proofs.Offline.DistinctKeys.{same_numbers}
 use Rattle.slot_facts.proofs.Offline.Chains.{HasNoLoop}

@@ -5,7 +5,7 @@ use Rattle.std.specs.List.{list_any, list_all, range_with_len, IsDistinct}
 use Rattle.std.proofs.lemmas.Bool.{and_cases, not-false, both_ways, cases_Bool, eq-eqb}
 use Rattle.std.proofs.lemmas.Map.Steps.{le-length_from_below}
 use Rattle.slot_core.specs.declared.tasks.Task.{Task}
-use Rattle.slot_core.specs.Precedence.{comes_after, predecessors, leads_to, is_on_loop}
+use Rattle.slot_core.specs.Offline.Precedence.{comes_after, predecessors, leads_to, is_on_loop}
 use Rattle.slot_facts.proofs.Lists.Members.{Has, Has-filter_passes, Has-range_with_len, Has-range_with_len_bounds, list_any-from_Has, passes_from_list_all}
 use Rattle.slot_facts.proofs.Offline.Chains.{leads_to_push}
 use Rattle.slot_facts.proofs.Sets.Faults.{find-None}

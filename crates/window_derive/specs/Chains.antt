@@ -2,7 +2,7 @@
 use Rattle.std.specs.Prelude.{◌≡◌, ℕ, ◌<◌, ◌≤◌, true, List, length, slice_index, None}
 use Rattle.slot_core.specs.declared.TheConstants.{SLOT_LIMIT, TASK_LIMIT}
 use Rattle.slot_core.specs.declared.tasks.Task.{Task}
-use Rattle.slot_core.specs.Precedence.{comes_after, wcet_of, longest_before, longest_after}
+use Rattle.slot_core.specs.Offline.Precedence.{comes_after, wcet_of, longest_before, longest_after}
 use Rattle.window_derive.specs.Orders.{first_on_loop}
 
 -- few tasks, whose entries each name a task, none of them on a loop, and that each take a slot up

@@ -1,6 +1,6 @@
 -- The texts of faults.
 use Rattle.std.specs.Prelude.{ℕ, List, codes}
-use Rattle.slot_core.specs.Texts.{worded}
+use Rattle.slot_core.specs.Output.Texts.{worded}
 use Rattle.window_derive.specs.declared.OrderFault.{OrderFault}
 use Rattle.window_derive.specs.declared.OrderFault.TheVariants.{Memory, Loop}
 

@@ -2,7 +2,7 @@
 use Rattle.std.specs.Prelude.{ℕ, Bool, false, ◌&&◌, not, List, length, find, Option, slice_index_or}
 use Rattle.std.specs.List.{list_all, range_with_len}
 use Rattle.slot_core.specs.declared.tasks.Task.{Task}
-use Rattle.slot_core.specs.Precedence.{predecessors}
+use Rattle.slot_core.specs.Offline.Precedence.{predecessors}
 
 -- the task is marked
 abbrev pub is_marked : List Bool → ℕ → Bool

@@ -2,7 +2,7 @@
 use Rattle.std.specs.Prelude.{◌≡◌, ℕ, ◌<◌, Bool, ◌&&◌, ◌==◌, not, List, length, find, take, Option, Some, slice_get, Contains}
 use Rattle.std.specs.List.{list_any, list_all, range_with_len}
 use Rattle.slot_core.specs.declared.tasks.Task.{Task}
-use Rattle.slot_core.specs.Precedence.{predecessors, is_on_loop}
+use Rattle.slot_core.specs.Offline.Precedence.{predecessors, is_on_loop}
 
 -- the task is listed
 abbrev pub is_listed : List ℕ → ℕ → Bool

@@ -2,7 +2,7 @@
 use Rattle.std.specs.Prelude.{◌≡◌, ◌<◌, true, List, Contains}
 use Rattle.slot_core.specs.declared.jobs.Job.{Job}
 use Rattle.slot_core.specs.declared.tasks.TaskSet.{TaskSet}
-use Rattle.slot_core.specs.Windows.{precedes}
+use Rattle.slot_core.specs.Offline.Windows.{precedes}
 
 -- of a job and its direct predecessor, the predecessor starts earlier, and is due earlier unless
 -- the job's own deadline is cut to 0

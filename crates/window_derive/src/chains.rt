@@ -3,7 +3,7 @@
 ghost use Rattle.std.specs.Prelude.{◌≡◌, ◌+◌, ◌*◌, ◌<◌, ◌≤◌, ◌==◌, ℕ, length, All, map, max, fold, slice_index, if◌then◌else◌};
 ghost use Rattle.std.specs.List.{list_any};
 ghost use Rattle.slot_core.specs.declared.TheConstants.{SLOT_LIMIT, TASK_LIMIT};
-ghost use Rattle.slot_core.specs.Precedence.{after_of, comes_after, wcet_of};
+ghost use Rattle.slot_core.specs.Offline.Precedence.{after_of, comes_after, wcet_of};
 ghost use Rattle.window_derive.specs.Orders.{IsOrder};
 ghost use Rattle.window_derive.specs.Chains.{AreOrderable, AreChainsBefore, AreChainsAfter};
 

@@ -3,11 +3,11 @@
 
 ghost use Rattle.std.specs.Prelude.{◌≡◌, ◌≤◌, ◌<◌, ℕ, true, Some, None, length, map, IfOk, IsPermutation, OnOk};
 ghost use Rattle.slot_core.specs.declared.TheConstants.{TASK_LIMIT};
-ghost use Rattle.slot_core.specs.Cycles.{cycle_of};
-ghost use Rattle.slot_core.specs.OfflineJobs.{raw_jobs, derived_job};
-ghost use Rattle.slot_core.specs.Plans.{AreInDeadlineOrder};
-ghost use Rattle.slot_core.specs.Precedence.{comes_after};
-ghost use Rattle.slot_core.specs.Ranges.{is_sound};
+ghost use Rattle.slot_core.specs.Sets.Cycles.{cycle_of};
+ghost use Rattle.slot_core.specs.Offline.OfflineJobs.{raw_jobs, derived_job};
+ghost use Rattle.slot_core.specs.Keeping.Plans.{AreInDeadlineOrder};
+ghost use Rattle.slot_core.specs.Offline.Precedence.{comes_after};
+ghost use Rattle.slot_core.specs.Sets.Ranges.{is_sound};
 ghost use Rattle.window_derive.specs.declared.OrderFault.TheVariants.{Memory as MemoryFault};
 ghost use Rattle.window_derive.specs.Orders.{IsOrder, first_on_loop};
 ghost use Rattle.window_derive.specs.PrecedenceKept.{KeepsPrecedence};
@@ -15,8 +15,6 @@ ghost use Rattle.window_derive.specs.PrecedenceKept.{KeepsPrecedence};
 mod chains;
 mod loops;
 mod places;
-#[cfg(test)]
-mod tests;
 mod windows;
 
 use loops::first_on_loop;

@@ -3,7 +3,7 @@
 ghost use Rattle.std.specs.Prelude.{◌≡◌, ◌≤◌, ◌<◌, ◌==◌, ℕ, true, false, length, All};
 ghost use Rattle.std.specs.List.{list_any};
 ghost use Rattle.slot_core.specs.declared.TheConstants.{TASK_LIMIT};
-ghost use Rattle.slot_core.specs.Precedence.{after_of, comes_after, is_on_loop};
+ghost use Rattle.slot_core.specs.Offline.Precedence.{after_of, comes_after, is_on_loop};
 ghost use Rattle.window_derive.specs.Orders.{first_on_loop};
 ghost use Rattle.window_derive.specs.Marks.{is_marked};
 

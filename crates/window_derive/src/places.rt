@@ -3,7 +3,7 @@
 ghost use Rattle.std.specs.Prelude.{◌≡◌, ◌≤◌, ◌<◌, ◌&&◌, ℕ, true, not, length, All};
 ghost use Rattle.std.specs.List.{list_all};
 ghost use Rattle.slot_core.specs.declared.TheConstants.{TASK_LIMIT};
-ghost use Rattle.slot_core.specs.Precedence.{comes_after};
+ghost use Rattle.slot_core.specs.Offline.Precedence.{comes_after};
 ghost use Rattle.window_derive.specs.Marks.{is_marked, is_next_by, next_by};
 
 use slot_core::{TASK_LIMIT, Task};

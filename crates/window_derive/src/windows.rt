@@ -4,7 +4,7 @@ ghost use Rattle.std.specs.Prelude.{◌≡◌, ◌<◌, ℕ, length, map, All, I
 ghost use Rattle.std.specs.Ordering.{nat_cmp};
 ghost use Rattle.std.specs.Cmp.Lexicographic.{slice_cmp};
 ghost use Rattle.slot_core.specs.declared.TheConstants.{TASK_LIMIT};
-ghost use Rattle.slot_core.specs.Keys.{deadline_order};
+ghost use Rattle.slot_core.specs.Offline.Keys.{deadline_order};
 ghost use Rattle.window_derive.specs.Chains.{AreOrderable};
 ghost use Rattle.window_derive.specs.GraphChains.{AreChainsOf, AreChainsOfGraphs, HasChains, before_in, after_in, job_by};
 

@@ -2,8 +2,8 @@
 use Rattle.std.proofs.Common.{◌≡◌, ◌≤◌, [], ◌∷◌, OnOk, OnErr, Result, Ok, Err, length, drop, sym, subst, ◌∙◌, arith}
 use Rattle.std.proofs.lemmas.Result.{on_ok_weaker, on_err_weaker}
 use Rattle.slot_core.specs.declared.events.What.TheVariants.{Start}
-use Rattle.slot_core.specs.Plans.{PlanParts}
-use Rattle.slot_core.specs.Traces.{shown_entry, end_entry, trace, history_of}
+use Rattle.slot_core.specs.Keeping.Plans.{PlanParts}
+use Rattle.slot_core.specs.Runs.Traces.{shown_entry, end_entry, trace, history_of}
 use Rattle.arrival_replay.proofs.UnderWay.{IsToTell, entry-to_tell, IsUnderWay-told, BreaksOff-told, all-taken, all-stands, BreaksOff-end, IsToTell-start}
 use Rattle.arrival_replay.proofs.Happenings.{place_after, place_after-some, place_after-none, place_after-within, left-falls, IsToTell-happened, time-happened, due-may_come, due-later, happened-named}
 use Rattle.arrival_replay.proofs.drive_counted.Given.{Over}

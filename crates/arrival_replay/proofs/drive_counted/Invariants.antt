@@ -1,5 +1,5 @@
 use Rattle.std.proofs.Common.{◌≤◌, ◌+◌, ◌-◌, length, drop}
-use Rattle.slot_core.specs.Traces.{trace}
+use Rattle.slot_core.specs.Runs.Traces.{trace}
 use Rattle.arrival_replay.proofs.UnderWay.{IsUnderWay}
 use Rattle.arrival_replay.proofs.drive_counted.Given as goal
 

@@ -1,5 +1,5 @@
 use Rattle.std.proofs.Common.{rules}
-use Rattle.slot_core.specs.Traces.{trace}
+use Rattle.slot_core.specs.Runs.Traces.{trace}
 use Rattle.arrival_replay.proofs.BrokenTexts.{OnErr-part}
 use Rattle.arrival_replay.proofs.replay.Goals as goal
 

@@ -5,12 +5,12 @@ use Rattle.std.proofs.lemmas.List.Sorted.{IsNonDecreasingBy-from_sort_by_key, Al
 use Rattle.slot_core.specs.declared.jobs.Job.{Job}
 use Rattle.slot_core.specs.declared.jobs.Window.{Window}
 use Rattle.slot_core.specs.declared.tasks.Sporadic.{Sporadic}
-use Rattle.slot_core.specs.Feasible.{window_demand, failing_window, first_some, first_failing_from, counterexample_in}
+use Rattle.slot_core.specs.Feasibility.Feasible.{window_demand, failing_window, first_some, first_failing_from, counterexample_in}
 use Rattle.demand_test.specs.Verdicts.{verdict_of}
 use Rattle.slot_facts.proofs.Offline.Jobs.{cycle-positive}
 use Rattle.slot_facts.proofs.Demand.Feasible.{failing_window-permutation, counterexample_in-permutation}
 use Rattle.demand_test.proofs.CycleTotals.{window_demand-cycle}
-use Rattle.demand_test.proofs.QuietStarts.{none-from_fits}
+use Rattle.demand_test.proofs.WindowSums.{none-from_fits}
 use Rattle.demand_test.proofs.Schedules.{MeansSchedules-from_verdict}
 use Rattle.demand_test.proofs.test.Goals as goal
 

@@ -2,8 +2,8 @@ use Rattle.std.proofs.Common.{◌≡◌, ℕ, ◌^◌, ◌<◌, ◌≤◌, true,
 use Rattle.std.specs.Prelude.{MatchOption, IsSome, sum_by}
 use Rattle.std.proofs.lemmas.Option.{MatchOption-at_some}
 use Rattle.std.proofs.lemmas.List.Elements.{All-same}
-use Rattle.slot_core.specs.Ranges.{graph_in_range}
-use Rattle.slot_core.specs.Sporadics.{sporadic_demand}
+use Rattle.slot_core.specs.Sets.Ranges.{graph_in_range}
+use Rattle.slot_core.specs.Feasibility.Sporadics.{sporadic_demand}
 use Rattle.demand_test.specs.Totals.{graph_work}
 use Rattle.demand_test.proofs.CycleTotals.{demand-cycle}
 use Rattle.slot_facts.proofs.Sets.Ranges.{SetRanges-from_sound}

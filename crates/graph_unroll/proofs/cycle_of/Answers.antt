@@ -1,7 +1,7 @@
 -- What the running multiple says of the cycle.
 use Rattle.std.proofs.Common.{sym, refl, arith}
 use Rattle.std.proofs.lemmas.Result.{err_from_is_err_and}
-use Rattle.slot_core.specs.Cycles.{cycle_lengths}
+use Rattle.slot_core.specs.Sets.Cycles.{cycle_lengths}
 use Rattle.graph_unroll.proofs.MultipleLemmas.{along-ok, along-err}
 use Rattle.graph_unroll.proofs.cycle_of.Goals as goal
 

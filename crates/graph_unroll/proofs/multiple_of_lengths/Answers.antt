@@ -2,7 +2,7 @@
 use Rattle.std.proofs.Common.{◌≡◌, Ok, Err, refl, sym, ap, ◌∙◌}
 use Rattle.std.proofs.lemmas.Result.{err_from_is_err_and}
 use Rattle.slot_core.specs.declared.TheConstants.{SLOT_LIMIT}
-use Rattle.slot_core.specs.Ranges.{is_between}
+use Rattle.slot_core.specs.Sets.Ranges.{is_between}
 use Rattle.graph_unroll.specs.Multiples.{periods_of, separations_of, multiple_along}
 use Rattle.graph_unroll.proofs.MultipleLemmas.{all-append, along-append-ok, along-append-err, along-positive}
 use Rattle.graph_unroll.proofs.multiple_of_lengths.Goals as goal

@@ -1,7 +1,7 @@
 -- The multiple so far is within the limit, and goes on to what all periods give.
 use Rattle.std.proofs.Common.{◌≡◌, true, drop}
 use Rattle.slot_core.specs.declared.TheConstants.{SLOT_LIMIT}
-use Rattle.slot_core.specs.Ranges.{is_between}
+use Rattle.slot_core.specs.Sets.Ranges.{is_between}
 use Rattle.graph_unroll.specs.Multiples.{periods_of, multiple_along}
 use Rattle.graph_unroll.proofs.multiple_of_periods.Given as goal
 

@@ -1,7 +1,7 @@
 -- The multiple so far is within the limit, and goes on to what all separations give.
 use Rattle.std.proofs.Common.{◌≡◌, true, drop}
 use Rattle.slot_core.specs.declared.TheConstants.{SLOT_LIMIT}
-use Rattle.slot_core.specs.Ranges.{is_between}
+use Rattle.slot_core.specs.Sets.Ranges.{is_between}
 use Rattle.graph_unroll.specs.Multiples.{separations_of, multiple_along}
 use Rattle.graph_unroll.proofs.multiple_with_separations.Given as goal
 

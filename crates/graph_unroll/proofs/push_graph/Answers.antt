@@ -1,5 +1,5 @@
 -- One more instance.
-use Rattle.slot_core.specs.OfflineJobs.{instance_jobs}
+use Rattle.slot_core.specs.Offline.OfflineJobs.{instance_jobs}
 use Rattle.graph_unroll.proofs.RangeLemmas.{flat_map-range_more}
 use Rattle.graph_unroll.proofs.push_graph.Goals as goal
 

@@ -2,7 +2,7 @@
 use Rattle.std.proofs.Common.{◌≡◌, ◌++◌}
 use Rattle.std.specs.Prelude.{flat_map}
 use Rattle.std.specs.List.{range_with_len}
-use Rattle.slot_core.specs.OfflineJobs.{instance_jobs}
+use Rattle.slot_core.specs.Offline.OfflineJobs.{instance_jobs}
 use Rattle.graph_unroll.proofs.push_graph.Given as goal
 
 abbrev pub invariant-loop-instance : goal.invariant-loop-instance

@@ -1,7 +1,7 @@
 -- What is appended, and the jobs of the tasks that are left, are the jobs of all tasks.
 use Rattle.std.proofs.Common.{◌≡◌, ◌++◌, drop, map}
 use Rattle.std.specs.List.{enumerate_from}
-use Rattle.slot_core.specs.OfflineJobs.{raw_job}
+use Rattle.slot_core.specs.Offline.OfflineJobs.{raw_job}
 use Rattle.graph_unroll.proofs.push_instance.Given as goal
 
 abbrev pub invariant-loop-place : goal.invariant-loop-place

@@ -2,7 +2,7 @@
 use Rattle.std.proofs.Common.{◌∙◌, ap}
 use Rattle.std.specs.List.{list_all}
 use Rattle.std.proofs.lemmas.Bool.{and_parts}
-use Rattle.slot_core.specs.Ranges.{graph_in_range}
+use Rattle.slot_core.specs.Sets.Ranges.{graph_in_range}
 use Rattle.slot_facts.proofs.Sets.Ranges.{SetRanges-from_sound}
 use Rattle.graph_unroll.proofs.RangeLemmas.{lengths_in_range, list_all_get_or}
 use Rattle.graph_unroll.proofs.unroll.Goals as goal

@@ -2,7 +2,7 @@
 use Rattle.std.proofs.Common.{◌≡◌, ◌++◌, drop}
 use Rattle.std.specs.Prelude.{flat_map}
 use Rattle.std.specs.List.{enumerate_from}
-use Rattle.slot_core.specs.OfflineJobs.{graph_jobs}
+use Rattle.slot_core.specs.Offline.OfflineJobs.{graph_jobs}
 use Rattle.graph_unroll.proofs.unroll.Given as goal
 
 abbrev pub invariant-loop-index : goal.invariant-loop-index

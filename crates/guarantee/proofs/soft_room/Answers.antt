@@ -1,5 +1,5 @@
 use Rattle.std.proofs.Common.{◌≡◌, ◌+◌, None, Some, ap, ◌∙◌, arith}
-use Rattle.slot_core.specs.Sporadics.{sporadic_demand}
+use Rattle.slot_core.specs.Feasibility.Sporadics.{sporadic_demand}
 use Rattle.interval_row.specs.Tables.{spans_of_pairs}
 use Rattle.guarantee.proofs.Decisions.{told-fits, IsTold-search, IsTold-short}
 use Rattle.guarantee.proofs.soft_room.Goals as goal

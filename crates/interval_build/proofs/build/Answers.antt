@@ -6,11 +6,11 @@ use Rattle.std.proofs.lemmas.Result.{IfOk-weaker}
 use Rattle.slot_core.specs.declared.jobs.Job.{Job}
 use Rattle.slot_core.specs.declared.jobs.Span.{Span}
 use Rattle.slot_core.specs.declared.tasks.TaskSet.{TaskSet}
-use Rattle.slot_core.specs.Cycles.{cycle_of}
-use Rattle.slot_core.specs.Plans.{plan_spans}
-use Rattle.slot_core.specs.Points.{is_point, plan_points}
-use Rattle.slot_core.specs.Rising.{AreRising, last_point}
-use Rattle.slot_core.specs.Spans.{spans_between}
+use Rattle.slot_core.specs.Sets.Cycles.{cycle_of}
+use Rattle.slot_core.specs.Keeping.Plans.{plan_spans}
+use Rattle.slot_core.specs.Runs.Points.{is_point, plan_points}
+use Rattle.slot_core.specs.Runs.Rising.{AreRising, last_point}
+use Rattle.slot_core.specs.Runs.Spans.{spans_between}
 use Rattle.slot_facts.proofs.Offline.Jobs.{cycle-positive, cycle-at_most}
 use Rattle.spare_capacity.specs.PlanSpans.{ArePlanSpans}
 use Rattle.spare_capacity.specs.Recurrence.{last_end}

@@ -1,20 +1,18 @@
 use Rattle.std.proofs.Common.{◌++◌, ◌∙◌, ◌<◌, sym, refl, ap, get_or, sum_by, subst, drop, ◌+◌, arith}
-use Rattle.std.proofs.lemmas.List.Elements.{recursion_from_All}
 use Rattle.slot_core.specs.declared.jobs.Job.{Job}
-use Rattle.slot_core.specs.Plans.{AreInDeadlineOrder}
+use Rattle.slot_core.specs.Keeping.Plans.{AreInDeadlineOrder}
 use Rattle.interval_build.specs.Rows.{rows_between}
-use Rattle.interval_build.proofs.Due.{left_of, all_due_after, work_of_front, rest_of_front, work_between-le, AreInDeadlineOrder-drop}
+use Rattle.interval_build.proofs.Due.{left_of, work_of_front, rest_of_front, work_between-le, AreInDeadlineOrder-drop}
 use Rattle.interval_build.proofs.RowSteps.{AreRising-turn, rows_turn}
 use Rattle.interval_build.proofs.rows_until.Goals as goal
 
 pub loop-point-init : goal.loop-point-init
 loop-point-init c =
-    let jobs = c.args.jobs.now in
     record {
       rows = rw c.new-rows.ensures.items refl;
       rising = c.requires.rising;
-      rest = sym (all_due_after c.args.start jobs (recursion_from_All (λ (j : Job). c.args.start < j.dl) jobs c.requires.later));
-      ordered = c.requires.ordered;
+      rest = c.due_after-rest.ensures.jobs;
+      ordered = c.due_after-rest.ensures.ordered;
     }
 
 pub work_of-requires : goal.work_of-requires

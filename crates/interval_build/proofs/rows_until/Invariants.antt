@@ -1,6 +1,6 @@
 use Rattle.std.proofs.Common.{◌≡◌, ◌++◌, drop, filter}
-use Rattle.slot_core.specs.Plans.{AreInDeadlineOrder}
-use Rattle.slot_core.specs.Rising.{AreRising}
+use Rattle.slot_core.specs.Keeping.Plans.{AreInDeadlineOrder}
+use Rattle.slot_core.specs.Runs.Rising.{AreRising}
 use Rattle.interval_build.specs.Rows.{rows_between}
 use Rattle.interval_build.proofs.Due.{is_due_after}
 use Rattle.interval_build.proofs.rows_until.Given as goal

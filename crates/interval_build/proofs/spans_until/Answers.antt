@@ -1,11 +1,8 @@
 use Rattle.std.proofs.Common.{◌∙◌, subst, ap, sym, length, arith}
 use Rattle.std.proofs.lemmas.List.{take_at}
 use Rattle.spare_capacity.specs.Recurrence.{filled, AreConsecutive}
-use Rattle.interval_build.proofs.Filled.{AreDueAt-from_All, AreDueAfter-start, filled-rows_between, AreConsecutive-rows_between, length-rows_between}
+use Rattle.interval_build.proofs.Filled.{AreDueAt-from_All, filled-rows_between, AreConsecutive-rows_between, length-rows_between}
 use Rattle.interval_build.proofs.spans_until.Goals as goal
-
-pub rows_until-requires-clause-later : goal.rows_until-requires-clause-later
-rows_until-requires-clause-later c = AreDueAfter-start c.args.jobs.now c.args.start c.args.points.now c.requires.rising c.requires.due
 
 pub fill-requires-clause-consecutive : goal.fill-requires-clause-consecutive
 fill-requires-clause-consecutive c =

@@ -8,14 +8,14 @@ use Rattle.slot_core.specs.declared.tasks.TaskSet.{TaskSet}
 use Rattle.slot_core.specs.declared.events.Event.TheVariants.{Sporadic as SporadicEvent}
 use Rattle.slot_core.specs.declared.events.Spo.TheVariants.{Soon, Taken}
 use Rattle.slot_core.specs.declared.events.What.TheVariants.{Sporadic as SporadicEntry}
-use Rattle.slot_core.specs.Answers.{relative_deadline, sporadic_answer}
-use Rattle.slot_core.specs.Executives.{Executive, StandsForSome, Does}
-use Rattle.slot_core.specs.Histories.{sporadic_job}
-use Rattle.slot_core.specs.Matches.{IsSameScene}
-use Rattle.slot_core.specs.Plans.{IsPlan}
-use Rattle.slot_core.specs.Scenes.{Scene}
-use Rattle.slot_core.specs.Spans.{spans_of}
-use Rattle.slot_core.specs.Traces.{arrive}
+use Rattle.slot_core.specs.Runs.Answers.{relative_deadline, sporadic_answer}
+use Rattle.slot_core.specs.Keeping.Executives.{Executive, StandsForSome, Does}
+use Rattle.slot_core.specs.Runs.Histories.{sporadic_job}
+use Rattle.slot_core.specs.Runs.Matches.{IsSameScene}
+use Rattle.slot_core.specs.Keeping.Plans.{IsPlan}
+use Rattle.slot_core.specs.Runs.Scenes.{Scene}
+use Rattle.slot_core.specs.Runs.Spans.{spans_of}
+use Rattle.slot_core.specs.Runs.Traces.{arrive}
 use Rattle.scene_steps.specs.Joins.{HavePlace, MayJoin}
 use Rattle.scene_steps.specs.SporadicArrivals.{is_too_soon, nexts_after, jobs_after_arrival, spans_after_arrival}
 use Rattle.scene_steps.specs.Steps.{scene_after, separation_of, with_arrival, with_point}

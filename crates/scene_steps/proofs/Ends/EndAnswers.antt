@@ -12,12 +12,12 @@ use Rattle.slot_core.specs.declared.jobs.Job.{Job}
 use Rattle.slot_core.specs.declared.jobs.SoftJob.{SoftJob}
 use Rattle.slot_core.specs.declared.events.Done.{Done as DoneAnswer}
 use Rattle.slot_core.specs.declared.events.Done.TheVariants.{Freed, NotRunning}
-use Rattle.slot_core.specs.Answers.{done_answer}
-use Rattle.slot_core.specs.Executives.{Executive, StandsForSome}
-use Rattle.slot_core.specs.Kept.{KeepsSoftOrder}
-use Rattle.slot_core.specs.Keys.{is_soft, same_key}
-use Rattle.slot_core.specs.Plans.{IsPlan}
-use Rattle.slot_core.specs.Scenes.{Scene}
+use Rattle.slot_core.specs.Runs.Answers.{done_answer}
+use Rattle.slot_core.specs.Keeping.Executives.{Executive, StandsForSome}
+use Rattle.slot_core.specs.Keeping.Kept.{KeepsSoftOrder}
+use Rattle.slot_core.specs.Offline.Keys.{is_soft, same_key}
+use Rattle.slot_core.specs.Keeping.Plans.{IsPlan}
+use Rattle.slot_core.specs.Runs.Scenes.{Scene}
 use Rattle.slot_facts.proofs.Choice.Earliest.{same_from_key}
 use Rattle.slot_facts.proofs.Legal.Executives.{every_executive_is_kept}
 use Rattle.slot_facts.proofs.Lists.ApartKeys.{IsApart-from_count}

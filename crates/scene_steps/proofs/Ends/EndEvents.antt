@@ -7,12 +7,12 @@ use Rattle.slot_core.specs.declared.events.Event.TheVariants.{Soft as SoftEvent,
 use Rattle.slot_core.specs.declared.events.What.TheVariants.{Soft, Done}
 use Rattle.slot_core.specs.declared.events.Soft.{Soft as SoftAnswer}
 use Rattle.slot_core.specs.declared.events.Soft.TheVariants.{Taken, Full}
-use Rattle.slot_core.specs.Answers.{soft_answer}
-use Rattle.slot_core.specs.Executives.{Executive, StandsForSome, Does}
-use Rattle.slot_core.specs.Matches.{IsSameScene}
-use Rattle.slot_core.specs.Plans.{IsPlan}
-use Rattle.slot_core.specs.Ranges.{is_between}
-use Rattle.slot_core.specs.Traces.{arrive}
+use Rattle.slot_core.specs.Runs.Answers.{soft_answer}
+use Rattle.slot_core.specs.Keeping.Executives.{Executive, StandsForSome, Does}
+use Rattle.slot_core.specs.Runs.Matches.{IsSameScene}
+use Rattle.slot_core.specs.Keeping.Plans.{IsPlan}
+use Rattle.slot_core.specs.Sets.Ranges.{is_between}
+use Rattle.slot_core.specs.Runs.Traces.{arrive}
 use Rattle.slot_facts.proofs.Legal.Executives.{every_executive_is_kept}
 use Rattle.scene_steps.specs.Ends.{freed}
 use Rattle.scene_steps.specs.Steps.{scene_after, with_soft}

@@ -8,9 +8,9 @@ use Rattle.slot_core.specs.declared.jobs.Job.{Job}
 use Rattle.slot_core.specs.declared.jobs.SoftJob.{SoftJob}
 use Rattle.slot_core.specs.declared.tasks.TaskSet.{TaskSet}
 use Rattle.slot_core.specs.declared.events.What.TheVariants.{Done}
-use Rattle.slot_core.specs.Keys.{is_soft, row_of, same_key}
-use Rattle.slot_core.specs.Rising.{AreRising}
-use Rattle.slot_core.specs.Scenes.{Scene}
+use Rattle.slot_core.specs.Offline.Keys.{is_soft, row_of, same_key}
+use Rattle.slot_core.specs.Runs.Rising.{AreRising}
+use Rattle.slot_core.specs.Runs.Scenes.{Scene}
 use Rattle.slot_facts.proofs.Choice.Earliest.{same_from_key}
 use Rattle.slot_facts.proofs.Lists.Apart.{above-from_rising}
 use Rattle.slot_facts.proofs.Lists.ApartKeys.{same_key-itself}

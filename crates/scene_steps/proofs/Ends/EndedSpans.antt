@@ -6,12 +6,12 @@ use Rattle.std.proofs.lemmas.List.Elements.{All-contains, All-filter, All-from_r
 use Rattle.slot_core.specs.declared.jobs.Key.{Key}
 use Rattle.slot_core.specs.declared.jobs.Job.{Job}
 use Rattle.slot_core.specs.declared.jobs.Span.{Span}
-use Rattle.slot_core.specs.Executives.{Executive, StandsForSome}
-use Rattle.slot_core.specs.Keys.{is_soft, same_key}
-use Rattle.slot_core.specs.Kept.{AreApart}
-use Rattle.slot_core.specs.Plans.{IsPlan}
-use Rattle.slot_core.specs.Scenes.{Scene, horizon}
-use Rattle.slot_core.specs.Spans.{spans_between, spans_of}
+use Rattle.slot_core.specs.Keeping.Executives.{Executive, StandsForSome}
+use Rattle.slot_core.specs.Offline.Keys.{is_soft, same_key}
+use Rattle.slot_core.specs.Keeping.Kept.{AreApart}
+use Rattle.slot_core.specs.Keeping.Plans.{IsPlan}
+use Rattle.slot_core.specs.Runs.Scenes.{Scene, horizon}
+use Rattle.slot_core.specs.Runs.Spans.{spans_between, spans_of}
 use Rattle.slot_facts.proofs.Legal.Executives.{every_executive_is_kept}
 use Rattle.slot_facts.proofs.Lists.Members.{Has, Contains-from_Has, AllByRecursion-from_Has}
 use Rattle.spare_capacity.specs.Recurrence.{filled}

@@ -7,10 +7,10 @@ use Rattle.slot_core.specs.declared.jobs.Key.TheVariants.{Soft as SoftKey}
 use Rattle.slot_core.specs.declared.jobs.Job.{Job}
 use Rattle.slot_core.specs.declared.jobs.SoftJob.{SoftJob}
 use Rattle.slot_core.specs.declared.tasks.TaskSet.{TaskSet}
-use Rattle.slot_core.specs.Choice.{ready}
-use Rattle.slot_core.specs.Kept.{KeepsBounds}
-use Rattle.slot_core.specs.Keys.{is_offline, same_key}
-use Rattle.slot_core.specs.Scenes.{Scene}
+use Rattle.slot_core.specs.Runs.Choice.{ready}
+use Rattle.slot_core.specs.Keeping.Kept.{KeepsBounds}
+use Rattle.slot_core.specs.Offline.Keys.{is_offline, same_key}
+use Rattle.slot_core.specs.Runs.Scenes.{Scene}
 use Rattle.slot_facts.proofs.Choice.Earliest.{same_from_key}
 use Rattle.slot_facts.proofs.Lists.ApartKeys.{IsApart-from_count, same_member-from_apart}
 use Rattle.slot_facts.proofs.Lists.Members.{Has, Has-from_Contains, Contains-from_Has, Has-filter, Has-filter_passes}

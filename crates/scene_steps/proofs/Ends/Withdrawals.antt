@@ -11,13 +11,13 @@ use Rattle.slot_core.specs.declared.tasks.TaskSet.{TaskSet}
 use Rattle.slot_core.specs.declared.events.Event.TheVariants.{Withdraw as WithdrawEvent}
 use Rattle.slot_core.specs.declared.events.Gone.TheVariants.{Freed, NoJob}
 use Rattle.slot_core.specs.declared.events.What.TheVariants.{Withdraw}
-use Rattle.slot_core.specs.Executives.{Executive, StandsForSome, Does}
-use Rattle.slot_core.specs.Keys.{same_key}
-use Rattle.slot_core.specs.Matches.{IsSameScene}
-use Rattle.slot_core.specs.Plans.{IsPlan}
-use Rattle.slot_core.specs.Scenes.{Scene}
-use Rattle.slot_core.specs.Spans.{spans_of}
-use Rattle.slot_core.specs.Traces.{arrive}
+use Rattle.slot_core.specs.Keeping.Executives.{Executive, StandsForSome, Does}
+use Rattle.slot_core.specs.Offline.Keys.{same_key}
+use Rattle.slot_core.specs.Runs.Matches.{IsSameScene}
+use Rattle.slot_core.specs.Keeping.Plans.{IsPlan}
+use Rattle.slot_core.specs.Runs.Scenes.{Scene}
+use Rattle.slot_core.specs.Runs.Spans.{spans_of}
+use Rattle.slot_core.specs.Runs.Traces.{arrive}
 use Rattle.slot_facts.proofs.Choice.Earliest.{same_from_key}
 use Rattle.slot_facts.proofs.Legal.Executives.{every_executive_is_kept}
 use Rattle.slot_facts.proofs.Lists.Apart.{count-none}

@@ -3,16 +3,16 @@ use Rattle.std.proofs.Common.{◌≡◌, ℕ, ◌+◌, ◌/◌, ◌<◌, ◌≤�
 use Rattle.std.specs.List.{AllByRecursion}
 use Rattle.slot_core.specs.declared.jobs.Job.{Job}
 use Rattle.slot_core.specs.declared.tasks.TaskSet.{TaskSet}
-use Rattle.slot_core.specs.Cycles.{cycle_of}
-use Rattle.slot_core.specs.Ranges.{is_sound}
-use Rattle.slot_core.specs.Feasible.{IsFeasible}
-use Rattle.slot_core.specs.Demand.{work_by}
-use Rattle.slot_core.specs.Scenes.{Scene}
-use Rattle.slot_core.specs.Choice.{soft_may_run, choice}
-use Rattle.slot_core.specs.Safety.{after_slot}
-use Rattle.slot_core.specs.Kept.{KeepsBounds}
-use Rattle.slot_core.specs.Plans.{IsPlan}
-use Rattle.slot_core.specs.Executives.{Executive, StandsForSome}
+use Rattle.slot_core.specs.Sets.Cycles.{cycle_of}
+use Rattle.slot_core.specs.Sets.Ranges.{is_sound}
+use Rattle.slot_core.specs.Feasibility.Feasible.{IsFeasible}
+use Rattle.slot_core.specs.Runs.Demand.{work_by}
+use Rattle.slot_core.specs.Runs.Scenes.{Scene}
+use Rattle.slot_core.specs.Runs.Choice.{soft_may_run, choice}
+use Rattle.slot_core.specs.Claims.Safety.{after_slot}
+use Rattle.slot_core.specs.Keeping.Kept.{KeepsBounds}
+use Rattle.slot_core.specs.Keeping.Plans.{IsPlan}
+use Rattle.slot_core.specs.Keeping.Executives.{Executive, StandsForSome}
 use Rattle.slot_facts.proofs.Bounds.OneSlot.{one_slot_keeps_the_bounds}
 use Rattle.slot_facts.proofs.Histories.Unended.{later-from_no_work}
 use Rattle.slot_facts.proofs.Lists.Members.{Has-from_Contains, Contains-from_Has, AllByRecursion-from_Has}

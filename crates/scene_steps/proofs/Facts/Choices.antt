@@ -10,12 +10,12 @@ use Rattle.slot_core.specs.declared.jobs.Job.{Job}
 use Rattle.slot_core.specs.declared.jobs.SoftJob.{SoftJob}
 use Rattle.slot_core.specs.declared.tasks.Sporadic.{Sporadic}
 use Rattle.slot_core.specs.declared.events.Ran.TheVariants.{Idle as RanIdle, Key as RanKey}
-use Rattle.slot_core.specs.Keys.{is_soft}
-use Rattle.slot_core.specs.Demand.{need_by, is_overloaded}
-use Rattle.slot_core.specs.Scenes.{Scene, horizon}
-use Rattle.slot_core.specs.Choice.{earliest, ready, first_soft, soft_may_run, earliest_ready, choice}
-use Rattle.slot_core.specs.Plans.{IsPlan}
-use Rattle.slot_core.specs.Executives.{Executive, StandsForSome}
+use Rattle.slot_core.specs.Offline.Keys.{is_soft}
+use Rattle.slot_core.specs.Runs.Demand.{need_by, is_overloaded}
+use Rattle.slot_core.specs.Runs.Scenes.{Scene, horizon}
+use Rattle.slot_core.specs.Runs.Choice.{earliest, ready, first_soft, soft_may_run, earliest_ready, choice}
+use Rattle.slot_core.specs.Keeping.Plans.{IsPlan}
+use Rattle.slot_core.specs.Keeping.Executives.{Executive, StandsForSome}
 use Rattle.slot_facts.proofs.Choice.Earliest.{IsEarliest-from_earliest}
 use Rattle.slot_facts.proofs.Lists.Members.{Has, Contains-from_Has, Has-filter_passes, Has-range_with_len, passes_from_list_all}
 use Rattle.slot_facts.proofs.Legal.Executives.{every_executive_is_kept}

@@ -5,16 +5,16 @@ use Rattle.std.proofs.lemmas.List.Elements.{All-from_recursion}
 use Rattle.std.proofs.lemmas.List.Sorted.{All-permutation, IsPermutation-sym}
 use Rattle.slot_core.specs.declared.jobs.Job.{Job}
 use Rattle.slot_core.specs.declared.tasks.TaskSet.{TaskSet}
-use Rattle.slot_core.specs.Cycles.{cycle_of}
-use Rattle.slot_core.specs.Ranges.{is_sound}
-use Rattle.slot_core.specs.Feasible.{IsFeasible}
-use Rattle.slot_core.specs.Histories.{History, time_of}
-use Rattle.slot_core.specs.Rising.{AreRising, last_point}
-use Rattle.slot_core.specs.Scenes.{Scene, horizon, guaranteed_in, remaining, scene_of, points_of}
-use Rattle.slot_core.specs.Matches.{HaveSameItems, IsSameScene, MatchesHistory}
-use Rattle.slot_core.specs.Traces.{IsLegal}
-use Rattle.slot_core.specs.Plans.{IsPlan}
-use Rattle.slot_core.specs.Executives.{Executive, StandsForSome}
+use Rattle.slot_core.specs.Sets.Cycles.{cycle_of}
+use Rattle.slot_core.specs.Sets.Ranges.{is_sound}
+use Rattle.slot_core.specs.Feasibility.Feasible.{IsFeasible}
+use Rattle.slot_core.specs.Runs.Histories.{History, time_of}
+use Rattle.slot_core.specs.Runs.Rising.{AreRising, last_point}
+use Rattle.slot_core.specs.Runs.Scenes.{Scene, horizon, guaranteed_in, remaining, scene_of, points_of}
+use Rattle.slot_core.specs.Runs.Matches.{HaveSameItems, IsSameScene, MatchesHistory}
+use Rattle.slot_core.specs.Runs.Traces.{IsLegal}
+use Rattle.slot_core.specs.Keeping.Plans.{IsPlan}
+use Rattle.slot_core.specs.Keeping.Executives.{Executive, StandsForSome}
 use Rattle.slot_facts.proofs.Lists.Members.{Has, Contains-from_Has, AllByRecursion-from_Has}
 use Rattle.slot_facts.proofs.Lists.SameItems.{jobs-same_items}
 use Rattle.slot_facts.proofs.Lists.Sums.{sum_by-constant}
@@ -53,7 +53,7 @@ proper_scene-legal set h sound feasible legal =
     }
 
 -- what holds of each job of a list holds of those of a list with the same items
-all-same_items : (P : Job → Type 0) (xs ys : List Job) → HaveSameItems xs ys → All P ys → All P xs
+pub all-same_items : (P : Job → Type 0) (xs ys : List Job) → HaveSameItems xs ys → All P ys → All P xs
 all-same_items P xs ys same all =
     All-permutation P ys xs (IsPermutation-sym xs ys ((jobs-same_items xs ys).0 same)) all
 

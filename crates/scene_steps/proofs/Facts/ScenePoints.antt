@@ -4,14 +4,14 @@ use Rattle.std.specs.List.{range_with_len}
 use Rattle.std.proofs.lemmas.Bool.{or_cases, or_left, or_right, false≢true}
 use Rattle.slot_core.specs.declared.jobs.Job.{Job}
 use Rattle.slot_core.specs.declared.tasks.TaskSet.{TaskSet}
-use Rattle.slot_core.specs.Cycles.{cycle_of}
-use Rattle.slot_core.specs.Ranges.{is_sound}
-use Rattle.slot_core.specs.OfflineJobs.{cycle_jobs, offline_jobs}
-use Rattle.slot_core.specs.Feasible.{IsFeasible}
-use Rattle.slot_core.specs.Points.{is_point}
-use Rattle.slot_core.specs.Rising.{AreRising, last_point}
-use Rattle.slot_core.specs.Histories.{History, time_of, firm_jobs, sporadic_jobs}
-use Rattle.slot_core.specs.Scenes.{horizon, guaranteed_in, points_of}
+use Rattle.slot_core.specs.Sets.Cycles.{cycle_of}
+use Rattle.slot_core.specs.Sets.Ranges.{is_sound}
+use Rattle.slot_core.specs.Offline.OfflineJobs.{cycle_jobs, offline_jobs}
+use Rattle.slot_core.specs.Feasibility.Feasible.{IsFeasible}
+use Rattle.slot_core.specs.Runs.Points.{is_point}
+use Rattle.slot_core.specs.Runs.Rising.{AreRising, last_point}
+use Rattle.slot_core.specs.Runs.Histories.{History, time_of, firm_jobs, sporadic_jobs}
+use Rattle.slot_core.specs.Runs.Scenes.{horizon, guaranteed_in, points_of}
 use Rattle.slot_facts.proofs.Lists.Members.{Has, Has-append_left, Has-append_right, Has-append_cases, Has-map, Has-filter, Has-range_with_len}
 use Rattle.slot_facts.proofs.Lists.RangeFilters.{length-filter_range}
 use Rattle.slot_facts.proofs.Lists.Tests.{equal-from_Has}

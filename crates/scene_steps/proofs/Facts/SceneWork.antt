@@ -8,12 +8,12 @@ use Rattle.std.proofs.lemmas.List.Elements.{All-from_recursion}
 use Rattle.std.proofs.lemmas.List.Sums.{sum_by-cons}
 use Rattle.slot_core.specs.declared.jobs.Job.{Job}
 use Rattle.slot_core.specs.declared.tasks.TaskSet.{TaskSet}
-use Rattle.slot_core.specs.Keys.{is_offline, is_soft}
-use Rattle.slot_core.specs.Cycles.{cycle_of}
-use Rattle.slot_core.specs.Ranges.{is_sound}
-use Rattle.slot_core.specs.Demand.{work_by}
-use Rattle.slot_core.specs.Scenes.{Scene}
-use Rattle.slot_core.specs.Kept.{KeepsBounds}
+use Rattle.slot_core.specs.Offline.Keys.{is_offline, is_soft}
+use Rattle.slot_core.specs.Sets.Cycles.{cycle_of}
+use Rattle.slot_core.specs.Sets.Ranges.{is_sound}
+use Rattle.slot_core.specs.Runs.Demand.{work_by}
+use Rattle.slot_core.specs.Runs.Scenes.{Scene}
+use Rattle.slot_core.specs.Keeping.Kept.{KeepsBounds}
 use Rattle.slot_facts.proofs.Legal.Jobs.{not_soft-from_offline}
 use Rattle.slot_facts.proofs.Lists.Members.{Contains-from_Has, AllByRecursion-from_Has}
 use Rattle.slot_facts.proofs.Lists.MemberSums.{length-at_most_sum}

@@ -9,11 +9,11 @@ use Rattle.slot_core.specs.declared.jobs.Key.{Key}
 use Rattle.slot_core.specs.declared.jobs.Key.TheVariants.{Soft as SoftKey}
 use Rattle.slot_core.specs.declared.jobs.Job.{Job}
 use Rattle.slot_core.specs.declared.jobs.SoftJob.{SoftJob}
-use Rattle.slot_core.specs.Keys.{same_key, is_soft, row_of}
-use Rattle.slot_core.specs.Rising.{AreRising}
-use Rattle.slot_core.specs.Choice.{lower_of, first_soft}
-use Rattle.slot_core.specs.Safety.{after_run}
-use Rattle.slot_core.specs.Kept.{KeepsSoftOrder}
+use Rattle.slot_core.specs.Offline.Keys.{same_key, is_soft, row_of}
+use Rattle.slot_core.specs.Runs.Rising.{AreRising}
+use Rattle.slot_core.specs.Runs.Choice.{lower_of, first_soft}
+use Rattle.slot_core.specs.Claims.Safety.{after_run}
+use Rattle.slot_core.specs.Keeping.Kept.{KeepsSoftOrder}
 use Rattle.slot_facts.proofs.Choice.Earliest.{same_from_key}
 use Rattle.slot_facts.proofs.Choice.Runs.{run_of_another}
 use Rattle.slot_facts.proofs.Lists.Apart.{AreRising-lower, above-from_rising}

@@ -7,17 +7,17 @@ use Rattle.std.proofs.lemmas.List.{length-map}
 use Rattle.std.proofs.lemmas.List.Elements.{All-from_recursion}
 use Rattle.slot_core.specs.declared.jobs.Job.{Job}
 use Rattle.slot_core.specs.declared.tasks.TaskSet.{TaskSet}
-use Rattle.slot_core.specs.Keys.{is_offline, is_soft}
-use Rattle.slot_core.specs.Cycles.{cycle_of}
-use Rattle.slot_core.specs.Ranges.{is_sound}
-use Rattle.slot_core.specs.OfflineJobs.{later_job, cycle_jobs, offline_jobs}
-use Rattle.slot_core.specs.Feasible.{IsFeasible}
-use Rattle.slot_core.specs.Scenes.{Scene}
-use Rattle.slot_core.specs.Choice.{choice}
-use Rattle.slot_core.specs.Safety.{after_slot}
-use Rattle.slot_core.specs.Kept.{AreApart, KeepsBounds}
-use Rattle.slot_core.specs.Plans.{PlanParts, IsPlan}
-use Rattle.slot_core.specs.Executives.{Executive, StandsForSome}
+use Rattle.slot_core.specs.Offline.Keys.{is_offline, is_soft}
+use Rattle.slot_core.specs.Sets.Cycles.{cycle_of}
+use Rattle.slot_core.specs.Sets.Ranges.{is_sound}
+use Rattle.slot_core.specs.Offline.OfflineJobs.{later_job, cycle_jobs, offline_jobs}
+use Rattle.slot_core.specs.Feasibility.Feasible.{IsFeasible}
+use Rattle.slot_core.specs.Runs.Scenes.{Scene}
+use Rattle.slot_core.specs.Runs.Choice.{choice}
+use Rattle.slot_core.specs.Claims.Safety.{after_slot}
+use Rattle.slot_core.specs.Keeping.Kept.{AreApart, KeepsBounds}
+use Rattle.slot_core.specs.Keeping.Plans.{PlanParts, IsPlan}
+use Rattle.slot_core.specs.Keeping.Executives.{Executive, StandsForSome}
 use Rattle.slot_facts.proofs.Bounds.CycleDemand.{cycle-fits}
 use Rattle.slot_facts.proofs.Lists.ApartKeys.{IsApart-from_count, AreApart-from_members}
 use Rattle.slot_facts.proofs.Lists.Members.{Has, Has-from_Contains, Contains-from_Has, Has-append_right, AllByRecursion-from_Has}

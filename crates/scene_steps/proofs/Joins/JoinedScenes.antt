@@ -3,11 +3,11 @@ use Rattle.std.proofs.Common.{◌≡◌, ◌+◌, ◌-◌, ◌*◌, ◌≤◌, f
 use Rattle.std.specs.Prelude.{Contains, count_by, sum_by}
 use Rattle.std.proofs.lemmas.List.Sums.{sum_by-append}
 use Rattle.slot_core.specs.declared.jobs.Job.{Job}
-use Rattle.slot_core.specs.Executives.{Executive, StandsForSome}
-use Rattle.slot_core.specs.Keys.{is_offline, same_key}
-use Rattle.slot_core.specs.Plans.{PlanParts, IsPlan}
-use Rattle.slot_core.specs.Scenes.{horizon}
-use Rattle.slot_core.specs.Spans.{spans_of}
+use Rattle.slot_core.specs.Keeping.Executives.{Executive, StandsForSome}
+use Rattle.slot_core.specs.Offline.Keys.{is_offline, same_key}
+use Rattle.slot_core.specs.Keeping.Plans.{PlanParts, IsPlan}
+use Rattle.slot_core.specs.Runs.Scenes.{horizon}
+use Rattle.slot_core.specs.Runs.Spans.{spans_of}
 use Rattle.slot_facts.proofs.Legal.Executives.{every_executive_is_kept}
 use Rattle.slot_facts.proofs.Lists.ApartKeys.{same_key-itself}
 use Rattle.slot_facts.proofs.Lists.Members.{Contains-from_Has, Has-append_right}

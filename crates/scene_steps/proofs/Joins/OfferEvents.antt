@@ -8,18 +8,18 @@ use Rattle.slot_core.specs.declared.events.Event.TheVariants.{Firm as FirmEvent}
 use Rattle.slot_core.specs.declared.events.Firm.{Firm as FirmAnswer}
 use Rattle.slot_core.specs.declared.events.Firm.TheVariants.{Accepted, Late, Far, NoRoom}
 use Rattle.slot_core.specs.declared.events.What.TheVariants.{Firm}
-use Rattle.slot_core.specs.Answers.{firm_answer}
-use Rattle.slot_core.specs.Arrivals.{event_may_come}
-use Rattle.slot_core.specs.Cycles.{cycle_of}
-use Rattle.slot_core.specs.Executives.{Executive, StandsFor, StandsForSome, Does}
-use Rattle.slot_core.specs.Feasible.{IsFeasible}
-use Rattle.slot_core.specs.Futures.{OfferIsExact}
-use Rattle.slot_core.specs.Histories.{History, offered_job}
-use Rattle.slot_core.specs.Matches.{IsSameScene}
-use Rattle.slot_core.specs.Plans.{IsPlan}
-use Rattle.slot_core.specs.Ranges.{is_sound}
-use Rattle.slot_core.specs.Scenes.{Scene, scene_of}
-use Rattle.slot_core.specs.Traces.{arrive, IsLegal}
+use Rattle.slot_core.specs.Runs.Answers.{firm_answer}
+use Rattle.slot_core.specs.Runs.Arrivals.{event_may_come}
+use Rattle.slot_core.specs.Sets.Cycles.{cycle_of}
+use Rattle.slot_core.specs.Keeping.Executives.{Executive, StandsFor, StandsForSome, Does}
+use Rattle.slot_core.specs.Feasibility.Feasible.{IsFeasible}
+use Rattle.slot_core.specs.Claims.Futures.{OfferIsExact}
+use Rattle.slot_core.specs.Runs.Histories.{History, offered_job}
+use Rattle.slot_core.specs.Runs.Matches.{IsSameScene}
+use Rattle.slot_core.specs.Keeping.Plans.{IsPlan}
+use Rattle.slot_core.specs.Sets.Ranges.{is_sound}
+use Rattle.slot_core.specs.Runs.Scenes.{Scene, scene_of}
+use Rattle.slot_core.specs.Runs.Traces.{arrive, IsLegal}
 use Rattle.slot_facts.proofs.Offers.Exact.{OfferIsExact-from_told}
 use Rattle.scene_steps.specs.Joins.{MayJoin}
 use Rattle.scene_steps.specs.Steps.{scene_after, with_job}

@@ -13,19 +13,19 @@ use Rattle.slot_core.specs.declared.events.What.TheVariants.{Soft, Firm, Sporadi
 use Rattle.slot_core.specs.declared.events.Soft.TheVariants.{Taken as SoftTaken}
 use Rattle.slot_core.specs.declared.events.Firm.TheVariants.{Accepted}
 use Rattle.slot_core.specs.declared.events.Spo.TheVariants.{Taken as SporadicTaken}
-use Rattle.slot_core.specs.Cycles.{cycle_of}
-use Rattle.slot_core.specs.Ranges.{is_sound}
-use Rattle.slot_core.specs.OfflineJobs.{offline_jobs}
-use Rattle.slot_core.specs.Points.{is_point}
-use Rattle.slot_core.specs.Histories.{History, time_of, offered_job, firm_jobs, sporadic_job, sporadic_jobs, soft_jobs}
-use Rattle.slot_core.specs.Scenes.{unended, next_arrivals, scene_of}
-use Rattle.slot_core.specs.Matches.{HaveSameItems, IsSameScene}
+use Rattle.slot_core.specs.Sets.Cycles.{cycle_of}
+use Rattle.slot_core.specs.Sets.Ranges.{is_sound}
+use Rattle.slot_core.specs.Offline.OfflineJobs.{offline_jobs}
+use Rattle.slot_core.specs.Runs.Points.{is_point}
+use Rattle.slot_core.specs.Runs.Histories.{History, time_of, offered_job, firm_jobs, sporadic_job, sporadic_jobs, soft_jobs}
+use Rattle.slot_core.specs.Runs.Scenes.{unended, next_arrivals, scene_of}
+use Rattle.slot_core.specs.Runs.Matches.{HaveSameItems, IsSameScene}
 use Rattle.slot_facts.proofs.Histories.Unended.{IsFresh, unended-fresh, unended-append}
 use Rattle.slot_facts.proofs.Bounds.CycleDemand.{FitsCycle-from_Has}
 use Rattle.slot_facts.proofs.Legal.Bounds.{below_end}
-use Rattle.slot_facts.proofs.Legal.Data.{LegalEntries}
+use Rattle.slot_facts.proofs.Legal.Data.{Slots, Entries}
 use Rattle.slot_facts.proofs.Legal.NextArrivals.{next_arrivals-set}
-use Rattle.slot_facts.proofs.Legal.Rows.{earlier-legal, accepted-says, sporadic_taken-says, soft_taken-says, sporadic_job-at, sporadic-come}
+use Rattle.slot_facts.proofs.Legal.Rows.{entries-before, accepted-says, sporadic_taken-says, soft_taken-says, sporadic_job-at, sporadic-come}
 use Rattle.slot_facts.proofs.Lists.Members.{Has-from_slice_get}
 use Rattle.slot_facts.proofs.Offline.Jobs.{cycle-positive}
 use Rattle.slot_facts.proofs.Plans.SetPoints.{planned}
@@ -36,13 +36,13 @@ use Rattle.scene_steps.proofs.Model.Points.{points_to_horizon, points_to_horizon
 use Rattle.scene_steps.proofs.Model.SoftJobs.{waiting-push}
 
 -- soft work that is taken
-pub soft-follows : (set : TaskSet) (row slots : ℕ) (h : History) → is_sound set ≡ true → LegalEntries set (cycle_of set) (Soft row slots SoftTaken ∷ h) → with_soft row slots (scene_of set (cycle_of set) h) ≡ scene_of set (cycle_of set) (Soft row slots SoftTaken ∷ h)
-soft-follows set row slots h sound legal =
-    let taken = soft_taken-says legal in
+pub soft-follows : {S : Slots} (set : TaskSet) (row slots : ℕ) (h : History) → is_sound set ≡ true → Entries S set (cycle_of set) (Soft row slots SoftTaken ∷ h) → with_soft row slots (scene_of set (cycle_of set) h) ≡ scene_of set (cycle_of set) (Soft row slots SoftTaken ∷ h)
+soft-follows set row slots h sound told =
+    let taken = soft_taken-says told in
     let key = SoftKey row in
     let soft : SoftJob = record { row = row; left = slots; declared = slots } in
-    let none = not_run-new set sound h key (earlier-legal legal) refl taken.above in
-    let kept = not_freed-new set sound h key (earlier-legal legal) refl taken.above in
+    let none = not_run-new set sound h key (entries-before told) refl taken.above in
+    let kept = not_freed-new set sound h key (entries-before told) refl taken.above in
     ap
     (λ (ss : List SoftJob). record (scene_of set (cycle_of set) h) { soft = ss })
     (sym (waiting-push h soft (soft_jobs h) none kept taken.some refl))
@@ -73,11 +73,11 @@ points-more set t x before after xs ys sound is_before is_after later near =
     ap (λ own. with_point x (points own)) is_before ∙ points_to_horizon-more cycle (planned set) xs ys t x later (omega arith) ∙ ap points (sym is_after)
 
 -- a firm offer that is accepted
-pub firm-follows : (set : TaskSet) (row slots within : ℕ) (h : History) → is_sound set ≡ true → LegalEntries set (cycle_of set) (Firm row slots within Accepted ∷ h) → IsSameScene (with_job (offered_job row (time_of h) slots within) (scene_of set (cycle_of set) h)) (scene_of set (cycle_of set) (Firm row slots within Accepted ∷ h))
-firm-follows set row slots within h sound legal =
+pub firm-follows : {S : Slots} (set : TaskSet) (row slots within : ℕ) (h : History) → is_sound set ≡ true → Entries S set (cycle_of set) (Firm row slots within Accepted ∷ h) → IsSameScene (with_job (offered_job row (time_of h) slots within) (scene_of set (cycle_of set) h)) (scene_of set (cycle_of set) (Firm row slots within Accepted ∷ h))
+firm-follows set row slots within h sound told =
     let cycle = cycle_of set in
     let t = time_of h in
-    let a = accepted-says legal in
+    let a = accepted-says told in
     let job = offered_job row t slots within in
     let offline = offline_jobs set cycle (t / cycle + 3) in
     let firm = firm_jobs h in
@@ -85,8 +85,8 @@ firm-follows set row slots within h sound legal =
     let own = map (λ (j : Job). j.dl) (firm ++ sporadic) in
     let fresh : IsFresh h job =
     record {
-      none = not_run-new set sound h (FirmKey row) (earlier-legal legal) refl a.above;
-      kept = not_freed-new set sound h (FirmKey row) (earlier-legal legal) refl a.above;
+      none = not_run-new set sound h (FirmKey row) (entries-before told) refl a.above;
+      kept = not_freed-new set sound h (FirmKey row) (entries-before told) refl a.above;
       some = a.some;
       whole = refl;
     } in
@@ -99,15 +99,15 @@ firm-follows set row slots within h sound legal =
     }
 
 -- a sporadic arrival that is taken
-pub sporadic-follows : (set : TaskSet) (row index due : ℕ) (h : History) → is_sound set ≡ true → LegalEntries set (cycle_of set) (SporadicEntry row index (SporadicTaken due) ∷ h) → IsSameScene (with_arrival set.sporadics row index (scene_of set (cycle_of set) h)) (scene_of set (cycle_of set) (SporadicEntry row index (SporadicTaken due) ∷ h))
-sporadic-follows set row index due h sound legal =
+pub sporadic-follows : {S : Slots} (set : TaskSet) (row index due : ℕ) (h : History) → is_sound set ≡ true → Entries S set (cycle_of set) (SporadicEntry row index (SporadicTaken due) ∷ h) → IsSameScene (with_arrival set.sporadics row index (scene_of set (cycle_of set) h)) (scene_of set (cycle_of set) (SporadicEntry row index (SporadicTaken due) ∷ h))
+sporadic-follows set row index due h sound told =
     let cycle = cycle_of set in
     let t = time_of h in
-    let taken = sporadic_taken-says legal in
+    let taken = sporadic_taken-says told in
     let (s, at) = slice_get-within set.sporadics index taken.named in
     let fits = FitsCycle-from_Has set s sound (Has-from_slice_get set.sporadics index s at) in
     let job = sporadic_job set.sporadics index row t in
-    let come = sporadic-come set (SporadicEntry row index (SporadicTaken due) ∷ h) job sound legal (inl refl) in
+    let come = sporadic-come set (SporadicEntry row index (SporadicTaken due) ∷ h) job sound told (inl refl) in
     let dl : job.dl ≡ t + s.deadline = ap (λ (j : Job). j.dl) (sporadic_job-at set.sporadics index row t s at) in
     let separation : separation_of set.sporadics index ≡ s.separation = ap (λ o. option_map_or (λ (s : Sporadic). s.separation) o 0) at in
     let offline = offline_jobs set cycle (t / cycle + 3) in
@@ -116,8 +116,8 @@ sporadic-follows set row index due h sound legal =
     let deadlines = map (λ (j : Job). j.dl) in
     let fresh : IsFresh h job =
     record {
-      none = not_run-new set sound h (SporadicKey index row) (earlier-legal legal) refl taken.above;
-      kept = not_freed-new set sound h (SporadicKey index row) (earlier-legal legal) refl taken.above;
+      none = not_run-new set sound h (SporadicKey index row) (entries-before told) refl taken.above;
+      kept = not_freed-new set sound h (SporadicKey index row) (entries-before told) refl taken.above;
       some = come.some;
       whole = refl;
     } in

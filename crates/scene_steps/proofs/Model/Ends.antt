@@ -9,9 +9,9 @@ use Rattle.slot_core.specs.declared.tasks.TaskSet.{TaskSet}
 use Rattle.slot_core.specs.declared.events.What.TheVariants.{Done, Withdraw}
 use Rattle.slot_core.specs.declared.events.Done.TheVariants.{Freed}
 use Rattle.slot_core.specs.declared.events.Gone.TheVariants.{Freed as GoneFreed}
-use Rattle.slot_core.specs.Keys.{same_key}
-use Rattle.slot_core.specs.Histories.{History, executed, is_freed, soft_jobs}
-use Rattle.slot_core.specs.Scenes.{has_ended, with_left, guaranteed, unended, soft_has_ended, soft_with_left, waiting_soft, scene_of}
+use Rattle.slot_core.specs.Offline.Keys.{same_key}
+use Rattle.slot_core.specs.Runs.Histories.{History, executed, is_freed, soft_jobs}
+use Rattle.slot_core.specs.Runs.Scenes.{has_ended, with_left, guaranteed, unended, soft_has_ended, soft_with_left, waiting_soft, scene_of}
 use Rattle.scene_steps.specs.Steps.{without}
 
 -- what passes two tests, the second on its image

@@ -1,17 +1,19 @@
--- Each entry of a legal history changes its scene and its last row by its step, and what is told next is told in the scene.
-use Rattle.std.proofs.Common.{◌≡◌, ℕ, true, ◌∷◌, refl, subst}
+-- Each entry of a history changes its scene and its last row by its step, and what is told next is told in the scene.
+use Rattle.std.proofs.Common.{◌≡◌, ℕ, ◌+◌, ◌/◌, true, ◌∷◌, refl, subst, arith}
 use Rattle.slot_core.specs.declared.tasks.TaskSet.{TaskSet}
 use Rattle.slot_core.specs.declared.events.Ran.TheVariants.{Idle as RanIdle, Key as RanKey}
 use Rattle.slot_core.specs.declared.events.What.{What}
 use Rattle.slot_core.specs.declared.events.What.TheVariants.{Start, Soft, Firm, Sporadic as SporadicEntry, Done, Withdraw, Run, Idle, End}
-use Rattle.slot_core.specs.Cycles.{cycle_of}
-use Rattle.slot_core.specs.Ranges.{is_sound}
-use Rattle.slot_core.specs.Feasible.{IsFeasible}
-use Rattle.slot_core.specs.Histories.{History, last_row}
-use Rattle.slot_core.specs.Scenes.{Scene, scene_of}
-use Rattle.slot_core.specs.Matches.{IsSameScene}
-use Rattle.slot_core.specs.Traces.{Occurrence, arrive, slot, told_of, IsLegal}
-use Rattle.slot_facts.proofs.Legal.Data.{LegalEntries, at_start, at_end, soft_runs, job_runs, idles, soft_taken, soft_full, accepted, late, far, no_room, sporadic_taken, soon, job_freed, soft_freed, not_running, withdrawn, no_job, legal-as_data}
+use Rattle.slot_core.specs.Sets.Cycles.{cycle_of}
+use Rattle.slot_core.specs.Sets.Ranges.{is_sound}
+use Rattle.slot_core.specs.Feasibility.Feasible.{IsFeasible}
+use Rattle.slot_core.specs.Runs.Histories.{History, time_of, last_row}
+use Rattle.slot_core.specs.Runs.Scenes.{Scene, scene_of}
+use Rattle.slot_core.specs.Runs.Matches.{IsSameScene}
+use Rattle.slot_core.specs.Runs.Traces.{Occurrence, arrive, slot, told_of, IsLegal}
+use Rattle.slot_facts.proofs.Legal.Carried.{carried-legal}
+use Rattle.slot_facts.proofs.Legal.Data.{Slots, Entries, at_start, at_end, slot_runs, idles, soft_taken, soft_full, accepted, late, far, no_room, sporadic_taken, soon, job_freed, soft_freed, not_running, withdrawn, no_job, legal-as_data}
+use Rattle.slot_facts.proofs.Legal.Owned.{IsOwned}
 use Rattle.scene_steps.specs.Steps.{scene_after, row_after, told_in}
 use Rattle.scene_steps.proofs.Model.Arrivals.{soft-follows, firm-follows, sporadic-follows}
 use Rattle.scene_steps.proofs.Model.Ends.{done-follows, withdraw-follows}
@@ -26,26 +28,25 @@ same_scene-equal a b equal =
 same_scene-itself : (a : Scene) → IsSameScene a a
 same_scene-itself a = same_scene-equal a a refl
 
--- each kind of legal entry and of answer changes the scene of its history by its step
-entry-follows : {set : TaskSet} {what : What} {h : History} → is_sound set ≡ true → IsFeasible set (cycle_of set) → LegalEntries set (cycle_of set) (what ∷ h) → IsSameScene (scene_after set (cycle_of set) what (scene_of set (cycle_of set) h)) (scene_of set (cycle_of set) (what ∷ h))
-entry-follows {set = set} {h = h} sound feasible (at_start l) = same_scene-itself (scene_of set (cycle_of set) h)
-entry-follows {set = set} {h = h} sound feasible (at_end l) = same_scene-itself (scene_of set (cycle_of set) h)
-entry-follows {set = set} {h = h} sound feasible (soft_runs {key = key} r l) = slot-follows set (RanKey key) h sound feasible (soft_runs r l)
-entry-follows {set = set} {h = h} sound feasible (job_runs {key = key} r l) = slot-follows set (RanKey key) h sound feasible (job_runs r l)
-entry-follows {set = set} {h = h} sound feasible (idles r l) = slot-follows set RanIdle h sound feasible (idles r l)
-entry-follows {set = set} {h = h} sound feasible (soft_taken {row = row} {slots = slots} r l) = same_scene-equal _ _ (soft-follows set row slots h sound (soft_taken r l))
-entry-follows {set = set} {h = h} sound feasible (soft_full r l) = same_scene-itself (scene_of set (cycle_of set) h)
-entry-follows {set = set} {h = h} sound feasible (accepted {row = row} {slots = slots} {within = within} r l) = firm-follows set row slots within h sound (accepted r l)
-entry-follows {set = set} {h = h} sound feasible (late r l) = same_scene-itself (scene_of set (cycle_of set) h)
-entry-follows {set = set} {h = h} sound feasible (far r l) = same_scene-itself (scene_of set (cycle_of set) h)
-entry-follows {set = set} {h = h} sound feasible (no_room r l) = same_scene-itself (scene_of set (cycle_of set) h)
-entry-follows {set = set} {h = h} sound feasible (sporadic_taken {row = row} {index = index} {due = due} r l) = sporadic-follows set row index due h sound (sporadic_taken r l)
-entry-follows {set = set} {h = h} sound feasible (soon r l) = same_scene-itself (scene_of set (cycle_of set) h)
-entry-follows {set = set} {h = h} sound feasible (job_freed {row = row} {n = n} {key = key} r j s l) = same_scene-equal _ _ (done-follows set (cycle_of set) row n key h)
-entry-follows {set = set} {h = h} sound feasible (soft_freed {row = row} {n = n} {key = key} r s l) = same_scene-equal _ _ (done-follows set (cycle_of set) row n key h)
-entry-follows {set = set} {h = h} sound feasible (not_running r l) = same_scene-itself (scene_of set (cycle_of set) h)
-entry-follows {set = set} {h = h} sound feasible (withdrawn {row = row} {firm = firm} {n = n} r j l) = same_scene-equal _ _ (withdraw-follows set (cycle_of set) row firm n h)
-entry-follows {set = set} {h = h} sound feasible (no_job r l) = same_scene-itself (scene_of set (cycle_of set) h)
+-- each kind of entry and of answer changes the scene of its history by its step
+pub entry-follows : {S : Slots} {set : TaskSet} {what : What} {h : History} → is_sound set ≡ true → IsOwned set (time_of (what ∷ h) / cycle_of set + 3) (what ∷ h) → Entries S set (cycle_of set) (what ∷ h) → IsSameScene (scene_after set (cycle_of set) what (scene_of set (cycle_of set) h)) (scene_of set (cycle_of set) (what ∷ h))
+entry-follows {set = set} {h = h} sound owned (at_start l) = same_scene-itself (scene_of set (cycle_of set) h)
+entry-follows {set = set} {h = h} sound owned (at_end l) = same_scene-itself (scene_of set (cycle_of set) h)
+entry-follows {set = set} {h = h} sound owned (slot_runs {key = key} r s l) = slot-follows set (RanKey key) h sound (slot_runs r s l) owned
+entry-follows {set = set} {h = h} sound owned (idles s l) = slot-follows set RanIdle h sound (idles s l) owned
+entry-follows {set = set} {h = h} sound owned (soft_taken {row = row} {slots = slots} r l) = same_scene-equal _ _ (soft-follows set row slots h sound (soft_taken r l))
+entry-follows {set = set} {h = h} sound owned (soft_full r l) = same_scene-itself (scene_of set (cycle_of set) h)
+entry-follows {set = set} {h = h} sound owned (accepted {row = row} {slots = slots} {within = within} r l) = firm-follows set row slots within h sound (accepted r l)
+entry-follows {set = set} {h = h} sound owned (late r l) = same_scene-itself (scene_of set (cycle_of set) h)
+entry-follows {set = set} {h = h} sound owned (far r l) = same_scene-itself (scene_of set (cycle_of set) h)
+entry-follows {set = set} {h = h} sound owned (no_room r l) = same_scene-itself (scene_of set (cycle_of set) h)
+entry-follows {set = set} {h = h} sound owned (sporadic_taken {row = row} {index = index} {due = due} r l) = sporadic-follows set row index due h sound (sporadic_taken r l)
+entry-follows {set = set} {h = h} sound owned (soon r l) = same_scene-itself (scene_of set (cycle_of set) h)
+entry-follows {set = set} {h = h} sound owned (job_freed {row = row} {n = n} {key = key} r j s l) = same_scene-equal _ _ (done-follows set (cycle_of set) row n key h)
+entry-follows {set = set} {h = h} sound owned (soft_freed {row = row} {n = n} {key = key} r s l) = same_scene-equal _ _ (done-follows set (cycle_of set) row n key h)
+entry-follows {set = set} {h = h} sound owned (not_running r l) = same_scene-itself (scene_of set (cycle_of set) h)
+entry-follows {set = set} {h = h} sound owned (withdrawn {row = row} {firm = firm} {n = n} r j l) = same_scene-equal _ _ (withdraw-follows set (cycle_of set) row firm n h)
+entry-follows {set = set} {h = h} sound owned (no_job r l) = same_scene-itself (scene_of set (cycle_of set) h)
 
 -- the scene of a longer legal history is that of the shorter one, after its last entry
 pub scene-follows :
@@ -55,7 +56,9 @@ pub scene-follows :
     (scene_after set (cycle_of set) what (scene_of set (cycle_of set) h))
     (scene_of set (cycle_of set) (what ∷ h))
 scene-follows set h what sound feasible legal =
-    entry-follows sound feasible (legal-as_data set (cycle_of set) (what ∷ h) legal)
+    let told = legal-as_data set (cycle_of set) (what ∷ h) legal in
+    let carried = carried-legal set sound feasible told (time_of (what ∷ h) / cycle_of set + 3) (omega arith) in
+    entry-follows sound carried.owned told
 
 -- the last row too
 pub row-follows : (what : What) (h : History) → last_row (what ∷ h) ≡ row_after what (last_row h)

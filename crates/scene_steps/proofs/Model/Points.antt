@@ -4,8 +4,8 @@ use Rattle.std.specs.Prelude.{nat_le, nat_lt}
 use Rattle.std.specs.List.{list_any, range_with_len}
 use Rattle.std.proofs.lemmas.Bool.{cases_order, cond-false, cond-true, eq-eqb, ne_eqb, lt-ltb, le-ltb, false_from_ne_true, or_right}
 use Rattle.std.proofs.lemmas.List.Folds.{list_any-append}
-use Rattle.slot_core.specs.Points.{is_point}
-use Rattle.slot_core.specs.Scenes.{horizon}
+use Rattle.slot_core.specs.Runs.Points.{is_point}
+use Rattle.slot_core.specs.Runs.Scenes.{horizon}
 use Rattle.slot_facts.proofs.Lists.Members.{Has, Has-filter_passes, Has-range_with_len_bounds, Has-append_right}
 use Rattle.slot_facts.proofs.Lists.RangeFilters.{filter-parts, filter-all}
 use Rattle.slot_facts.proofs.Lists.Tests.{equal-from_Has, Has-from_equal}

@@ -7,22 +7,20 @@ use Rattle.slot_core.specs.declared.jobs.Job.{Job}
 use Rattle.slot_core.specs.declared.tasks.TaskSet.{TaskSet}
 use Rattle.slot_core.specs.declared.events.Ran.{Ran}
 use Rattle.slot_core.specs.declared.events.Ran.TheVariants.{Idle as RanIdle, Key as RanKey}
-use Rattle.slot_core.specs.Cycles.{cycle_of}
-use Rattle.slot_core.specs.Ranges.{is_sound}
-use Rattle.slot_core.specs.Feasible.{IsFeasible}
-use Rattle.slot_core.specs.OfflineJobs.{cycle_jobs, offline_jobs}
-use Rattle.slot_core.specs.Points.{is_point}
-use Rattle.slot_core.specs.Histories.{History, time_of, firm_jobs, sporadic_jobs}
-use Rattle.slot_core.specs.Safety.{after_slot}
-use Rattle.slot_core.specs.Scenes.{Scene, horizon, guaranteed_in, unended, remaining, waiting_soft, next_arrivals, scene_of}
-use Rattle.slot_core.specs.Matches.{HaveSameItems, IsSameScene}
-use Rattle.slot_core.specs.Traces.{told_of_slot}
+use Rattle.slot_core.specs.Sets.Cycles.{cycle_of}
+use Rattle.slot_core.specs.Sets.Ranges.{is_sound}
+use Rattle.slot_core.specs.Offline.OfflineJobs.{cycle_jobs, offline_jobs}
+use Rattle.slot_core.specs.Runs.Points.{is_point}
+use Rattle.slot_core.specs.Runs.Histories.{History, time_of, firm_jobs, sporadic_jobs}
+use Rattle.slot_core.specs.Claims.Safety.{after_slot}
+use Rattle.slot_core.specs.Runs.Scenes.{Scene, horizon, guaranteed_in, unended, remaining, waiting_soft, next_arrivals, scene_of}
+use Rattle.slot_core.specs.Runs.Matches.{HaveSameItems, IsSameScene}
+use Rattle.slot_core.specs.Runs.Traces.{told_of_slot}
 use Rattle.slot_facts.proofs.Histories.Unended.{unended-fresh, unended-append, unended-after_slot}
 use Rattle.slot_facts.proofs.Legal.Bounds.{below_end}
-use Rattle.slot_facts.proofs.Legal.Carried.{carried-legal}
-use Rattle.slot_facts.proofs.Legal.Data.{LegalEntries}
-use Rattle.slot_facts.proofs.Legal.Owned.{not_run-early, not_freed}
-use Rattle.slot_facts.proofs.Legal.Rows.{earlier-legal, firm-come, sporadic-come}
+use Rattle.slot_facts.proofs.Legal.Data.{Slots, Entries}
+use Rattle.slot_facts.proofs.Legal.Owned.{IsOwned, not_run-early, not_freed}
+use Rattle.slot_facts.proofs.Legal.Rows.{entries-before, firm-come, sporadic-come}
 use Rattle.slot_facts.proofs.Lists.Members.{Has, Contains-from_Has, Has-append_right, Has-map_cases, Has-append_cases}
 use Rattle.slot_facts.proofs.Offline.Cycles.{IsOfCycle-from_cycle}
 use Rattle.slot_facts.proofs.Offline.Jobs.{cycle-positive}
@@ -59,31 +57,30 @@ guaranteed-more set cycle n h fresh f =
     )
 
 -- the jobs of a cycle that starts now or later have all their slots left
-cycle-fresh : (set : TaskSet) (n : ℕ) (h : History) → is_sound set ≡ true → IsFeasible set (cycle_of set) → LegalEntries set (cycle_of set) h → time_of h / cycle_of set + 3 ≤ suc n → time_of h ≤ n * cycle_of set → unended h (cycle_jobs set (cycle_of set) n) ≡ cycle_jobs set (cycle_of set) n
-cycle-fresh set n h sound feasible legal reaches early =
+cycle-fresh : {S : Slots} (set : TaskSet) (n : ℕ) (h : History) → is_sound set ≡ true → Entries S set (cycle_of set) h → IsOwned set (suc n) h → time_of h ≤ n * cycle_of set → unended h (cycle_jobs set (cycle_of set) n) ≡ cycle_jobs set (cycle_of set) n
+cycle-fresh set n h sound told owned early =
     let jobs = cycle_jobs set (cycle_of set) n in
-    let carried = carried-legal set sound feasible legal (suc n) reaches in
     unended-fresh h jobs λ job at.
     let own = IsOfCycle-from_cycle set n job sound (Contains-from_Has jobs job at) in
     let listed = Has-append_right (offline_jobs set (cycle_of set) n) jobs job at in
-    let none = not_run-early set (suc n) sound h job legal carried.owned listed (omega (arith, own.starts)) in
+    let none = not_run-early set (suc n) sound h job told owned listed (omega (arith, own.starts)) in
     record {
       none = none;
-      kept = not_freed set (suc n) sound h job legal carried.owned listed none;
+      kept = not_freed set (suc n) sound h job told owned listed none;
       some = own.some;
       whole = own.whole;
     }
 
 -- the deadlines of the jobs that came lie up to the horizon
-own-near : (set : TaskSet) (h : History) (x : ℕ) → is_sound set ≡ true → LegalEntries set (cycle_of set) h → Has (map (λ (j : Job). j.dl) (firm_jobs h ++ sporadic_jobs set.sporadics h)) x → x ≤ horizon (cycle_of set) (time_of h)
-own-near set h x sound legal at =
+own-near : {S : Slots} (set : TaskSet) (h : History) (x : ℕ) → is_sound set ≡ true → Entries S set (cycle_of set) h → Has (map (λ (j : Job). j.dl) (firm_jobs h ++ sporadic_jobs set.sporadics h)) x → x ≤ horizon (cycle_of set) (time_of h)
+own-near set h x sound told at =
     let t = time_of h in
     let cycle = cycle_of set in
     let past = below_end t cycle (t / cycle + 3) (cycle-positive set sound) (omega arith) in
     let m = Has-map_cases (λ (j : Job). j.dl) (firm_jobs h ++ sporadic_jobs set.sporadics h) x at in
     elim (Has-append_cases (firm_jobs h) (sporadic_jobs set.sporadics h) m.0 m.1) [
-      | inl a ↦ omega (arith, m.2, (firm-come set cycle h m.0 legal a).due)
-      | inr b ↦ omega (arith, m.2, (sporadic-come set h m.0 sound legal b).due)
+      | inl a ↦ omega (arith, m.2, (firm-come set cycle h m.0 told a).due)
+      | inr b ↦ omega (arith, m.2, (sporadic-come set h m.0 sound told b).due)
     ]
 
 module _ (set : TaskSet) (ran : Ran) (h : History) where
@@ -126,8 +123,8 @@ module _ (set : TaskSet) (ran : Ran) (h : History) where
       }
 
   -- where it starts a cycle, so is the scene one slot later with the jobs and the points of the further cycle
-  slot-turn : (n : ℕ) → is_sound set ≡ true → LegalEntries set cycle h → suc t / cycle ≡ suc (t / cycle) → n ≡ t / cycle + 3 → unended after (cycle_jobs set cycle n) ≡ cycle_jobs set cycle n → IsSameScene (with_cycle set cycle n (one_slot_later ran (scene_of set cycle h))) later
-  slot-turn n sound legal next_cycle is fresh =
+  slot-turn : {S : Slots} (n : ℕ) → is_sound set ≡ true → Entries S set cycle h → suc t / cycle ≡ suc (t / cycle) → n ≡ t / cycle + 3 → unended after (cycle_jobs set cycle n) ≡ cycle_jobs set cycle n → IsSameScene (with_cycle set cycle n (one_slot_later ran (scene_of set cycle h))) later
+  slot-turn n sound told next_cycle is fresh =
       let old : after_slot ran (remaining set cycle h) ≡ unended after (guaranteed_in set cycle n after) = guaranteed-slot set cycle (t / cycle + 3) ran h ∙ ap (λ m. unended after (guaranteed_in set cycle m after)) (sym is) in
       let more : suc n ≡ suc t / cycle + 3 = omega arith in
       record {
@@ -138,7 +135,7 @@ module _ (set : TaskSet) (ran : Ran) (h : History) where
             ∙ ap (λ m. sum_by f (unended after (guaranteed_in set cycle m after))) more;
         nexts = refl;
         soft = waiting-slot ran h;
-        points = points_to_horizon-turn cycle (planned set) own t n (cycle-positive set sound) (λ x at. own-near set h x sound legal at) next_cycle is;
+        points = points_to_horizon-turn cycle (planned set) own t n (cycle-positive set sound) (λ x at. own-near set h x sound told at) next_cycle is;
       }
 
 -- it is the scene of the history after the slot
@@ -157,8 +154,8 @@ with_next_cycle-inside set cycle scene odd =
     cond-false (scene.time % cycle == 0) (with_cycle set cycle (scene.time / cycle + 2) scene) scene (ne_eqb (scene.time % cycle) 0 odd)
 
 -- so a slot changes the scene by its step
-pub slot-follows : (set : TaskSet) (ran : Ran) (h : History) → is_sound set ≡ true → IsFeasible set (cycle_of set) → LegalEntries set (cycle_of set) (told_of_slot ran ∷ h) → IsSameScene (after_ran set (cycle_of set) ran (scene_of set (cycle_of set) h)) (scene_of set (cycle_of set) (told_of_slot ran ∷ h))
-slot-follows set ran h sound feasible legal =
+pub slot-follows : {S : Slots} (set : TaskSet) (ran : Ran) (h : History) → is_sound set ≡ true → Entries S set (cycle_of set) (told_of_slot ran ∷ h) → IsOwned set (time_of (told_of_slot ran ∷ h) / cycle_of set + 3) (told_of_slot ran ∷ h) → IsSameScene (after_ran set (cycle_of set) ran (scene_of set (cycle_of set) h)) (scene_of set (cycle_of set) (told_of_slot ran ∷ h))
+slot-follows set ran h sound told owned =
     subst
     (IsSameScene (after_ran set (cycle_of set) ran (scene_of set (cycle_of set) h)))
     (later-slot set ran h)
@@ -178,6 +175,6 @@ slot-follows set ran h sound feasible legal =
         let time = time_of-ran ran h in
         let number : (t + 1) / cycle + 2 ≡ n = ap (λ u. u / cycle + 2) (add-one t) ∙ omega arith in
         let comes = with_next_cycle-turn set cycle n next (ap (λ u. u % cycle) (add-one t) ∙ even) number in
-        let reaches : time_of (told_of_slot ran ∷ h) / cycle + 3 ≤ suc n = rw time (omega arith) in
-        let fresh = cycle-fresh set n (told_of_slot ran ∷ h) sound feasible legal reaches (omega (arith, past_now t cycle (cycle-positive set sound))) in
-        subst (λ s. IsSameScene s (later set ran h)) (sym comes) (slot-turn set ran h n sound (earlier-legal legal) next_cycle refl fresh)
+        let last : time_of (told_of_slot ran ∷ h) / cycle + 3 ≡ suc n = rw time (omega arith) in
+        let fresh = cycle-fresh set n (told_of_slot ran ∷ h) sound told (subst (λ m. IsOwned set m (told_of_slot ran ∷ h)) last owned) (omega (arith, past_now t cycle (cycle-positive set sound))) in
+        subst (λ s. IsSameScene s (later set ran h)) (sym comes) (slot-turn set ran h n sound (entries-before told) next_cycle refl fresh)

@@ -11,9 +11,9 @@ use Rattle.slot_core.specs.declared.jobs.SoftJob.{SoftJob}
 use Rattle.slot_core.specs.declared.events.Ran.{Ran}
 use Rattle.slot_core.specs.declared.events.Ran.TheVariants.{Idle as RanIdle, Key as RanKey}
 use Rattle.slot_core.specs.declared.events.What.TheVariants.{Run}
-use Rattle.slot_core.specs.Histories.{History, executed, is_freed, soft_jobs}
-use Rattle.slot_core.specs.Scenes.{soft_has_ended, soft_with_left, waiting_soft}
-use Rattle.slot_core.specs.Traces.{told_of_slot}
+use Rattle.slot_core.specs.Runs.Histories.{History, executed, is_freed, soft_jobs}
+use Rattle.slot_core.specs.Runs.Scenes.{soft_has_ended, soft_with_left, waiting_soft}
+use Rattle.slot_core.specs.Runs.Traces.{told_of_slot}
 use Rattle.scene_steps.specs.Steps.{soft_after_run, soft_after_slot}
 
 -- the soft jobs of a list that have not ended, with their slots left

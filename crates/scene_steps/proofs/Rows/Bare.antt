@@ -2,8 +2,8 @@
 use Rattle.std.proofs.Common.{◌≡◌, ℕ, pos, List, [], ◌∷◌, map, refl, sym, ap, ◌∙◌}
 use Rattle.slot_core.specs.declared.jobs.Job.{Job}
 use Rattle.slot_core.specs.declared.jobs.Span.{Span}
-use Rattle.slot_core.specs.Rising.{AreRising}
-use Rattle.slot_core.specs.Spans.{span_at, spans_between}
+use Rattle.slot_core.specs.Runs.Rising.{AreRising}
+use Rattle.slot_core.specs.Runs.Spans.{span_at, spans_between}
 use Rattle.spare_capacity.specs.Recurrence.{filled, first_spare, with_spare}
 use Rattle.interval_build.specs.Rows.{rows_between}
 use Rattle.interval_build.proofs.Filled.{AreDueAt-from_All, filled-rows_between}

@@ -3,7 +3,7 @@ use Rattle.std.proofs.Common.{◌≡◌, ℕ, ◌<◌, ◌≤◌, ◌⊎◌, con
 use Rattle.std.proofs.lemmas.Bool.{cond_both, cases_lt, cases_order, and_left, and_right}
 use Rattle.slot_core.specs.declared.jobs.Job.{Job}
 use Rattle.slot_core.specs.declared.jobs.Span.{Span}
-use Rattle.slot_core.specs.Rising.{AreRising, last_point}
+use Rattle.slot_core.specs.Runs.Rising.{AreRising, last_point}
 use Rattle.slot_facts.proofs.Lists.Apart.{above-from_rising}
 use Rattle.slot_facts.proofs.Lists.Members.{Has, AllByRecursion-from_Has, AllByRecursion-weaker}
 use Rattle.spare_capacity.specs.Recurrence.{filled}

@@ -5,11 +5,11 @@ use Rattle.std.proofs.lemmas.List.Sorted.{IsPermutation-refl, IsPermutation-sym}
 use Rattle.std.proofs.lemmas.List.Elements.{filter_agree}
 use Rattle.slot_core.specs.declared.jobs.Job.{Job}
 use Rattle.slot_core.specs.declared.tasks.TaskSet.{TaskSet}
-use Rattle.slot_core.specs.Cycles.{cycle_of}
-use Rattle.slot_core.specs.OfflineJobs.{cycle_jobs, later_job}
-use Rattle.slot_core.specs.Plans.{PlanParts, plan_spans, IsPlan}
-use Rattle.slot_core.specs.Rising.{AreRising, last_point}
-use Rattle.slot_core.specs.Spans.{spans_between}
+use Rattle.slot_core.specs.Sets.Cycles.{cycle_of}
+use Rattle.slot_core.specs.Offline.OfflineJobs.{cycle_jobs, later_job}
+use Rattle.slot_core.specs.Keeping.Plans.{PlanParts, plan_spans, IsPlan}
+use Rattle.slot_core.specs.Runs.Rising.{AreRising, last_point}
+use Rattle.slot_core.specs.Runs.Spans.{spans_between}
 use Rattle.slot_facts.proofs.Lists.Members.{Has, Has-append_cases, Has-append_left, Has-append_right, Has-filter, Has-range_with_len, AllByRecursion-at_Has, AllByRecursion-from_Has}
 use Rattle.slot_facts.proofs.Lists.Permuted.{Has-permuted}
 use Rattle.slot_facts.proofs.Offline.LaterJobs.{cycle_jobs-are_later, all_fit, later-due_after, later-due_by}

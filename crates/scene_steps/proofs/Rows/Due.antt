@@ -5,7 +5,7 @@ use Rattle.std.specs.List.{AllByRecursion}
 use Rattle.std.proofs.lemmas.Bool.Decides.{nat_tests}
 use Rattle.std.proofs.lemmas.List.Elements.{All-from_recursion, recursion_from_All}
 use Rattle.slot_core.specs.declared.jobs.Job.{Job}
-use Rattle.slot_core.specs.Demand.{work_between}
+use Rattle.slot_core.specs.Runs.Demand.{work_between}
 use Rattle.slot_facts.proofs.Lists.Members.{Has, Has-from_Contains, Contains-from_Has, AllByRecursion-at_Has, AllByRecursion-from_Has}
 use Rattle.interval_build.proofs.Due.{work_of_first, work_between-cons}
 use Rattle.scene_steps.specs.Rows.{AreDueAmong}

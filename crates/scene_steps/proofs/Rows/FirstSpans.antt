@@ -3,11 +3,11 @@ use Rattle.std.proofs.Common.{◌≡◌, ℕ, zero, suc, ◌+◌, ◌*◌, ◌/�
 use Rattle.std.proofs.Math.Nat.{zero-div}
 use Rattle.slot_core.specs.declared.jobs.Job.{Job}
 use Rattle.slot_core.specs.declared.tasks.TaskSet.{TaskSet}
-use Rattle.slot_core.specs.Cycles.{cycle_of}
-use Rattle.slot_core.specs.OfflineJobs.{offline_jobs}
-use Rattle.slot_core.specs.Plans.{PlanParts, plan_spans, IsPlan}
-use Rattle.slot_core.specs.Scenes.{horizon, scene_of}
-use Rattle.slot_core.specs.Spans.{spans_between, spans_of}
+use Rattle.slot_core.specs.Sets.Cycles.{cycle_of}
+use Rattle.slot_core.specs.Offline.OfflineJobs.{offline_jobs}
+use Rattle.slot_core.specs.Keeping.Plans.{PlanParts, plan_spans, IsPlan}
+use Rattle.slot_core.specs.Runs.Scenes.{horizon, scene_of}
+use Rattle.slot_core.specs.Runs.Spans.{spans_between, spans_of}
 use Rattle.slot_facts.proofs.Histories.Unended.{remaining-start}
 use Rattle.slot_facts.proofs.Lists.RangeFilters.{filter-parts}
 use Rattle.slot_facts.proofs.Offline.Jobs.{cycle-positive}

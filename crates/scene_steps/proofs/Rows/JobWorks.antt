@@ -7,10 +7,10 @@ use Rattle.std.proofs.lemmas.Bool.Decides.{nat_tests}
 use Rattle.std.proofs.lemmas.List.Sums.{sum_by-append}
 use Rattle.slot_core.specs.declared.jobs.Key.{Key}
 use Rattle.slot_core.specs.declared.jobs.Job.{Job}
-use Rattle.slot_core.specs.Demand.{work_between}
-use Rattle.slot_core.specs.Keys.{same_key}
-use Rattle.slot_core.specs.Kept.{AreApart}
-use Rattle.slot_core.specs.Safety.{after_run}
+use Rattle.slot_core.specs.Runs.Demand.{work_between}
+use Rattle.slot_core.specs.Offline.Keys.{same_key}
+use Rattle.slot_core.specs.Keeping.Kept.{AreApart}
+use Rattle.slot_core.specs.Claims.Safety.{after_run}
 use Rattle.slot_facts.proofs.Choice.Earliest.{same_from_key}
 use Rattle.slot_facts.proofs.Choice.Runs.{run_of_another, run_of_first, run_of_later}
 use Rattle.slot_facts.proofs.Lists.ApartKeys.{same_key-itself, IsApart-from_count}

@@ -5,7 +5,7 @@ use Rattle.std.specs.List.{AllByRecursion}
 use Rattle.std.proofs.lemmas.Bool.{cond_both, cases_eq, eqb-true, eqb-false}
 use Rattle.slot_core.specs.declared.jobs.Job.{Job}
 use Rattle.slot_core.specs.declared.jobs.Span.{Span}
-use Rattle.slot_core.specs.Rising.{AreRising, last_point}
+use Rattle.slot_core.specs.Runs.Rising.{AreRising, last_point}
 use Rattle.slot_facts.proofs.Lists.Apart.{above-from_rising, AreRising-lower}
 use Rattle.slot_facts.proofs.Lists.Members.{Has, Has-filter, AllByRecursion-at_Has, AllByRecursion-weaker}
 use Rattle.slot_facts.proofs.Lists.RangeFilters.{filter-all}

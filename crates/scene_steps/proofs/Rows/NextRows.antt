@@ -6,9 +6,9 @@ use Rattle.std.proofs.lemmas.List.{map-append}
 use Rattle.slot_core.specs.declared.jobs.Job.{Job}
 use Rattle.slot_core.specs.declared.jobs.Span.{Span}
 use Rattle.slot_core.specs.declared.tasks.TaskSet.{TaskSet}
-use Rattle.slot_core.specs.Demand.{work_between}
-use Rattle.slot_core.specs.OfflineJobs.{later_job}
-use Rattle.slot_core.specs.Rising.{AreRising, last_point}
+use Rattle.slot_core.specs.Runs.Demand.{work_between}
+use Rattle.slot_core.specs.Offline.OfflineJobs.{later_job}
+use Rattle.slot_core.specs.Runs.Rising.{AreRising, last_point}
 use Rattle.slot_facts.proofs.Lists.Maps.{map-map}
 use Rattle.slot_facts.proofs.Lists.Members.{AllByRecursion-weaker}
 use Rattle.spare_capacity.specs.Recurrence.{last_end}

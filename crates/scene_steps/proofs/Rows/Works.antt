@@ -5,8 +5,8 @@ use Rattle.std.proofs.lemmas.Bool.{cond_both}
 use Rattle.std.proofs.lemmas.Bool.Decides.{nat_tests}
 use Rattle.slot_core.specs.declared.jobs.Job.{Job}
 use Rattle.slot_core.specs.declared.jobs.Span.{Span}
-use Rattle.slot_core.specs.Demand.{work_between}
-use Rattle.slot_core.specs.Rising.{AreRising, last_point}
+use Rattle.slot_core.specs.Runs.Demand.{work_between}
+use Rattle.slot_core.specs.Runs.Rising.{AreRising, last_point}
 use Rattle.slot_facts.proofs.Lists.Apart.{above-from_rising}
 use Rattle.slot_facts.proofs.Lists.Members.{Has, Has-from_Contains}
 use Rattle.spare_capacity.specs.Recurrence.{filled}

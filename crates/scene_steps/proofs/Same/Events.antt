@@ -2,16 +2,16 @@
 use Rattle.std.proofs.Common.{◌≡◌, ℕ, true, ◌∷◌, sym, ap, ◌∙◌, subst, arith}
 use Rattle.slot_core.specs.declared.tasks.TaskSet.{TaskSet}
 use Rattle.slot_core.specs.declared.events.What.{What}
-use Rattle.slot_core.specs.Cycles.{cycle_of}
-use Rattle.slot_core.specs.Executives.{Executive, StandsFor, StandsForSome, Does, Shows}
-use Rattle.slot_core.specs.Feasible.{IsFeasible}
-use Rattle.slot_core.specs.Histories.{History, last_row}
-use Rattle.slot_core.specs.Matches.{IsSameScene, MatchesHistory}
-use Rattle.slot_core.specs.Plans.{PlanParts, IsPlan}
-use Rattle.slot_core.specs.Ranges.{is_sound}
-use Rattle.slot_core.specs.Scenes.{Scene, scene_of}
-use Rattle.slot_core.specs.Spans.{shown_of}
-use Rattle.slot_core.specs.Traces.{Occurrence, arrive, slot, told_of, MayCome, IsLegal}
+use Rattle.slot_core.specs.Sets.Cycles.{cycle_of}
+use Rattle.slot_core.specs.Keeping.Executives.{Executive, StandsFor, StandsForSome, Does, Shows}
+use Rattle.slot_core.specs.Feasibility.Feasible.{IsFeasible}
+use Rattle.slot_core.specs.Runs.Histories.{History, last_row}
+use Rattle.slot_core.specs.Runs.Matches.{IsSameScene, MatchesHistory}
+use Rattle.slot_core.specs.Keeping.Plans.{PlanParts, IsPlan}
+use Rattle.slot_core.specs.Sets.Ranges.{is_sound}
+use Rattle.slot_core.specs.Runs.Scenes.{Scene, scene_of}
+use Rattle.slot_core.specs.Runs.Spans.{shown_of}
+use Rattle.slot_core.specs.Runs.Traces.{Occurrence, arrive, slot, told_of, MayCome, IsLegal}
 use Rattle.slot_facts.proofs.Legal.Executives.{every_executive_is_kept}
 use Rattle.slot_facts.proofs.Legal.Traces.{legal-due}
 use Rattle.scene_steps.specs.Steps.{scene_after, row_after, told_in, MayComeAfter}

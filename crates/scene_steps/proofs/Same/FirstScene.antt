@@ -4,14 +4,14 @@ use Rattle.std.specs.Prelude.{sum_by}
 use Rattle.std.specs.List.{range_with_len, enumerate_from}
 use Rattle.slot_core.specs.declared.tasks.Sporadic.{Sporadic}
 use Rattle.slot_core.specs.declared.tasks.TaskSet.{TaskSet}
-use Rattle.slot_core.specs.Cycles.{cycle_of}
-use Rattle.slot_core.specs.Executives.{Executive, StandsFor}
-use Rattle.slot_core.specs.Histories.{next_arrival}
-use Rattle.slot_core.specs.Matches.{IsSameScene}
-use Rattle.slot_core.specs.Plans.{IsPlan}
-use Rattle.slot_core.specs.Ranges.{is_sound}
-use Rattle.slot_core.specs.Scenes.{scene_of, points_of}
-use Rattle.slot_core.specs.Traces.{started}
+use Rattle.slot_core.specs.Sets.Cycles.{cycle_of}
+use Rattle.slot_core.specs.Keeping.Executives.{Executive, StandsFor}
+use Rattle.slot_core.specs.Runs.Histories.{next_arrival}
+use Rattle.slot_core.specs.Runs.Matches.{IsSameScene}
+use Rattle.slot_core.specs.Keeping.Plans.{IsPlan}
+use Rattle.slot_core.specs.Sets.Ranges.{is_sound}
+use Rattle.slot_core.specs.Runs.Scenes.{scene_of, points_of}
+use Rattle.slot_core.specs.Runs.Traces.{started}
 use Rattle.slot_facts.proofs.Histories.Unended.{remaining-start}
 use Rattle.slot_facts.proofs.Lists.RangeFilters.{filter-parts}
 use Rattle.slot_facts.proofs.Plans.SetPoints.{points_of-start, is_plan_point}

@@ -17,11 +17,11 @@ use Rattle.slot_core.specs.declared.events.Firm.TheVariants.{Accepted, Late, Far
 use Rattle.slot_core.specs.declared.events.Spo.TheVariants.{Taken as SporadicTaken, Soon}
 use Rattle.slot_core.specs.declared.events.Done.TheVariants.{Freed, NotRunning}
 use Rattle.slot_core.specs.declared.events.Gone.TheVariants.{Freed as GoneFreed, NoJob}
-use Rattle.slot_core.specs.Answers.{soft_answer, firm_answer, relative_deadline, sporadic_answer, started_jobs, done_answer, withdraw_answer, answer}
-use Rattle.slot_core.specs.Kept.{AreApart}
-use Rattle.slot_core.specs.Keys.{same_key}
-use Rattle.slot_core.specs.Matches.{HaveSameItems, IsSameScene}
-use Rattle.slot_core.specs.Scenes.{Scene}
+use Rattle.slot_core.specs.Runs.Answers.{soft_answer, firm_answer, relative_deadline, sporadic_answer, started_jobs, done_answer, withdraw_answer, answer}
+use Rattle.slot_core.specs.Keeping.Kept.{AreApart}
+use Rattle.slot_core.specs.Offline.Keys.{same_key}
+use Rattle.slot_core.specs.Runs.Matches.{HaveSameItems, IsSameScene}
+use Rattle.slot_core.specs.Runs.Scenes.{Scene}
 use Rattle.slot_facts.proofs.Lists.Apart.{IsApart-filter}
 use Rattle.slot_facts.proofs.Lists.ApartKeys.{IsApart-from_count}
 use Rattle.slot_facts.proofs.Lists.SameItems.{same-filter}

@@ -4,12 +4,12 @@ use Rattle.std.specs.Prelude.{find, nat_le, nat_lt}
 use Rattle.std.specs.List.{list_all, range_with_len}
 use Rattle.slot_core.specs.declared.jobs.Job.{Job}
 use Rattle.slot_core.specs.declared.tasks.Sporadic.{Sporadic}
-use Rattle.slot_core.specs.Answers.{first_overload, evidence_at}
-use Rattle.slot_core.specs.Choice.{soft_may_run}
-use Rattle.slot_core.specs.Demand.{need_by, is_overloaded}
-use Rattle.slot_core.specs.Matches.{IsSameScene}
-use Rattle.slot_core.specs.Scenes.{Scene, horizon}
-use Rattle.slot_core.specs.Sporadics.{sporadic_demand}
+use Rattle.slot_core.specs.Runs.Answers.{first_overload, evidence_at}
+use Rattle.slot_core.specs.Runs.Choice.{soft_may_run}
+use Rattle.slot_core.specs.Runs.Demand.{need_by, is_overloaded}
+use Rattle.slot_core.specs.Runs.Matches.{IsSameScene}
+use Rattle.slot_core.specs.Runs.Scenes.{Scene, horizon}
+use Rattle.slot_core.specs.Feasibility.Sporadics.{sporadic_demand}
 
 -- the same is needed by each time, where arrivals are counted from the same time on
 need_from-same : (sporadics : List Sporadic) (a b : Scene) (r s x : ℕ) → r ≡ s → IsSameScene a b → need_by sporadics a r x ≡ need_by sporadics b s x

@@ -1,7 +1,7 @@
 -- That scenes are the same is an equivalence.
 use Rattle.std.proofs.Common.{List, refl, sym, ◌∙◌}
-use Rattle.slot_core.specs.Scenes.{Scene}
-use Rattle.slot_core.specs.Matches.{HaveSameItems, IsSameScene}
+use Rattle.slot_core.specs.Runs.Scenes.{Scene}
+use Rattle.slot_core.specs.Runs.Matches.{HaveSameItems, IsSameScene}
 use Rattle.slot_facts.proofs.Lists.SameItems.{same-sym}
 
 -- a list has the same items as itself

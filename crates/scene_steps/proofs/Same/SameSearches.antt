@@ -4,8 +4,8 @@ use Rattle.std.specs.Prelude.{find, option_map}
 use Rattle.std.proofs.lemmas.Bool.{both_ways}
 use Rattle.slot_core.specs.declared.jobs.Key.{Key}
 use Rattle.slot_core.specs.declared.jobs.Job.{Job}
-use Rattle.slot_core.specs.Keys.{same_key}
-use Rattle.slot_core.specs.Matches.{HaveSameItems}
+use Rattle.slot_core.specs.Offline.Keys.{same_key}
+use Rattle.slot_core.specs.Runs.Matches.{HaveSameItems}
 use Rattle.slot_facts.proofs.Choice.Earliest.{same_from_key}
 use Rattle.slot_facts.proofs.Lists.ApartKeys.{same_member-from_apart}
 use Rattle.slot_facts.proofs.Lists.Members.{Has}

@@ -1,9 +1,9 @@
 -- Scenes that are the same have the same spans.
 use Rattle.std.proofs.Common.{◌≡◌, ℕ, ◌-◌, List, length, take, ◌∙◌}
 use Rattle.slot_core.specs.declared.TheConstants.{SHOWN_LIMIT}
-use Rattle.slot_core.specs.Scenes.{Scene, horizon}
-use Rattle.slot_core.specs.Spans.{spans_between, spans_of, shown_of}
-use Rattle.slot_core.specs.Matches.{IsSameScene}
+use Rattle.slot_core.specs.Runs.Scenes.{Scene, horizon}
+use Rattle.slot_core.specs.Runs.Spans.{spans_between, spans_of, shown_of}
+use Rattle.slot_core.specs.Runs.Matches.{IsSameScene}
 use Rattle.slot_facts.proofs.Plans.SpanSums.{spans_between-same}
 
 -- between the same points, or the first of them, there are the same spans

@@ -16,11 +16,11 @@ use Rattle.slot_core.specs.declared.events.Done.TheVariants.{Freed, NotRunning}
 use Rattle.slot_core.specs.declared.events.Gone.TheVariants.{Freed as GoneFreed, NoJob}
 use Rattle.slot_core.specs.declared.events.Ran.{Ran}
 use Rattle.slot_core.specs.declared.events.Ran.TheVariants.{Idle as RanIdle, Key as RanKey}
-use Rattle.slot_core.specs.Keys.{same_key}
-use Rattle.slot_core.specs.OfflineJobs.{cycle_jobs}
-use Rattle.slot_core.specs.Histories.{offered_job, sporadic_job}
-use Rattle.slot_core.specs.Scenes.{Scene}
-use Rattle.slot_core.specs.Matches.{IsSameScene}
+use Rattle.slot_core.specs.Offline.Keys.{same_key}
+use Rattle.slot_core.specs.Offline.OfflineJobs.{cycle_jobs}
+use Rattle.slot_core.specs.Runs.Histories.{offered_job, sporadic_job}
+use Rattle.slot_core.specs.Runs.Scenes.{Scene}
+use Rattle.slot_core.specs.Runs.Matches.{IsSameScene}
 use Rattle.slot_facts.proofs.Lists.SameItems.{same-append, same-filter, same-after_slot}
 use Rattle.scene_steps.specs.Steps.{soft_after_slot, one_slot_later, points_in_cycle, with_cycle, with_next_cycle, after_ran, with_soft, with_point, with_job, separation_of, with_arrival, without, scene_after}
 use Rattle.scene_steps.proofs.Same.SameScenes.{same-refl}

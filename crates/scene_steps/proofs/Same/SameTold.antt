@@ -1,10 +1,10 @@
 -- In scenes that are the same, and whose keys are apart, the same is told of each occurrence.
 use Rattle.std.proofs.Common.{◌≡◌, ℕ, ap}
 use Rattle.slot_core.specs.declared.tasks.TaskSet.{TaskSet}
-use Rattle.slot_core.specs.Kept.{AreApart}
-use Rattle.slot_core.specs.Matches.{IsSameScene}
-use Rattle.slot_core.specs.Scenes.{Scene}
-use Rattle.slot_core.specs.Traces.{Occurrence, arrive, slot, told_of_slot}
+use Rattle.slot_core.specs.Keeping.Kept.{AreApart}
+use Rattle.slot_core.specs.Runs.Matches.{IsSameScene}
+use Rattle.slot_core.specs.Runs.Scenes.{Scene}
+use Rattle.slot_core.specs.Runs.Traces.{Occurrence, arrive, slot, told_of_slot}
 use Rattle.scene_steps.specs.Steps.{told_in}
 use Rattle.scene_steps.proofs.Same.SameAnswers.{answer-same}
 use Rattle.scene_steps.proofs.Same.SameChoices.{choice-same}

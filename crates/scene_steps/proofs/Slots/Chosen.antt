@@ -6,12 +6,12 @@ use Rattle.slot_core.specs.declared.jobs.Key.TheVariants.{Soft as SoftKey}
 use Rattle.slot_core.specs.declared.jobs.Job.{Job}
 use Rattle.slot_core.specs.declared.jobs.SoftJob.{SoftJob}
 use Rattle.slot_core.specs.declared.events.Ran.TheVariants.{Key as RanKey}
-use Rattle.slot_core.specs.Choice.{choice, earliest_ready, soft_may_run}
-use Rattle.slot_core.specs.Executives.{Executive, StandsForSome}
-use Rattle.slot_core.specs.Keys.{is_soft}
-use Rattle.slot_core.specs.Kept.{KeepsSoftOrder}
-use Rattle.slot_core.specs.Plans.{IsPlan}
-use Rattle.slot_core.specs.Safety.{after_run}
+use Rattle.slot_core.specs.Runs.Choice.{choice, earliest_ready, soft_may_run}
+use Rattle.slot_core.specs.Keeping.Executives.{Executive, StandsForSome}
+use Rattle.slot_core.specs.Offline.Keys.{is_soft}
+use Rattle.slot_core.specs.Keeping.Kept.{KeepsSoftOrder}
+use Rattle.slot_core.specs.Keeping.Plans.{IsPlan}
+use Rattle.slot_core.specs.Claims.Safety.{after_run}
 use Rattle.slot_facts.proofs.Legal.Executives.{every_executive_is_kept}
 use Rattle.slot_facts.proofs.Lists.Members.{Has, Contains-from_Has}
 use Rattle.scene_steps.specs.Steps.{soft_after_run}

@@ -5,12 +5,12 @@ use Rattle.std.proofs.lemmas.Bool.{cond_both}
 use Rattle.slot_core.specs.declared.jobs.Job.{Job}
 use Rattle.slot_core.specs.declared.jobs.Span.{Span}
 use Rattle.slot_core.specs.declared.tasks.TaskSet.{TaskSet}
-use Rattle.slot_core.specs.Cycles.{cycle_of}
-use Rattle.slot_core.specs.Matches.{HaveSameItems, IsSameScene}
-use Rattle.slot_core.specs.OfflineJobs.{cycle_jobs, later_job}
-use Rattle.slot_core.specs.Plans.{PlanParts, IsPlan}
-use Rattle.slot_core.specs.Scenes.{Scene, horizon}
-use Rattle.slot_core.specs.Spans.{spans_between, spans_of}
+use Rattle.slot_core.specs.Sets.Cycles.{cycle_of}
+use Rattle.slot_core.specs.Runs.Matches.{HaveSameItems, IsSameScene}
+use Rattle.slot_core.specs.Offline.OfflineJobs.{cycle_jobs, later_job}
+use Rattle.slot_core.specs.Keeping.Plans.{PlanParts, IsPlan}
+use Rattle.slot_core.specs.Runs.Scenes.{Scene, horizon}
+use Rattle.slot_core.specs.Runs.Spans.{spans_between, spans_of}
 use Rattle.slot_facts.proofs.Lists.SameItems.{same-append, same-from_permutation, same-sym}
 use Rattle.slot_facts.proofs.Offline.LaterJobs.{later-permutation}
 use Rattle.scene_steps.specs.Steps.{with_cycle, with_next_cycle}

@@ -3,17 +3,17 @@ use Rattle.std.proofs.Common.{◌≡◌, ℕ, ◌+◌, ◌*◌, ◌/◌, ◌%◌
 use Rattle.std.specs.Prelude.{count_by}
 use Rattle.std.proofs.lemmas.List.{length-append, length-map}
 use Rattle.slot_core.specs.declared.jobs.Job.{Job}
-use Rattle.slot_core.specs.Choice.{choice}
-use Rattle.slot_core.specs.Executives.{Executive, StandsForSome}
-use Rattle.slot_core.specs.Keys.{same_key}
-use Rattle.slot_core.specs.Kept.{AreApart}
-use Rattle.slot_core.specs.Matches.{HaveSameItems}
-use Rattle.slot_core.specs.OfflineJobs.{cycle_jobs, later_job}
-use Rattle.slot_core.specs.Plans.{IsPlan}
-use Rattle.slot_core.specs.Rising.{last_point}
-use Rattle.slot_core.specs.Safety.{after_slot}
-use Rattle.slot_core.specs.Scenes.{horizon}
-use Rattle.slot_core.specs.Spans.{spans_between, spans_of}
+use Rattle.slot_core.specs.Runs.Choice.{choice}
+use Rattle.slot_core.specs.Keeping.Executives.{Executive, StandsForSome}
+use Rattle.slot_core.specs.Offline.Keys.{same_key}
+use Rattle.slot_core.specs.Keeping.Kept.{AreApart}
+use Rattle.slot_core.specs.Runs.Matches.{HaveSameItems}
+use Rattle.slot_core.specs.Offline.OfflineJobs.{cycle_jobs, later_job}
+use Rattle.slot_core.specs.Keeping.Plans.{IsPlan}
+use Rattle.slot_core.specs.Runs.Rising.{last_point}
+use Rattle.slot_core.specs.Claims.Safety.{after_slot}
+use Rattle.slot_core.specs.Runs.Scenes.{horizon}
+use Rattle.slot_core.specs.Runs.Spans.{spans_between, spans_of}
 use Rattle.slot_facts.proofs.Lists.ApartKeys.{same_key-itself}
 use Rattle.slot_facts.proofs.Lists.Members.{Has}
 use Rattle.slot_facts.proofs.Lists.SameItems.{counted, same-append}

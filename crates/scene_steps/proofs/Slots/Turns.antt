@@ -6,16 +6,16 @@ use Rattle.slot_core.specs.declared.jobs.Job.{Job}
 use Rattle.slot_core.specs.declared.events.Ran.{Ran}
 use Rattle.slot_core.specs.declared.events.Ran.TheVariants.{Idle as RanIdle, Key as RanKey}
 use Rattle.slot_core.specs.declared.tasks.TaskSet.{TaskSet}
-use Rattle.slot_core.specs.Choice.{choice}
-use Rattle.slot_core.specs.Executives.{Executive, StandsForSome, Does}
-use Rattle.slot_core.specs.Matches.{IsSameScene}
-use Rattle.slot_core.specs.OfflineJobs.{cycle_jobs}
-use Rattle.slot_core.specs.Plans.{IsPlan}
-use Rattle.slot_core.specs.Rising.{last_point}
-use Rattle.slot_core.specs.Safety.{after_slot}
-use Rattle.slot_core.specs.Scenes.{Scene}
-use Rattle.slot_core.specs.Spans.{spans_between, spans_of}
-use Rattle.slot_core.specs.Traces.{slot, told_of_slot}
+use Rattle.slot_core.specs.Runs.Choice.{choice}
+use Rattle.slot_core.specs.Keeping.Executives.{Executive, StandsForSome, Does}
+use Rattle.slot_core.specs.Runs.Matches.{IsSameScene}
+use Rattle.slot_core.specs.Offline.OfflineJobs.{cycle_jobs}
+use Rattle.slot_core.specs.Keeping.Plans.{IsPlan}
+use Rattle.slot_core.specs.Runs.Rising.{last_point}
+use Rattle.slot_core.specs.Claims.Safety.{after_slot}
+use Rattle.slot_core.specs.Runs.Scenes.{Scene}
+use Rattle.slot_core.specs.Runs.Spans.{spans_between, spans_of}
+use Rattle.slot_core.specs.Runs.Traces.{slot, told_of_slot}
 use Rattle.slot_facts.proofs.Plans.Horizons.{next_slot, inside, turn}
 use Rattle.slot_facts.proofs.Plans.Items.{plan_cycle-bounds}
 use Rattle.spare_capacity.specs.Recurrence.{filled}

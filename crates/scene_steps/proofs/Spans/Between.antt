@@ -6,9 +6,9 @@ use Rattle.std.proofs.lemmas.Bool.{cases_eq, cases_lt, cond-true, cond-false, eq
 use Rattle.std.proofs.lemmas.Int.{ints}
 use Rattle.slot_core.specs.declared.jobs.Job.{Job}
 use Rattle.slot_core.specs.declared.jobs.Span.{Span}
-use Rattle.slot_core.specs.Demand.{work_by, work_between}
-use Rattle.slot_core.specs.Rising.{AreRising, last_point}
-use Rattle.slot_core.specs.Spans.{slack, span_at, spans_between}
+use Rattle.slot_core.specs.Runs.Demand.{work_by, work_between}
+use Rattle.slot_core.specs.Runs.Rising.{AreRising, last_point}
+use Rattle.slot_core.specs.Runs.Spans.{slack, span_at, spans_between}
 use Rattle.slot_facts.proofs.Lists.Members.{Has, AllByRecursion-from_Has, AllByRecursion-weaker}
 use Rattle.slot_facts.proofs.Lists.Apart.{above-from_rising}
 use Rattle.slot_facts.proofs.Lists.MemberSums.{term-le_sum_by}

@@ -5,10 +5,10 @@ use Rattle.std.specs.List.{AllByRecursion}
 use Rattle.slot_core.specs.declared.TheConstants.{OFFER_LIMIT}
 use Rattle.slot_core.specs.declared.jobs.Job.{Job}
 use Rattle.slot_core.specs.declared.jobs.Span.{Span}
-use Rattle.slot_core.specs.Demand.{work_by}
-use Rattle.slot_core.specs.Executives.{Executive, StandsForSome}
-use Rattle.slot_core.specs.Plans.{IsPlan}
-use Rattle.slot_core.specs.Spans.{spans_between, spans_of}
+use Rattle.slot_core.specs.Runs.Demand.{work_by}
+use Rattle.slot_core.specs.Keeping.Executives.{Executive, StandsForSome}
+use Rattle.slot_core.specs.Keeping.Plans.{IsPlan}
+use Rattle.slot_core.specs.Runs.Spans.{spans_between, spans_of}
 use Rattle.slot_facts.proofs.Legal.Executives.{every_executive_is_kept}
 use Rattle.slot_facts.proofs.Lists.Members.{Contains-from_Has, Has}
 use Rattle.slot_facts.proofs.Plans.Items.{plan_cycle-bounds}
@@ -17,7 +17,7 @@ use Rattle.spare_capacity.specs.Recurrence.{first_spare, last_end, FollowOn}
 use Rattle.interval_row.specs.Changes.{span_ending}
 use Rattle.spare_capacity.specs.PlanSpans.{AreProper}
 use Rattle.scene_steps.specs.Steps.{with_point}
-use Rattle.slot_core.specs.Scenes.{horizon}
+use Rattle.slot_core.specs.Runs.Scenes.{horizon}
 use Rattle.scene_steps.proofs.Spans.MorePoints.{charge-with_point}
 use Rattle.scene_steps.proofs.Spans.Proper.{AreProper-scene, charge-proper, deadline-by_end, few_spans-proper, first_spare-proper, FollowOn-scene, work_at-proper, horizon-at_least, last_end-near, last_end-proper, next_slot-before_end, span_works-proper, give_back-proper, work_until-proper}
 use Rattle.scene_steps.proofs.Spans.Turns.{append-fits, append-near}

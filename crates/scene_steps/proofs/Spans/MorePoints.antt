@@ -6,10 +6,10 @@ use Rattle.slot_core.specs.declared.TheConstants.{OFFER_LIMIT, SLOT_LIMIT}
 use Rattle.slot_core.specs.declared.jobs.Job.{Job}
 use Rattle.slot_core.specs.declared.jobs.Span.{Span}
 use Rattle.slot_core.specs.declared.tasks.TaskSet.{TaskSet}
-use Rattle.slot_core.specs.Kept.{KeepsBounds}
-use Rattle.slot_core.specs.Scenes.{Scene, horizon}
+use Rattle.slot_core.specs.Keeping.Kept.{KeepsBounds}
+use Rattle.slot_core.specs.Runs.Scenes.{Scene, horizon}
 use Rattle.slot_facts.proofs.Lists.Members.{AllByRecursion-from_Has, Contains-from_Has}
-use Rattle.slot_core.specs.Spans.{spans_of}
+use Rattle.slot_core.specs.Runs.Spans.{spans_of}
 use Rattle.interval_row.specs.Changes.{span_ending}
 use Rattle.scene_steps.specs.Scenes.{IsProperScene}
 use Rattle.scene_steps.specs.Steps.{with_point}

@@ -10,10 +10,10 @@ use Rattle.slot_core.specs.declared.TheConstants.{OFFER_LIMIT, SLOT_LIMIT}
 use Rattle.slot_core.specs.declared.jobs.Job.{Job}
 use Rattle.slot_core.specs.declared.jobs.Span.{Span}
 use Rattle.slot_core.specs.declared.tasks.TaskSet.{TaskSet}
-use Rattle.slot_core.specs.Demand.{work_by, work_between}
-use Rattle.slot_core.specs.Kept.{KeepsBounds}
-use Rattle.slot_core.specs.Scenes.{Scene, horizon}
-use Rattle.slot_core.specs.Spans.{slack, spans_between, spans_of}
+use Rattle.slot_core.specs.Runs.Demand.{work_by, work_between}
+use Rattle.slot_core.specs.Keeping.Kept.{KeepsBounds}
+use Rattle.slot_core.specs.Runs.Scenes.{Scene, horizon}
+use Rattle.slot_core.specs.Runs.Spans.{slack, spans_between, spans_of}
 use Rattle.slot_facts.proofs.Lists.Members.{Contains-from_Has, Has, Has-from_Contains}
 use Rattle.slot_facts.proofs.Plans.FirstSpans.{length-spans}
 use Rattle.spare_capacity.specs.Laws.{work_until}

@@ -7,9 +7,9 @@ use Rattle.std.proofs.lemmas.List.Elements.{All-get_or}
 use Rattle.std.proofs.lemmas.List.Sums.{sum_by-append, sum_by_more_le}
 use Rattle.std.proofs.lemmas.Map.Views.{All-map-IsPermutation}
 use Rattle.slot_core.specs.declared.jobs.Job.{Job}
-use Rattle.slot_core.specs.Keys.{same_key}
-use Rattle.slot_core.specs.Kept.{AreApart}
-use Rattle.slot_core.specs.Matches.{HaveSameItems}
+use Rattle.slot_core.specs.Offline.Keys.{same_key}
+use Rattle.slot_core.specs.Keeping.Kept.{AreApart}
+use Rattle.slot_core.specs.Runs.Matches.{HaveSameItems}
 use Rattle.slot_facts.proofs.Lists.ApartKeys.{same_key-itself}
 use Rattle.slot_facts.proofs.Lists.SameItems.{same-append, same-from_permutation, same-map, same-sym}
 use Rattle.slot_facts.proofs.Lists.Sums.{sum_by-map}

@@ -5,11 +5,11 @@ use Rattle.std.proofs.Math.Nat.{mul-le-mul_right}
 use Rattle.std.proofs.lemmas.List.{length-append, length-map}
 use Rattle.std.proofs.lemmas.List.Sorted.{All-permutation}
 use Rattle.slot_core.specs.declared.jobs.Job.{Job}
-use Rattle.slot_core.specs.Keys.{is_soft}
-use Rattle.slot_core.specs.Kept.{AreApart}
-use Rattle.slot_core.specs.Matches.{HaveSameItems}
-use Rattle.slot_core.specs.OfflineJobs.{cycle_jobs, later_job, offline_jobs}
-use Rattle.slot_core.specs.Plans.{PlanParts, IsPlan}
+use Rattle.slot_core.specs.Offline.Keys.{is_soft}
+use Rattle.slot_core.specs.Keeping.Kept.{AreApart}
+use Rattle.slot_core.specs.Runs.Matches.{HaveSameItems}
+use Rattle.slot_core.specs.Offline.OfflineJobs.{cycle_jobs, later_job, offline_jobs}
+use Rattle.slot_core.specs.Keeping.Plans.{PlanParts, IsPlan}
 use Rattle.slot_facts.proofs.Lists.ApartKeys.{AreApart-from_members}
 use Rattle.slot_facts.proofs.Lists.SameItems.{jobs-same_items, same-append, same-from_permutation, same-sym}
 use Rattle.slot_facts.proofs.Offline.DistinctKeys.{offline_jobs-apart}

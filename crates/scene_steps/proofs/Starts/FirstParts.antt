@@ -2,12 +2,12 @@
 use Rattle.std.proofs.Common.{◌≡◌, [], map, sym, ap, ◌∙◌, subst}
 use Rattle.slot_core.specs.declared.jobs.Span.{Span}
 use Rattle.slot_core.specs.declared.tasks.Sporadic.{Sporadic}
-use Rattle.slot_core.specs.Executives.{Executive, StandsFor}
-use Rattle.slot_core.specs.Matches.{HaveSameItems, IsSameScene}
-use Rattle.slot_core.specs.Plans.{PlanParts, IsPlan}
-use Rattle.slot_core.specs.Scenes.{horizon, scene_of}
-use Rattle.slot_core.specs.Spans.{spans_of}
-use Rattle.slot_core.specs.Traces.{started}
+use Rattle.slot_core.specs.Keeping.Executives.{Executive, StandsFor}
+use Rattle.slot_core.specs.Runs.Matches.{HaveSameItems, IsSameScene}
+use Rattle.slot_core.specs.Keeping.Plans.{PlanParts, IsPlan}
+use Rattle.slot_core.specs.Runs.Scenes.{horizon, scene_of}
+use Rattle.slot_core.specs.Runs.Spans.{spans_of}
+use Rattle.slot_core.specs.Runs.Traces.{started}
 use Rattle.interval_row.specs.Changes.{copies_of}
 use Rattle.scene_steps.specs.Steps.{first_scene}
 use Rattle.scene_steps.proofs.Rows.FirstSpans.{spans-first}

@@ -1,6 +1,6 @@
 use Rattle.std.proofs.Common.{Some, Err, refl, ap, ◌∙◌}
-use Rattle.table_codec.specs.declared.faults.TableFault.TheVariants.{Infeasible as NoPlan}
-use Rattle.run_outcome.specs.declared.refusal.Refusal.TheVariants.{TooLarge, BadTasks, Infeasible, BadTable, BadArrivals}
+use Rattle.table_faults.specs.declared.faults.TableFault.TheVariants.{Infeasible as NoPlan}
+use Rattle.run_outcome.specs.declared.refusal.Refusal.TheVariants.{TooLarge, BadTasks, Infeasible, BadTable, BadArrivals, NotVerified}
 use Rattle.run_outcome.specs.declared.status.Status.{Status}
 use Rattle.run_outcome.specs.Refusals.{is_found}
 use Rattle.slot_cli.specs.Commands.{command_of}
@@ -84,6 +84,12 @@ returns-in-Err-clause-bad_arrivals g c =
     λ status.
     let (fault, is) = status-tells _ Status.BadArrivals c.report.result c.status.ensures status in
     told-due BadArrivals fault (g.F.Files.held c.args.files.now) (command_of c.args.words.now) (λ files. expected files c.args.words.now) c.in-Err.refusal c.report.result refl is c.report.ensures.kept c.in-Err.ensures.answers
+
+pub returns-in-Err-clause-not_verified : goal.returns-in-Err-clause-not_verified
+returns-in-Err-clause-not_verified g c =
+    λ status.
+    let (reason, is) = status-tells _ Status.NotVerified c.report.result c.status.ensures status in
+    told-due NotVerified reason (g.F.Files.held c.args.files.now) (command_of c.args.words.now) (λ files. expected files c.args.words.now) c.in-Err.refusal c.report.result refl is c.report.ensures.kept c.in-Err.ensures.answers
 
 pub returns-in-Err-clause-served : goal.returns-in-Err-clause-served
 returns-in-Err-clause-served g c =

@@ -1,15 +1,15 @@
 //! What an executive consists of, and how often offers and soft work read its table.
 
 ghost use Rattle.std.specs.Prelude.{◌≡◌, ◌<◌, true};
-ghost use Rattle.slot_core.specs.Ranges.{is_sound};
+ghost use Rattle.slot_core.specs.Sets.Ranges.{is_sound};
 
 use crate::Exec;
+use crate::exec::test_sets::{alarm_set, flight_set, row_set};
 use circular_buffer::HeapCircularBuffer;
 use cycle_plan::{Plan, make_plan};
 use guarantee::{Answer, test};
 use interval_row::{ChainTable, RowTable, SpareTable, Spot};
 use job_queue::JobQueue;
-use sample_sets::{alarm_set, pair_set, unmanned_flight_set};
 use slot_core::{Firm, Key, Memory, Ran, Soft, SoftJob, Span, Steps, TaskSet};
 use sporadic_reserve::Reserve;
 use std::alloc::Global;
@@ -21,9 +21,9 @@ use std::test::Fail;
 
 #[test]
 fn fields_are_whole(rt: HostRuntime) -> Result<(), Fail> {
-    let rows: Exec<RowTable> = start(rt.alloc(), pair_set(rt.alloc())?)?;
+    let rows: Exec<RowTable> = start(rt.alloc(), row_set(rt.alloc())?)?;
     named(&rt, rows);
-    let chain: Exec<ChainTable> = start(rt.alloc(), pair_set(rt.alloc())?)?;
+    let chain: Exec<ChainTable> = start(rt.alloc(), row_set(rt.alloc())?)?;
     named(&rt, chain);
     Ok(())
 }
@@ -48,9 +48,9 @@ fn named<R: Abort, T: SpareTable>(rt: &R, exec: Exec<T>) {
     let soft: HeapCircularBuffer<SoftJob> = soft;
     let last_row: u32 = last_row;
     let (free, tight, due): (u64, u64, u64) = (free, tight, due);
-    assert_eq!(rt; (plan.cycle(), table.time(), last_row), (8, 0, 0));
-    assert_eq!(rt; (reserve.is_empty(), queue.len(), soft.len()), (true, 6, 0));
-    assert_eq!(rt; (free, tight, due), (0, 0, 0));
+    let times = (plan.cycle(), table.time(), last_row);
+    let kept = (reserve.is_empty(), queue.len(), soft.len());
+    assert!(rt; times == (8, 0, 0) && kept == (true, 9, 0) && (free, tight, due) == (0, 0, 0));
 }
 
 /// The executive of a set before the first slot.
@@ -83,24 +83,39 @@ fn reads<R: Abort, L: Ledger, T: SpareTable>(
     requires some { 0 < L.parts }
 {
     let mut steps: Steps<L> = Steps::new(blank);
-    let plan = make_plan(alloc, unmanned_flight_set(alloc)?)
-        .ok()
-        .ok_or("no plan")?;
+    let plan = make_plan(alloc, flight_set(alloc)?).ok().ok_or("no plan")?;
     let mut exec: Exec<ReadTable<T>> = Exec::start(alloc, plan)?;
-    assert_eq!(rt; exec.span_count(), 45);
+    expect_reads(rt, &mut exec, &mut steps);
+    Ok(())
+}
+
+/// How often its table is read for the test, for what is shown, and for the offer.
+fn expect_reads<R: Abort, L: Ledger, T: SpareTable>(
+    rt: &R,
+    exec: &mut Exec<ReadTable<T>>,
+    steps: &mut Steps<L>,
+) {
+    assert!(rt; exec.span_count() == 45);
 
     exec.table.reads.set(0);
-    assert_eq!(rt; tested(&exec, &mut steps), Some(Answer::Accept));
+    assert!(rt; tested(exec, steps) == Some(Answer::Accept));
     assert!(rt; (2..=7).contains(&exec.table.reads.get()));
 
     exec.table.reads.set(0);
-    let shown = exec.shown(&mut steps);
-    assert_eq!(rt; (shown.spans().len(), exec.table.reads.get()), (8, 8));
+    let shown = exec.shown(steps);
+    assert!(rt; (shown.spans().len(), exec.table.reads.get()) == (8, 8));
 
     exec.table.reads.set(0);
-    assert_eq!(rt; exec.firm(1, 9, 20, &mut steps), Firm::Accepted);
+    assert!(rt; offered(exec, steps) == Some(Firm::Accepted));
     assert!(rt; (2..=43).contains(&exec.table.reads.get()));
-    Ok(())
+}
+
+/// What the first arrival, that offer, is answered.
+fn offered<T: SpareTable, L: Ledger>(exec: &mut Exec<T>, steps: &mut Steps<L>) -> Option<Firm> {
+    if exec.last_row() != 0 {
+        return None;
+    }
+    Some(exec.firm(1, 9, 20, steps))
 }
 
 #[test]
@@ -129,12 +144,12 @@ fn searches<R: Abort, L: Ledger>(rt: &R, alloc: Global, blank: Blank) -> Result<
     let mut steps: Steps<L> = Steps::new(blank);
     let plan = make_plan(alloc, alarm_set(alloc)?).ok().ok_or("no plan")?;
     let mut exec: Exec<ReadTable<RowTable>> = Exec::start(alloc, plan)?;
-    assert_eq!(rt; exec.firm(1, 4, 8, &mut steps), Firm::Accepted);
-    assert_eq!(rt; exec.soft(2, 3), Soft::Taken);
+    assert!(rt; exec.firm(1, 4, 8, &mut steps) == Firm::Accepted);
+    assert!(rt; exec.soft(2, 3) == Soft::Taken);
     for (runs, reads) in slots {
         exec.table.reads.set(0);
         let ran = slot(&mut exec, &mut steps) == Some(Ran::Key(Key::Soft(2)));
-        assert_eq!(rt; (ran, exec.table.reads.get() > 0), (runs, reads));
+        assert!(rt; (ran, exec.table.reads.get() > 0) == (runs, reads));
     }
     Ok(())
 }

@@ -10,11 +10,11 @@ use Rattle.slot_core.specs.declared.jobs.Job.{Job}
 use Rattle.slot_core.specs.declared.tasks.Graph.{Graph}
 use Rattle.slot_core.specs.declared.tasks.Sporadic.{Sporadic}
 use Rattle.slot_core.specs.declared.tasks.TaskSet.{TaskSet}
-use Rattle.slot_core.specs.Cycles.{cycle_lengths, cycle_of}
-use Rattle.slot_core.specs.Ranges.{sporadic_in_range, is_sound}
-use Rattle.slot_core.specs.Sporadics.{arrivals_due, sporadic_demand}
-use Rattle.slot_core.specs.OfflineJobs.{cycle_jobs}
-use Rattle.slot_core.specs.Feasible.{IsFeasible}
+use Rattle.slot_core.specs.Sets.Cycles.{cycle_lengths, cycle_of}
+use Rattle.slot_core.specs.Sets.Ranges.{sporadic_in_range, is_sound}
+use Rattle.slot_core.specs.Feasibility.Sporadics.{arrivals_due, sporadic_demand}
+use Rattle.slot_core.specs.Offline.OfflineJobs.{cycle_jobs}
+use Rattle.slot_core.specs.Feasibility.Feasible.{IsFeasible}
 use Rattle.slot_facts.proofs.Lists.Members.{Has, Has-append_right, Has-map, AllByRecursion-from_Has, passes_from_list_all}
 use Rattle.slot_facts.proofs.Sets.Ranges.{bounds, SporadicRanges-from_test, SetRanges-from_sound}
 use Rattle.slot_facts.proofs.Offline.CycleMultiples.{div-mul-IsMultiple, IsMultiple-fold}

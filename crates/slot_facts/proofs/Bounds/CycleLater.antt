@@ -3,8 +3,8 @@ use Rattle.std.proofs.Common.{◌≡◌, ℕ, ◌+◌, ◌≤◌, false, cond, �
 use Rattle.std.specs.Prelude.{nat_le, nat_lt}
 use Rattle.std.proofs.lemmas.Bool.Decides.{nat_tests}
 use Rattle.slot_core.specs.declared.jobs.Job.{Job}
-use Rattle.slot_core.specs.Cycles.{cycle_of}
-use Rattle.slot_core.specs.Demand.{work_by, work_between}
+use Rattle.slot_core.specs.Sets.Cycles.{cycle_of}
+use Rattle.slot_core.specs.Runs.Demand.{work_by, work_between}
 use Rattle.slot_facts.specs.Bounds.{OneCycleLaterHasNoLessRoom}
 use Rattle.slot_facts.proofs.Lists.Sums.{sum_by-le-two}
 use Rattle.slot_facts.proofs.Bounds.CycleSums.{due_in_one_cycle}

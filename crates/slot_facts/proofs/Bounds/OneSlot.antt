@@ -10,16 +10,16 @@ use Rattle.slot_core.specs.declared.jobs.Key.{Key}
 use Rattle.slot_core.specs.declared.jobs.Job.{Job}
 use Rattle.slot_core.specs.declared.tasks.TaskSet.{TaskSet}
 use Rattle.slot_core.specs.declared.events.Ran.TheVariants.{Idle, Key as KeyRan}
-use Rattle.slot_core.specs.Keys.{same_key, is_offline, is_soft}
-use Rattle.slot_core.specs.Cycles.{cycle_of}
-use Rattle.slot_core.specs.Ranges.{is_sound}
-use Rattle.slot_core.specs.OfflineJobs.{offline_jobs}
-use Rattle.slot_core.specs.Windows.{precedes}
-use Rattle.slot_core.specs.Scenes.{Scene}
-use Rattle.slot_core.specs.Demand.{work_by}
-use Rattle.slot_core.specs.Choice.{earliest, ready, earliest_ready}
-use Rattle.slot_core.specs.Safety.{after_run, after_slot, IsSafe}
-use Rattle.slot_core.specs.Kept.{AreApart, KeepsBounds}
+use Rattle.slot_core.specs.Offline.Keys.{same_key, is_offline, is_soft}
+use Rattle.slot_core.specs.Sets.Cycles.{cycle_of}
+use Rattle.slot_core.specs.Sets.Ranges.{is_sound}
+use Rattle.slot_core.specs.Offline.OfflineJobs.{offline_jobs}
+use Rattle.slot_core.specs.Offline.Windows.{precedes}
+use Rattle.slot_core.specs.Runs.Scenes.{Scene}
+use Rattle.slot_core.specs.Runs.Demand.{work_by}
+use Rattle.slot_core.specs.Runs.Choice.{earliest, ready, earliest_ready}
+use Rattle.slot_core.specs.Claims.Safety.{after_run, after_slot, IsSafe}
+use Rattle.slot_core.specs.Keeping.Kept.{AreApart, KeepsBounds}
 use Rattle.slot_facts.specs.Bounds.{OneSlotKeepsTheBounds}
 use Rattle.slot_facts.proofs.Choice.Earliest.{same_from_key, IsEarliest, IsEarliest-from_earliest, least_due}
 use Rattle.slot_facts.proofs.Lists.Members.{Has, Has-from_Contains, Contains-from_Has, Has-map, Has-map_cases, Has-filter, Has-filter_passes, AllByRecursion-from_Has}

@@ -6,10 +6,10 @@ use Rattle.std.proofs.lemmas.Bool.Decides.{nat_tests}
 use Rattle.slot_core.specs.declared.jobs.Key.{Key}
 use Rattle.slot_core.specs.declared.jobs.Job.{Job}
 use Rattle.slot_core.specs.declared.tasks.TaskSet.{TaskSet}
-use Rattle.slot_core.specs.Keys.{is_offline}
-use Rattle.slot_core.specs.Cycles.{cycle_of}
-use Rattle.slot_core.specs.OfflineJobs.{offline_jobs}
-use Rattle.slot_core.specs.Kept.{ArePlanned, AreApart}
+use Rattle.slot_core.specs.Offline.Keys.{is_offline}
+use Rattle.slot_core.specs.Sets.Cycles.{cycle_of}
+use Rattle.slot_core.specs.Offline.OfflineJobs.{offline_jobs}
+use Rattle.slot_core.specs.Keeping.Kept.{ArePlanned, AreApart}
 use Rattle.slot_facts.specs.Bounds.{KeptScenesAreSafe}
 use Rattle.slot_facts.proofs.Lists.Members.{Has, Has-from_Contains, Contains-from_Has}
 use Rattle.slot_facts.proofs.Lists.Matched.{HasMatch, sum_by-le_matched}

@@ -7,13 +7,13 @@ use Rattle.std.proofs.lemmas.Bool.Decides.{nat_tests}
 use Rattle.slot_core.specs.declared.jobs.Job.{Job}
 use Rattle.slot_core.specs.declared.tasks.Sporadic.{Sporadic}
 use Rattle.slot_core.specs.declared.tasks.TaskSet.{TaskSet}
-use Rattle.slot_core.specs.Cycles.{cycle_of}
-use Rattle.slot_core.specs.Ranges.{is_sound}
-use Rattle.slot_core.specs.Sporadics.{arrivals_due, sporadic_demand}
-use Rattle.slot_core.specs.OfflineJobs.{cycle_jobs, offline_jobs}
-use Rattle.slot_core.specs.Demand.{work_from, work_between}
-use Rattle.slot_core.specs.Safety.{IsSafe}
-use Rattle.slot_core.specs.Feasible.{IsFeasible}
+use Rattle.slot_core.specs.Sets.Cycles.{cycle_of}
+use Rattle.slot_core.specs.Sets.Ranges.{is_sound}
+use Rattle.slot_core.specs.Feasibility.Sporadics.{arrivals_due, sporadic_demand}
+use Rattle.slot_core.specs.Offline.OfflineJobs.{cycle_jobs, offline_jobs}
+use Rattle.slot_core.specs.Runs.Demand.{work_from, work_between}
+use Rattle.slot_core.specs.Claims.Safety.{IsSafe}
+use Rattle.slot_core.specs.Feasibility.Feasible.{IsFeasible}
 use Rattle.slot_facts.proofs.Lists.Sums.{sum_by-constant, sum_by-plus, sum_by-le-two}
 use Rattle.slot_facts.proofs.Offline.Jobs.{cycle-positive}
 use Rattle.slot_facts.proofs.Demand.OneSlot.{arrivals_due-later}

@@ -13,13 +13,13 @@ use Rattle.slot_core.specs.declared.jobs.Key.TheVariants.{Sporadic as SporadicKe
 use Rattle.slot_core.specs.declared.jobs.Job.{Job}
 use Rattle.slot_core.specs.declared.tasks.Sporadic.{Sporadic}
 use Rattle.slot_core.specs.declared.tasks.TaskSet.{TaskSet}
-use Rattle.slot_core.specs.Keys.{same_key, is_offline, is_soft, row_of}
-use Rattle.slot_core.specs.Cycles.{cycle_of}
-use Rattle.slot_core.specs.Windows.{precedes}
-use Rattle.slot_core.specs.Histories.{sporadic_job}
-use Rattle.slot_core.specs.Sporadics.{arrivals_due, sporadic_demand}
-use Rattle.slot_core.specs.Scenes.{Scene}
-use Rattle.slot_core.specs.Kept.{KeepsBounds}
+use Rattle.slot_core.specs.Offline.Keys.{same_key, is_offline, is_soft, row_of}
+use Rattle.slot_core.specs.Sets.Cycles.{cycle_of}
+use Rattle.slot_core.specs.Offline.Windows.{precedes}
+use Rattle.slot_core.specs.Runs.Histories.{sporadic_job}
+use Rattle.slot_core.specs.Feasibility.Sporadics.{arrivals_due, sporadic_demand}
+use Rattle.slot_core.specs.Runs.Scenes.{Scene}
+use Rattle.slot_core.specs.Keeping.Kept.{KeepsBounds}
 use Rattle.slot_facts.specs.Bounds.{ATakenArrivalKeepsTheBounds}
 use Rattle.slot_facts.proofs.Lists.Apart.{count-none}
 use Rattle.slot_facts.proofs.Choice.Earliest.{same_from_key}

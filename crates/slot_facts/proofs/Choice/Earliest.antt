@@ -9,8 +9,8 @@ use Rattle.std.proofs.lemmas.Map.Lookups.{exact_bytes}
 use Rattle.slot_core.specs.declared.jobs.Key.{Key}
 use Rattle.slot_core.specs.declared.jobs.Key.TheVariants.{Offline, Sporadic, Firm, Soft}
 use Rattle.slot_core.specs.declared.jobs.Job.{Job}
-use Rattle.slot_core.specs.Keys.{key_order, same_key, deadline_order, is_earlier}
-use Rattle.slot_core.specs.Choice.{earlier_of, earliest}
+use Rattle.slot_core.specs.Offline.Keys.{key_order, same_key, deadline_order, is_earlier}
+use Rattle.slot_core.specs.Runs.Choice.{earlier_of, earliest}
 use Rattle.slot_facts.proofs.Lists.Members.{Has}
 
 -- keys of one kind and with the same numbers are one

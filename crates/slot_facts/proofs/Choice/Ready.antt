@@ -6,12 +6,12 @@ use Rattle.std.proofs.lemmas.List.{map-append}
 use Rattle.std.proofs.lemmas.List.Elements.{filter-append}
 use Rattle.slot_core.specs.declared.jobs.Job.{Job}
 use Rattle.slot_core.specs.declared.tasks.TaskSet.{TaskSet}
-use Rattle.slot_core.specs.Cycles.{cycle_of}
-use Rattle.slot_core.specs.Ranges.{is_sound}
-use Rattle.slot_core.specs.OfflineJobs.{cycle_jobs, offline_jobs}
-use Rattle.slot_core.specs.Histories.{History}
-use Rattle.slot_core.specs.Scenes.{unended}
-use Rattle.slot_core.specs.Choice.{ready}
+use Rattle.slot_core.specs.Sets.Cycles.{cycle_of}
+use Rattle.slot_core.specs.Sets.Ranges.{is_sound}
+use Rattle.slot_core.specs.Offline.OfflineJobs.{cycle_jobs, offline_jobs}
+use Rattle.slot_core.specs.Runs.Histories.{History}
+use Rattle.slot_core.specs.Runs.Scenes.{unended}
+use Rattle.slot_core.specs.Runs.Choice.{ready}
 use Rattle.slot_facts.proofs.Offline.Cycles.{IsOfCycle-from_cycle}
 use Rattle.slot_facts.proofs.Lists.Members.{Has, Contains-from_Has}
 

@@ -8,9 +8,9 @@ use Rattle.std.proofs.lemmas.Bool.Decides.{nat_tests}
 use Rattle.std.proofs.lemmas.Cmp.{tied_itself, nat_list_cmp_total}
 use Rattle.slot_core.specs.declared.jobs.Key.{Key}
 use Rattle.slot_core.specs.declared.jobs.Job.{Job}
-use Rattle.slot_core.specs.Keys.{key_order, same_key, deadline_order, is_earlier}
-use Rattle.slot_core.specs.Plans.{AreInDeadlineOrder}
-use Rattle.slot_core.specs.Safety.{after_run}
+use Rattle.slot_core.specs.Offline.Keys.{key_order, same_key, deadline_order, is_earlier}
+use Rattle.slot_core.specs.Keeping.Plans.{AreInDeadlineOrder}
+use Rattle.slot_core.specs.Claims.Safety.{after_run}
 use Rattle.slot_facts.proofs.Choice.Earliest.{same_from_key, job_cmp_total}
 use Rattle.slot_facts.proofs.Offline.DistinctKeys.{IsApart}
 use Rattle.slot_facts.proofs.Lists.Members.{Has, AllByRecursion-at_Has}

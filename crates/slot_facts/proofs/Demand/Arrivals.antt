@@ -7,7 +7,7 @@ use Rattle.std.proofs.lemmas.Bool.{cases_lt, le-leb, lt-leb}
 use Rattle.std.proofs.lemmas.List.Sums.{sum_by-cons, count_by-le-length}
 use Rattle.std.proofs.lemmas.List.FromFn.{length-range_with_len}
 use Rattle.slot_core.specs.declared.tasks.Sporadic.{Sporadic}
-use Rattle.slot_core.specs.Sporadics.{arrivals_due, sporadic_demand}
+use Rattle.slot_core.specs.Feasibility.Sporadics.{arrivals_due, sporadic_demand}
 
 -- a test that passes at the first k numbers of a range, and fails at the others, passes k times
 pub count_range-is : (p : ℕ → Bool) (a n k : ℕ) → k ≤ n → ((m : ℕ) → a ≤ m → m < a + k → p m ≡ true) → ((m : ℕ) → a + k ≤ m → m < a + n → p m ≡ false) → count_by p (range_with_len a n) ≡ k

@@ -11,8 +11,8 @@ use Rattle.slot_core.specs.declared.jobs.Job.{Job}
 use Rattle.slot_core.specs.declared.jobs.Window.{Window}
 use Rattle.slot_core.specs.declared.tasks.Sporadic.{Sporadic}
 use Rattle.slot_core.specs.declared.tasks.TaskSet.{TaskSet}
-use Rattle.slot_core.specs.OfflineJobs.{cycle_jobs}
-use Rattle.slot_core.specs.Feasible.{declared_within, window_demand, IsFeasible, failing_window, first_some, first_failing_from, counterexample_in, counterexample}
+use Rattle.slot_core.specs.Offline.OfflineJobs.{cycle_jobs}
+use Rattle.slot_core.specs.Feasibility.Feasible.{declared_within, window_demand, IsFeasible, failing_window, first_some, first_failing_from, counterexample_in, counterexample}
 use Rattle.slot_facts.proofs.Sets.Faults.{option_or-None, cond-None}
 use Rattle.slot_facts.proofs.Lists.FirstSome.{none-from_first_some, found-from_first_some, first_some-agree}
 

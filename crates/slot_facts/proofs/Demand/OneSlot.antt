@@ -1,9 +1,8 @@
 -- One slot of earliest deadline first keeps the demand bound.
-use Rattle.std.proofs.Common.{◌≡◌, ℕ, ◌+◌, ◌*◌, ◌-◌, ◌<◌, ◌≤◌, Bool, true, false, cond, List, [], ◌∷◌, Option, Some, None, Ordering, inl, inr, arith, refl, sym, subst}
-use Rattle.std.specs.Prelude.{sum_by, All, ⊤, nat_le, nat_lt, ◌&&◌, fold, max, ◌⊎◌}
+use Rattle.std.proofs.Common.{◌≡◌, ℕ, ◌+◌, ◌*◌, ◌-◌, ◌<◌, ◌≤◌, Bool, true, false, cond, List, [], ◌∷◌, Option, Some, None, inl, inr, arith, refl, sym, subst}
+use Rattle.std.specs.Prelude.{sum_by, All, nat_le, nat_lt, ◌&&◌, max}
 use Rattle.std.specs.List.{AllByRecursion, range_with_len}
-use Rattle.std.specs.Ordering.{nat_cmp, is_lt, ordering_then}
-use Rattle.std.proofs.lemmas.Bool.{leb-false, ltb-false}
+use Rattle.std.proofs.lemmas.Bool.{leb-false, ltb-false, le-leb}
 use Rattle.std.specs.Option.{option_map_or}
 use Rattle.std.proofs.lemmas.Bool.Decides.{nat_tests}
 use Rattle.std.proofs.lemmas.List.Elements.{recursion_from_All}
@@ -13,87 +12,20 @@ use Rattle.slot_core.specs.declared.jobs.Key.{Key}
 use Rattle.slot_core.specs.declared.jobs.Job.{Job}
 use Rattle.slot_core.specs.declared.tasks.Sporadic.{Sporadic}
 use Rattle.slot_core.specs.declared.events.Ran.TheVariants.{Idle, Key as KeyRan}
-use Rattle.slot_core.specs.Keys.{same_key, is_earlier}
-use Rattle.slot_core.specs.Sporadics.{arrivals_due, sporadic_demand}
-use Rattle.slot_core.specs.Demand.{work_by, work_from}
-use Rattle.slot_core.specs.Choice.{earlier_of, earliest, ready, earliest_ready}
-use Rattle.slot_core.specs.Safety.{after_run, after_slot, IsSafe}
-use Rattle.slot_core.specs.Scenes.{Scene}
-use Rattle.slot_facts.proofs.Lists.Members.{Has}
-use Rattle.slot_facts.proofs.Choice.Earliest.{equal_itself}
+use Rattle.slot_core.specs.Offline.Keys.{same_key}
+use Rattle.slot_core.specs.Feasibility.Sporadics.{arrivals_due, sporadic_demand}
+use Rattle.slot_core.specs.Runs.Demand.{work_by, work_from}
+use Rattle.slot_core.specs.Runs.Choice.{earliest, ready, earliest_ready}
+use Rattle.slot_core.specs.Claims.Safety.{after_run, after_slot, IsSafe}
+use Rattle.slot_core.specs.Runs.Scenes.{Scene}
+use Rattle.slot_facts.proofs.Lists.Members.{Has, Has-filter, Has-filter_passes, AllByRecursion-from_Has}
+use Rattle.slot_facts.proofs.Choice.Earliest.{equal_itself, IsEarliest-from_earliest, least_due}
+use Rattle.slot_facts.proofs.Choice.SameEarliest.{earliest_of}
 use Rattle.slot_facts.proofs.Lists.Sums.{cond-le}
-use Rattle.slot_facts.proofs.Plans.DeadlineOrder.{is_earlier-le}
 
 -- the sum of the slots left of the jobs whose start and deadline pass the test
 abbrev pub work_where : (ℕ → ℕ → Bool) → List Job → ℕ
 work_where test jobs = sum_by (λ (j : Job). cond (test j.est j.dl) j.left 0) jobs
-
--- a job that does not go before another is due no earlier
-not_first_le : (a b : ℕ) (o : Ordering) → is_lt (ordering_then (nat_cmp a b) o) ≡ false → b ≤ a
-not_first_le a b o h = grind (arith, nat_tests)
-
-not_earlier-le : (a b : Job) → is_earlier a b ≡ false → b.dl ≤ a.dl
-not_earlier-le a b h = not_first_le _ _ _ h
-
--- the candidate is none, or due after x
-abbrev IsDueAfter : ℕ → Option Job → Type 0
-IsDueAfter x None = ⊤
-IsDueAfter x (Some job) = x < job.dl
-
--- where the earlier of two is due after x, both are
-both_due_after : (x : ℕ) (best : Option Job) (job : Job) → IsDueAfter x (earlier_of best job) → IsDueAfter x best × (x < job.dl)
-both_due_after x None job h = (tt, h)
-both_due_after x (Some best) job h = by_test (is_earlier job best) refl h
-  where
-    by_test : (b : Bool) → is_earlier job best ≡ b → IsDueAfter x (cond b (Some job) (Some best)) → (x < best.dl) × (x < job.dl)
-    by_test true e d = (omega (arith, is_earlier-le job best e), d)
-    by_test false e d = (d, omega (arith, not_earlier-le job best e))
-
--- where the earliest ready job is none or due after x, so is each job that is ready
-due_after_each : (t x : ℕ) (best : Option Job) (jobs : List Job) → IsDueAfter x (fold earlier_of best (ready t jobs)) → IsDueAfter x best × AllByRecursion (λ (j : Job). j.est ≤ t → x < j.dl) jobs
-due_after_each t x best [] h = (h, tt)
-due_after_each t x best (j ∷ jobs) h =
-    by_test (nat_le j.est t) refl (due_after_each t x (earlier_of best j) jobs) (due_after_each t x best jobs) h
-  where
-    by_test : (b : Bool) → nat_le j.est t ≡ b → (IsDueAfter x (fold earlier_of (earlier_of best j) (ready t jobs)) → IsDueAfter x (earlier_of best j) × AllByRecursion (λ (j : Job). j.est ≤ t → x < j.dl) jobs) → (IsDueAfter x (fold earlier_of best (ready t jobs)) → IsDueAfter x best × AllByRecursion (λ (j : Job). j.est ≤ t → x < j.dl) jobs) → IsDueAfter x (fold earlier_of best (cond b (j ∷ ready t jobs) (ready t jobs))) → IsDueAfter x best × AllByRecursion (λ (j : Job). j.est ≤ t → x < j.dl) (j ∷ jobs)
-    by_test true e taken skipped d =
-        let r = taken d in
-        let both = both_due_after x best j r.0 in
-        (both.0, (λ _. both.1, r.1))
-    by_test false e taken skipped d =
-        let r = skipped d in
-        (r.0, (λ le. absurd (omega (arith, leb-false j.est t e)), r.1))
-
--- the earlier of two is one of them
-chosen_of_two : (best : Option Job) (j job : Job) → earlier_of best j ≡ Some job → (best ≡ Some job) ⊎ (j ≡ job)
-chosen_of_two None j job h = inr (cc)
-chosen_of_two (Some best) j job h = by_test (is_earlier j best) h
-  where
-    by_test : (b : Bool) → cond b (Some j) (Some best) ≡ Some job → (Some best ≡ Some job) ⊎ (j ≡ job)
-    by_test true e = inr (cc)
-    by_test false e = inl e
-
--- the earliest ready job is one of the jobs
-chosen_is_among : (t : ℕ) (best : Option Job) (jobs : List Job) (job : Job) → fold earlier_of best (ready t jobs) ≡ Some job → (best ≡ Some job) ⊎ Has jobs job
-chosen_is_among t best [] job h = inl h
-chosen_is_among t best (j ∷ jobs) job h =
-    by_test (nat_le j.est t) (chosen_is_among t (earlier_of best j) jobs job) (chosen_is_among t best jobs job) h
-  where
-    among : (best ≡ Some job) ⊎ Has jobs job → (best ≡ Some job) ⊎ ((j ≡ job) ⊎ Has jobs job)
-    among (inl e) = inl e
-    among (inr m) = inr (inr m)
-
-    of_two : (best ≡ Some job) ⊎ (j ≡ job) → (best ≡ Some job) ⊎ ((j ≡ job) ⊎ Has jobs job)
-    of_two (inl e) = inl e
-    of_two (inr e) = inr (inl e)
-
-    among_two : (earlier_of best j ≡ Some job) ⊎ Has jobs job → (best ≡ Some job) ⊎ ((j ≡ job) ⊎ Has jobs job)
-    among_two (inl e) = of_two (chosen_of_two best j job e)
-    among_two (inr m) = inr (inr m)
-
-    by_test : (b : Bool) → (fold earlier_of (earlier_of best j) (ready t jobs) ≡ Some job → (earlier_of best j ≡ Some job) ⊎ Has jobs job) → (fold earlier_of best (ready t jobs) ≡ Some job → (best ≡ Some job) ⊎ Has jobs job) → fold earlier_of best (cond b (j ∷ ready t jobs) (ready t jobs)) ≡ Some job → (best ≡ Some job) ⊎ ((j ≡ job) ⊎ Has jobs job)
-    by_test true taken skipped e = among_two (taken e)
-    by_test false taken skipped e = among (skipped e)
 
 -- the slots left that pass, of one job
 abbrev left_where : (ℕ → ℕ → Bool) → Job → ℕ
@@ -173,27 +105,49 @@ work_by-le-work_from t x (j ∷ jobs) h =
     let from_t = λ (j : Job). cond (nat_le (t + 1) j.est && nat_le j.dl x) j.left 0 in
     omega (arith, sum_by-cons by_x j jobs, sum_by-cons from_t j jobs, starts_later t x j.est j.dl j.left h.0, work_by-le-work_from t x jobs h.1)
 
-chosen_from_none : (t : ℕ) (jobs : List Job) (job : Job) → earliest (ready t jobs) ≡ Some job → Has jobs job
-chosen_from_none t jobs job e = among (chosen_is_among t None jobs job e)
-  where
-    among : (None ≡ Some job) ⊎ Has jobs job → Has jobs job
-    among (inl differs) = cc
-    among (inr m) = m
+-- the bound at x, where each job that is ready is due after it
+none_is_due : (sporadics : List Sporadic) (nexts : List ℕ) (jobs : List Job) (t end x : ℕ) → IsSafe sporadics nexts jobs t end → t + 1 ≤ x → x ≤ end → ((job : Job) → Has jobs job → job.est ≤ t → x < job.dl) → work_by jobs x + sporadic_demand sporadics nexts (t + 1) x ≤ x - (t + 1)
+none_is_due sporadics nexts jobs t end x safe low high late =
+    let later = work_by-le-work_from t x jobs (AllByRecursion-from_Has (λ (j : Job). j.est ≤ t → x < j.dl) jobs late) in
+    omega (arith, later, safe.to_come (t + 1) x (omega arith) low high)
 
--- the bound, where no job is ready that is due by x
-no_job_due : (sporadics : List Sporadic) (nexts : List ℕ) (jobs : List Job) (t end x : ℕ) → IsSafe sporadics nexts jobs t end → t + 1 ≤ x → x ≤ end → IsDueAfter x (earliest (ready t jobs)) → work_by jobs x + sporadic_demand sporadics nexts (t + 1) x ≤ x - (t + 1)
-no_job_due sporadics nexts jobs t end x safe low high h =
-    omega (arith, work_by-le-work_from t x jobs (due_after_each t x None jobs h).1, safe.to_come (t + 1) x (omega arith) low high)
-
--- the bound, where a job runs
-a_job_runs : (sporadics : List Sporadic) (nexts : List ℕ) (jobs : List Job) (t end x : ℕ) (job : Job) → AllByRecursion (λ (j : Job). 1 ≤ j.left) jobs → IsSafe sporadics nexts jobs t end → t + 1 ≤ x → x ≤ end → earliest (ready t jobs) ≡ Some job → work_by (after_run job.key jobs) x + sporadic_demand sporadics nexts (t + 1) x ≤ x - (t + 1)
-a_job_runs sporadics nexts jobs t end x job some safe low high e = by_test (nat_le job.dl x) refl
+-- the bound at x, where a job runs that is due no later than any that is ready
+one_runs : (sporadics : List Sporadic) (nexts : List ℕ) (jobs : List Job) (t end x : ℕ) (job : Job) → All (λ (j : Job). 1 ≤ j.left) jobs → IsSafe sporadics nexts jobs t end → Has jobs job → ((other : Job) → Has jobs other → other.est ≤ t → job.dl ≤ other.dl) → t + 1 ≤ x → x ≤ end → work_by (after_run job.key jobs) x + sporadic_demand sporadics nexts (t + 1) x ≤ x - (t + 1)
+one_runs sporadics nexts jobs t end x job some safe at first low high = by_test (nat_le job.dl x) refl
   where
     by_test : (b : Bool) → nat_le job.dl x ≡ b → work_by (after_run job.key jobs) x + sporadic_demand sporadics nexts (t + 1) x ≤ x - (t + 1)
     by_test true is_due =
-        omega (arith, work_where-ran (λ est dl. nat_le dl x) job jobs some is_due (chosen_from_none t jobs job e), sporadic_demand-later sporadics nexts t (t + 1) x (omega arith), safe.due x (omega arith) high)
+        omega (arith, work_where-ran (λ est dl. nat_le dl x) job jobs (recursion_from_All _ jobs some) is_due at, sporadic_demand-later sporadics nexts t (t + 1) x (omega arith), safe.due x (omega arith) high)
     by_test false is_due =
-        omega (arith, work_where-after (λ est dl. nat_le dl x) job.key jobs, no_job_due sporadics nexts jobs t end x safe low high (subst (IsDueAfter x) (sym e) (leb-false job.dl x is_due)))
+        let late = λ (other : Job) (among : Has jobs other) (come : other.est ≤ t).
+        let after : x < other.dl = omega (arith, leb-false job.dl x is_due, first other among come) in after in
+        omega (arith, work_where-after (λ est dl. nat_le dl x) job.key jobs, none_is_due sporadics nexts jobs t end x safe low high late)
+
+-- from jobs that are safe up to `end`, a slot in which one runs that is due no later than any that is
+-- ready leads to jobs that are safe up to `end`
+pub run_keeps_safe : (sporadics : List Sporadic) (nexts : List ℕ) (jobs : List Job) (t end : ℕ) (job : Job) → All (λ (j : Job). 1 ≤ j.left) jobs → IsSafe sporadics nexts jobs t end → Has jobs job → ((other : Job) → Has jobs other → other.est ≤ t → job.dl ≤ other.dl) → IsSafe sporadics nexts (after_run job.key jobs) (t + 1) end
+run_keeps_safe sporadics nexts jobs t end job some safe at first =
+    record {
+      due = λ x low high. one_runs sporadics nexts jobs t end x job some safe at first low high;
+      to_come = λ a x low middle high. omega (arith, safe.to_come a x (omega arith) middle high, work_where-after (λ est dl. nat_le a est && nat_le dl x) job.key jobs);
+    }
+
+-- an idle slot, where none is ready, leaves them safe up to `end`
+pub idle_keeps_safe : (sporadics : List Sporadic) (nexts : List ℕ) (jobs : List Job) (t end : ℕ) → IsSafe sporadics nexts jobs t end → ((job : Job) → Has jobs job → t < job.est) → IsSafe sporadics nexts jobs (t + 1) end
+idle_keeps_safe sporadics nexts jobs t end safe late =
+    record {
+      due = λ x low high. none_is_due sporadics nexts jobs t end x safe low high (λ job at come. absurd (omega (arith, late job at)));
+      to_come = λ a x low middle high. safe.to_come a x (omega arith) middle high;
+    }
+
+-- where none is the earliest of the ready jobs, each starts later
+none_is_ready : (t : ℕ) (jobs : List Job) (job : Job) → earliest (ready t jobs) ≡ None → Has jobs job → t < job.est
+none_is_ready t jobs job none at = by_test (nat_le job.est t) refl
+  where
+    by_test : (b : Bool) → nat_le job.est t ≡ b → t < job.est
+    by_test true come =
+        absurd (earliest_of (ready t jobs) job (Has-filter (λ (j : Job). nat_le j.est t) jobs job at come) none)
+    by_test false later = leb-false job.est t later
 
 -- from a scene that is safe up to `end`, the slot that runs the earliest ready job, or is idle where none
 -- is ready, leads to one that is safe up to `end`
@@ -202,12 +156,9 @@ one_slot sporadics scene end some early safe = by_chosen (earliest (ready scene.
   where
     by_chosen : (c : Option Job) → earliest (ready scene.time scene.jobs) ≡ c → IsSafe sporadics scene.nexts (after_slot (option_map_or (λ (j : Job). KeyRan j.key) c Idle) scene.jobs) (scene.time + 1) end
     by_chosen None e =
-        record {
-          due = λ x low high. no_job_due sporadics scene.nexts scene.jobs scene.time end x safe low high (subst (IsDueAfter x) (sym e) tt);
-          to_come = λ a x low middle high. safe.to_come a x (omega arith) middle high;
-        }
+        idle_keeps_safe sporadics scene.nexts scene.jobs scene.time end safe (λ job at. none_is_ready scene.time scene.jobs job e at)
     by_chosen (Some job) e =
-        record {
-          due = λ x low high. a_job_runs sporadics scene.nexts scene.jobs scene.time end x job (recursion_from_All _ scene.jobs some) safe low high e;
-          to_come = λ a x low middle high. omega (arith, safe.to_come a x (omega arith) middle high, work_where-after (λ est dl. nat_le a est && nat_le dl x) job.key scene.jobs);
-        }
+        let come = λ (j : Job). nat_le j.est scene.time in
+        let most = IsEarliest-from_earliest (ready scene.time scene.jobs) job e in
+        run_keeps_safe sporadics scene.nexts scene.jobs scene.time end job some safe (Has-filter_passes come scene.jobs job most.among).0 λ other at ready_now.
+        least_due (ready scene.time scene.jobs) job other most (Has-filter come scene.jobs other at (le-leb other.est scene.time ready_now))

@@ -8,21 +8,21 @@ use Rattle.std.specs.Prelude.{All}
 use Rattle.slot_core.specs.declared.jobs.Key.{Key}
 use Rattle.slot_core.specs.declared.jobs.Job.{Job}
 use Rattle.slot_core.specs.declared.events.What.TheVariants.{Run}
-use Rattle.slot_core.specs.Histories.{History, executed, is_freed}
-use Rattle.slot_core.specs.Scenes.{has_ended, with_left, unended, remaining}
-use Rattle.slot_core.specs.Demand.{work_by}
-use Rattle.slot_core.specs.Safety.{after_run, after_slot}
+use Rattle.slot_core.specs.Runs.Histories.{History, executed, is_freed}
+use Rattle.slot_core.specs.Runs.Scenes.{has_ended, with_left, unended, remaining}
+use Rattle.slot_core.specs.Runs.Demand.{work_by}
+use Rattle.slot_core.specs.Claims.Safety.{after_run, after_slot}
 use Rattle.slot_facts.proofs.Lists.Members.{Has, Has-map, Has-map_cases, Has-filter, Has-filter_passes, Contains-from_Has}
 use Rattle.std.proofs.Math.Nat.{zero-div}
 use Rattle.slot_core.specs.declared.tasks.TaskSet.{TaskSet}
-use Rattle.slot_core.specs.Cycles.{cycle_of}
-use Rattle.slot_core.specs.Ranges.{is_sound}
-use Rattle.slot_core.specs.OfflineJobs.{offline_jobs}
+use Rattle.slot_core.specs.Sets.Cycles.{cycle_of}
+use Rattle.slot_core.specs.Sets.Ranges.{is_sound}
+use Rattle.slot_core.specs.Offline.OfflineJobs.{offline_jobs}
 use Rattle.slot_facts.proofs.Offline.Windows.{IsOfCycle-from_offline}
 use Rattle.std.proofs.lemmas.List.{map-append}
 use Rattle.slot_core.specs.declared.events.Ran.{Ran}
 use Rattle.slot_core.specs.declared.events.Ran.TheVariants.{Idle as RanIdle, Key as RanKey}
-use Rattle.slot_core.specs.Traces.{told_of_slot}
+use Rattle.slot_core.specs.Runs.Traces.{told_of_slot}
 
 -- a job that has not ended is among the unended ones, with its slots left
 pub Has-unended : (h : History) (jobs : List Job) (job : Job) → has_ended h job ≡ false → Has jobs job → Has (unended h jobs) (with_left h job)

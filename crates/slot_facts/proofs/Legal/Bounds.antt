@@ -6,15 +6,15 @@ use Rattle.std.proofs.lemmas.Bool.{both_ways, lt-leb, or_from}
 use Rattle.std.proofs.lemmas.List.Elements.{All-contains}
 use Rattle.slot_core.specs.declared.jobs.Job.{Job}
 use Rattle.slot_core.specs.declared.tasks.TaskSet.{TaskSet}
-use Rattle.slot_core.specs.Keys.{same_key, is_offline, is_soft}
-use Rattle.slot_core.specs.Cycles.{cycle_of}
-use Rattle.slot_core.specs.Ranges.{is_sound}
-use Rattle.slot_core.specs.OfflineJobs.{offline_jobs}
-use Rattle.slot_core.specs.Windows.{precedes}
-use Rattle.slot_core.specs.Histories.{History, time_of, executed, is_freed}
-use Rattle.slot_core.specs.Scenes.{guaranteed_in, has_ended, with_left, unended, next_arrivals, scene_in}
-use Rattle.slot_core.specs.Safety.{IsSafe}
-use Rattle.slot_core.specs.Kept.{ArePlanned, SuccessorsWait, AreApart, KeepsBounds}
+use Rattle.slot_core.specs.Offline.Keys.{same_key, is_offline, is_soft}
+use Rattle.slot_core.specs.Sets.Cycles.{cycle_of}
+use Rattle.slot_core.specs.Sets.Ranges.{is_sound}
+use Rattle.slot_core.specs.Offline.OfflineJobs.{offline_jobs}
+use Rattle.slot_core.specs.Offline.Windows.{precedes}
+use Rattle.slot_core.specs.Runs.Histories.{History, time_of, executed, is_freed}
+use Rattle.slot_core.specs.Runs.Scenes.{guaranteed_in, has_ended, with_left, unended, next_arrivals, scene_in}
+use Rattle.slot_core.specs.Claims.Safety.{IsSafe}
+use Rattle.slot_core.specs.Keeping.Kept.{ArePlanned, SuccessorsWait, AreApart, KeepsBounds}
 use Rattle.slot_facts.proofs.Offline.Windows.{precedes-offline}
 use Rattle.slot_facts.proofs.Choice.Earliest.{same_from_key}
 use Rattle.slot_facts.proofs.Histories.Unended.{Has-unended, unended_own, unended_have_left, unended_due}
@@ -22,7 +22,7 @@ use Rattle.slot_facts.proofs.Lists.Apart.{IsApart-filter, count_by-apart}
 use Rattle.slot_facts.proofs.Lists.Members.{Has, Has-from_Contains, Contains-from_Has}
 use Rattle.slot_facts.proofs.Offline.DistinctKeys.{IsApart-map}
 use Rattle.slot_facts.proofs.Offline.Jobs.{cycle-positive}
-use Rattle.slot_facts.proofs.Legal.Data.{LegalEntries}
+use Rattle.slot_facts.proofs.Legal.Data.{Slots, Entries, LegalEntries}
 use Rattle.slot_facts.proofs.Legal.Rows.{next_arrivals-reach}
 use Rattle.slot_facts.proofs.Legal.Jobs.{IsGuaranteed-from_listed, guaranteed-cases, guaranteed-offline, guaranteed-apart, offline-key}
 use Rattle.slot_facts.proofs.Legal.NextArrivals.{length-next_arrivals}
@@ -61,6 +61,14 @@ fresh-remains h jobs job at some whole none kept =
 
 whole-job : (job : Job) → job.left ≡ job.declared → record job { left = job.declared } ≡ job
 whole-job job e = ap (λ n. record job { left = n }) (sym e)
+
+-- no key stands twice among the jobs of a history that have not ended
+pub unended-apart : {S : Slots} (set : TaskSet) (cycles : ℕ) (h : History) → is_sound set ≡ true → Entries S set (cycle_of set) h → AreApart (unended h (guaranteed_in set (cycle_of set) cycles h))
+unended-apart set cycles h sound told key =
+    let guaranteed = guaranteed_in set (cycle_of set) cycles h in
+    let running = filter (λ (j : Job). not (has_ended h j)) guaranteed in
+    let keys = IsApart-filter (λ (j : Job). j.key) (λ (j : Job). not (has_ended h j)) guaranteed (guaranteed-apart set cycles h sound told) in
+    count_by-apart (λ (j : Job). j.key) (λ (j : Job). same_key j.key key) key (unended h guaranteed) (λ j same. same_from_key j.key key same) (IsApart-map (with_left h) (λ (j : Job). j.key) running keys)
 
 module _ (set : TaskSet) (cycles : ℕ) (h : History) (sound : is_sound set ≡ true) (legal : LegalEntries set (cycle_of set) h) (reaches : Reaches set h cycles) (carried : IsCarried set cycles h) where
   abbrev planned : List Job
@@ -136,12 +144,6 @@ module _ (set : TaskSet) (cycles : ℕ) (h : History) (sound : is_sound set ≡ 
             absurd (both_ways (is_offline before.key) (ap (λ (j : Job). is_offline j.key) same ∙ come.not_offline) (precedes-offline set before.key after.key listed).0)
       ]
 
-  remaining-apart : AreApart jobs
-  remaining-apart key =
-      let running = filter (λ (j : Job). not (has_ended h j)) guaranteed in
-      let keys = IsApart-filter (λ (j : Job). j.key) (λ (j : Job). not (has_ended h j)) guaranteed (guaranteed-apart set cycles h sound legal) in
-      count_by-apart (λ (j : Job). j.key) (λ (j : Job). same_key j.key key) key jobs (λ j same. same_from_key j.key key same) (IsApart-map (with_left h) (λ (j : Job). j.key) running keys)
-
   -- so the scene keeps its bounds
   pub bounds-carried : KeepsBounds set (cycle_of set) cycles (scene_in set (cycle_of set) cycles h)
   bounds-carried = record {
@@ -151,7 +153,7 @@ module _ (set : TaskSet) (cycles : ℕ) (h : History) (sound : is_sound set ≡ 
     come = remaining-come;
     untouched = remaining-untouched;
     waiting = remaining-waiting;
-    apart = remaining-apart;
+    apart = unended-apart set cycles h sound legal;
     one_each = length-next_arrivals set.sporadics h 0;
     reach = next_arrivals-reach set h sound;
   }

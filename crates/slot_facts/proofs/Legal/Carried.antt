@@ -1,19 +1,19 @@
 -- Every legal history of a feasible set carries that no deadline is at risk, and that each run is owned.
-use Rattle.std.proofs.Common.{◌≡◌, ℕ, ◌*◌, true, [], ◌∷◌, ◌++◌, append-nil, sym, ap, ◌∙◌, subst}
+use Rattle.std.proofs.Common.{◌≡◌, ℕ, ◌*◌, true, [], ◌∷◌, ◌++◌, append-nil, sym, ap, ◌∙◌, subst, inl, inr}
 use Rattle.slot_core.specs.declared.tasks.TaskSet.{TaskSet}
 use Rattle.slot_core.specs.declared.events.What.{What}
-use Rattle.slot_core.specs.Cycles.{cycle_of}
-use Rattle.slot_core.specs.Ranges.{is_sound}
-use Rattle.slot_core.specs.OfflineJobs.{offline_jobs}
-use Rattle.slot_core.specs.Feasible.{IsFeasible}
-use Rattle.slot_core.specs.Histories.{History, time_of}
-use Rattle.slot_core.specs.Scenes.{guaranteed_in, unended, next_arrivals}
-use Rattle.slot_core.specs.Safety.{IsSafe}
+use Rattle.slot_core.specs.Sets.Cycles.{cycle_of}
+use Rattle.slot_core.specs.Sets.Ranges.{is_sound}
+use Rattle.slot_core.specs.Offline.OfflineJobs.{offline_jobs}
+use Rattle.slot_core.specs.Feasibility.Feasible.{IsFeasible}
+use Rattle.slot_core.specs.Runs.Histories.{History, time_of}
+use Rattle.slot_core.specs.Runs.Scenes.{guaranteed_in, unended, next_arrivals}
+use Rattle.slot_core.specs.Claims.Safety.{IsSafe}
 use Rattle.slot_facts.proofs.Histories.Unended.{unended-start}
 use Rattle.slot_facts.proofs.Lists.Members.{Contains-from_Has}
 use Rattle.slot_facts.proofs.Offline.Jobs.{cycle-positive}
 use Rattle.slot_facts.proofs.Offline.Windows.{IsOfCycle-from_offline}
-use Rattle.slot_facts.proofs.Legal.Data.{LegalEntries, empty, at_start, at_end, soft_runs, job_runs, idles, soft_taken, soft_full, accepted, late, far, no_room, sporadic_taken, soon, job_freed, soft_freed, not_running, withdrawn, no_job}
+use Rattle.slot_facts.proofs.Legal.Data.{LegalEntries, empty, at_start, at_end, slot_runs, idles, soft_taken, soft_full, accepted, late, far, no_room, sporadic_taken, soon, job_freed, soft_freed, not_running, withdrawn, no_job}
 use Rattle.slot_facts.proofs.Legal.Bounds.{Reaches, reaches-before, IsCarried}
 use Rattle.slot_facts.proofs.Legal.Rows.{time-rises}
 use Rattle.slot_facts.proofs.Bounds.SafeStart.{offline_jobs-safe}
@@ -45,10 +45,10 @@ module _ (set : TaskSet) (sound : is_sound set ≡ true) (feasible : IsFeasible 
   carried-legal empty cycles reaches = carried-empty set cycles sound feasible
   carried-legal (at_start l) cycles reaches = let c = carried-legal l cycles reaches in record { safe = c.safe; owned = c.owned }
   carried-legal (at_end l) cycles reaches = let c = carried-legal l cycles reaches in record { safe = c.safe; owned = c.owned }
-  carried-legal {h = what ∷ h} (soft_runs {key = key} r l) cycles reaches =
+  carried-legal {h = what ∷ h} (slot_runs {key = key} known (inl r) l) cycles reaches =
       let before = reaches-tail set what h cycles sound reaches in
       carried-soft_run set cycles h sound feasible l before (carried-legal l cycles before) key r
-  carried-legal {h = what ∷ h} (job_runs {key = key} r l) cycles reaches =
+  carried-legal {h = what ∷ h} (slot_runs {key = key} known (inr r) l) cycles reaches =
       let before = reaches-tail set what h cycles sound reaches in
       carried-job_run set cycles h sound feasible l before (carried-legal l cycles before) key r
   carried-legal {h = what ∷ h} (idles none l) cycles reaches =

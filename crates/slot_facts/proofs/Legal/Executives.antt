@@ -7,16 +7,16 @@ use Rattle.slot_core.specs.declared.jobs.Job.{Job}
 use Rattle.slot_core.specs.declared.jobs.SoftJob.{SoftJob}
 use Rattle.slot_core.specs.declared.tasks.Sporadic.{Sporadic}
 use Rattle.slot_core.specs.declared.tasks.TaskSet.{TaskSet}
-use Rattle.slot_core.specs.Keys.{same_key, row_of}
-use Rattle.slot_core.specs.Cycles.{cycle_of}
-use Rattle.slot_core.specs.Ranges.{is_sound}
-use Rattle.slot_core.specs.Feasible.{IsFeasible}
-use Rattle.slot_core.specs.Histories.{History, last_row}
-use Rattle.slot_core.specs.Scenes.{Scene, scene_of}
-use Rattle.slot_core.specs.Sporadics.{sporadic_demand}
-use Rattle.slot_core.specs.Demand.{need_by}
-use Rattle.slot_core.specs.Matches.{HaveSameItems, IsSameScene, MatchesHistory}
-use Rattle.slot_core.specs.Kept.{KeepsBounds, KeepsSoftOrder, KeepsRows}
+use Rattle.slot_core.specs.Offline.Keys.{same_key, row_of}
+use Rattle.slot_core.specs.Sets.Cycles.{cycle_of}
+use Rattle.slot_core.specs.Sets.Ranges.{is_sound}
+use Rattle.slot_core.specs.Feasibility.Feasible.{IsFeasible}
+use Rattle.slot_core.specs.Runs.Histories.{History, last_row}
+use Rattle.slot_core.specs.Runs.Scenes.{Scene, scene_of}
+use Rattle.slot_core.specs.Feasibility.Sporadics.{sporadic_demand}
+use Rattle.slot_core.specs.Runs.Demand.{need_by}
+use Rattle.slot_core.specs.Runs.Matches.{HaveSameItems, IsSameScene, MatchesHistory}
+use Rattle.slot_core.specs.Keeping.Kept.{KeepsBounds, KeepsSoftOrder, KeepsRows}
 use Rattle.slot_facts.specs.Bounds.{EveryExecutiveIsKept}
 use Rattle.slot_facts.proofs.Lists.Members.{Contains-from_Has, AllByRecursion-from_Has}
 use Rattle.slot_facts.proofs.Lists.SameItems.{same-sym, jobs-same_items}

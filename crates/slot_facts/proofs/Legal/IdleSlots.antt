@@ -10,14 +10,14 @@ use Rattle.slot_core.specs.declared.tasks.TaskSet.{TaskSet}
 use Rattle.slot_core.specs.declared.events.Ran.{Ran}
 use Rattle.slot_core.specs.declared.events.Ran.TheVariants.{Idle as RanIdle, Key as RanKey}
 use Rattle.slot_core.specs.declared.events.What.TheVariants.{Idle}
-use Rattle.slot_core.specs.Cycles.{cycle_of}
-use Rattle.slot_core.specs.Ranges.{is_sound}
-use Rattle.slot_core.specs.Histories.{History, time_of}
-use Rattle.slot_core.specs.Scenes.{Scene, horizon, scene_of, unended, guaranteed_in, next_arrivals}
-use Rattle.slot_core.specs.Demand.{need_by, is_overloaded}
-use Rattle.slot_core.specs.Choice.{lower_of, first_soft, soft_may_run, earliest_ready, choice}
-use Rattle.slot_core.specs.Safety.{after_slot, IsSafe}
-use Rattle.slot_core.specs.Traces.{told_of_slot}
+use Rattle.slot_core.specs.Sets.Cycles.{cycle_of}
+use Rattle.slot_core.specs.Sets.Ranges.{is_sound}
+use Rattle.slot_core.specs.Runs.Histories.{History, time_of}
+use Rattle.slot_core.specs.Runs.Scenes.{Scene, horizon, scene_of, unended, guaranteed_in, next_arrivals}
+use Rattle.slot_core.specs.Runs.Demand.{need_by, is_overloaded}
+use Rattle.slot_core.specs.Runs.Choice.{lower_of, first_soft, soft_may_run, earliest_ready, choice}
+use Rattle.slot_core.specs.Claims.Safety.{after_slot, IsSafe}
+use Rattle.slot_core.specs.Runs.Traces.{told_of_slot}
 use Rattle.slot_facts.specs.Bounds.{NoSoftJobWaitsThroughAnIdleSlot}
 use Rattle.slot_facts.proofs.Demand.OneSlot.{one_slot}
 use Rattle.slot_facts.proofs.Histories.Unended.{unended_have_left}

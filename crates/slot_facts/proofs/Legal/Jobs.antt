@@ -1,4 +1,4 @@
--- The jobs of a legal history: no key stands twice, and later entries keep them.
+-- The jobs of a history: no key stands twice, and later entries keep them.
 use Rattle.std.proofs.Common.{◌≡◌, ℕ, ◌<◌, ◌≤◌, ◌⊎◌, true, false, List, [], ◌∷◌, ◌++◌, map, refl, sym, ap, ◌∙◌, subst, inl, inr, arith}
 use Rattle.std.proofs.lemmas.Bool.{both_ways}
 use Rattle.std.proofs.lemmas.List.{map-append}
@@ -13,21 +13,21 @@ use Rattle.slot_core.specs.declared.events.What.TheVariants.{Soft, Firm, Sporadi
 use Rattle.slot_core.specs.declared.events.Soft.TheVariants.{Taken as SoftTaken}
 use Rattle.slot_core.specs.declared.events.Firm.TheVariants.{Accepted}
 use Rattle.slot_core.specs.declared.events.Spo.TheVariants.{Taken as SporadicTaken}
-use Rattle.slot_core.specs.Keys.{is_offline, is_soft, row_of}
-use Rattle.slot_core.specs.Rising.{AreRising}
-use Rattle.slot_core.specs.Cycles.{cycle_of}
-use Rattle.slot_core.specs.Ranges.{is_sound}
-use Rattle.slot_core.specs.OfflineJobs.{offline_jobs}
-use Rattle.slot_core.specs.Histories.{History, time_of, last_row, firm_jobs, sporadic_jobs, soft_jobs}
-use Rattle.slot_core.specs.Scenes.{guaranteed_in}
+use Rattle.slot_core.specs.Offline.Keys.{is_offline, is_soft, row_of}
+use Rattle.slot_core.specs.Runs.Rising.{AreRising}
+use Rattle.slot_core.specs.Sets.Cycles.{cycle_of}
+use Rattle.slot_core.specs.Sets.Ranges.{is_sound}
+use Rattle.slot_core.specs.Offline.OfflineJobs.{offline_jobs}
+use Rattle.slot_core.specs.Runs.Histories.{History, time_of, last_row, firm_jobs, sporadic_jobs, soft_jobs}
+use Rattle.slot_core.specs.Runs.Scenes.{guaranteed_in}
 use Rattle.slot_facts.proofs.Lists.Apart.{AreRising-push, apart-from_rising}
 use Rattle.slot_facts.proofs.Lists.ApartKeys.{same_member-from_apart}
 use Rattle.slot_facts.proofs.Lists.Members.{Has, Contains-from_Has, Has-append_left, Has-append_right, Has-append_cases, Has-map, Has-map_cases}
 use Rattle.slot_facts.proofs.Offline.DistinctKeys.{IsApart, IsApart-append, IsApart-map, IsApart-weaker, offline_jobs-apart}
 use Rattle.slot_facts.proofs.Offline.Jobs.{offline_from_cycles}
 use Rattle.slot_facts.proofs.Offline.Windows.{IsOfCycle-from_offline}
-use Rattle.slot_facts.proofs.Legal.Data.{LegalEntries}
-use Rattle.slot_facts.proofs.Legal.Rows.{earlier-legal, rows-rise, accepted-says, sporadic_taken-says, soft_taken-says, HasCome, firm-come, sporadic-come}
+use Rattle.slot_facts.proofs.Legal.Data.{Slots, Entries}
+use Rattle.slot_facts.proofs.Legal.Rows.{entries-before, rows-rise, accepted-says, sporadic_taken-says, soft_taken-says, HasCome, firm-come, sporadic-come}
 
 -- an offline job has the key of one
 pub offline-key : (set : TaskSet) (cycle cycles : ℕ) (job : Job) → Has (offline_jobs set cycle cycles) job → is_offline job.key ≡ true
@@ -49,30 +49,30 @@ sporadic-key ss (SporadicEntry row index (SporadicTaken due) ∷ h) job (inr at)
 sporadic-key ss (what ∷ h) job at = sporadic-key ss h job at
 
 -- no key stands twice among the firm jobs, nor among the sporadic ones
-firm-apart : (set : TaskSet) (cycle : ℕ) (h : History) → LegalEntries set cycle h → IsApart (λ (j : Job). j.key) (firm_jobs h)
+firm-apart : {S : Slots} (set : TaskSet) (cycle : ℕ) (h : History) → Entries S set cycle h → IsApart (λ (j : Job). j.key) (firm_jobs h)
 firm-apart set cycle [] l = tt
 firm-apart set cycle (Firm row slots within Accepted ∷ h) l = (
   λ y at e.
       let same : row ≡ row_of y.key = ap row_of e in
-      let come = firm-come set cycle h y (earlier-legal l) at in
+      let come = firm-come set cycle h y (entries-before l) at in
       absurd (omega (arith, come.row_at_most, (accepted-says l).above)),
-  firm-apart set cycle h (earlier-legal l),
+  firm-apart set cycle h (entries-before l),
 )
-firm-apart set cycle (what ∷ h) l = firm-apart set cycle h (earlier-legal l)
+firm-apart set cycle (what ∷ h) l = firm-apart set cycle h (entries-before l)
 
-sporadic-apart : (set : TaskSet) (h : History) → is_sound set ≡ true → LegalEntries set (cycle_of set) h → IsApart (λ (j : Job). j.key) (sporadic_jobs set.sporadics h)
+sporadic-apart : {S : Slots} (set : TaskSet) (h : History) → is_sound set ≡ true → Entries S set (cycle_of set) h → IsApart (λ (j : Job). j.key) (sporadic_jobs set.sporadics h)
 sporadic-apart set [] sound l = tt
 sporadic-apart set (SporadicEntry row index (SporadicTaken due) ∷ h) sound l = (
   λ y at e.
       let same : row ≡ row_of y.key = ap row_of e in
-      let come = sporadic-come set h y sound (earlier-legal l) at in
+      let come = sporadic-come set h y sound (entries-before l) at in
       absurd (omega (arith, come.row_at_most, (sporadic_taken-says l).above)),
-  sporadic-apart set h sound (earlier-legal l),
+  sporadic-apart set h sound (entries-before l),
 )
-sporadic-apart set (what ∷ h) sound l = sporadic-apart set h sound (earlier-legal l)
+sporadic-apart set (what ∷ h) sound l = sporadic-apart set h sound (entries-before l)
 
 -- where a guaranteed job stands
-pub guaranteed-cases : (set : TaskSet) (cycles : ℕ) (h : History) (job : Job) → is_sound set ≡ true → LegalEntries set (cycle_of set) h → Has (guaranteed_in set (cycle_of set) cycles h) job → Has (offline_jobs set (cycle_of set) cycles) job ⊎ HasCome (time_of h) (cycle_of set) (last_row h) job
+pub guaranteed-cases : {S : Slots} (set : TaskSet) (cycles : ℕ) (h : History) (job : Job) → is_sound set ≡ true → Entries S set (cycle_of set) h → Has (guaranteed_in set (cycle_of set) cycles h) job → Has (offline_jobs set (cycle_of set) cycles) job ⊎ HasCome (time_of h) (cycle_of set) (last_row h) job
 guaranteed-cases set cycles h job sound l at =
     let planned = offline_jobs set (cycle_of set) cycles in
     elim (Has-append_cases (planned ++ firm_jobs h) (sporadic_jobs set.sporadics h) job at) [
@@ -81,6 +81,14 @@ guaranteed-cases set cycles h job sound l at =
         | inr b ↦ inr (firm-come set (cycle_of set) h job l b)
       ]
       | inr a ↦ inr (sporadic-come set h job sound l a)
+    ]
+
+-- one with the key of an offline job is one
+pub planned-from_offline : {S : Slots} (set : TaskSet) (cycles : ℕ) (h : History) (job : Job) → is_sound set ≡ true → Entries S set (cycle_of set) h → Has (guaranteed_in set (cycle_of set) cycles h) job → is_offline job.key ≡ true → Has (offline_jobs set (cycle_of set) cycles) job
+planned-from_offline set cycles h job sound l at planned =
+    elim (guaranteed-cases set cycles h job sound l at) [
+      | inl a ↦ a
+      | inr come ↦ absurd (both_ways (is_offline job.key) come.not_offline planned)
     ]
 
 pub guaranteed-offline : (set : TaskSet) (cycles : ℕ) (h : History) (job : Job) → Has (offline_jobs set (cycle_of set) cycles) job → Has (guaranteed_in set (cycle_of set) cycles h) job
@@ -101,7 +109,7 @@ not_soft-from_offline (SporadicKey i r) e = refl
 not_soft-from_offline (FirmKey r) e = refl
 not_soft-from_offline (SoftKey r) e = cc
 
-pub IsGuaranteed-from_listed : (set : TaskSet) (cycles : ℕ) (h : History) (job : Job) → is_sound set ≡ true → LegalEntries set (cycle_of set) h → Has (guaranteed_in set (cycle_of set) cycles h) job → IsGuaranteed job
+pub IsGuaranteed-from_listed : {S : Slots} (set : TaskSet) (cycles : ℕ) (h : History) (job : Job) → is_sound set ≡ true → Entries S set (cycle_of set) h → Has (guaranteed_in set (cycle_of set) cycles h) job → IsGuaranteed job
 IsGuaranteed-from_listed set cycles h job sound l at =
     elim (guaranteed-cases set cycles h job sound l at) [
       | inl a ↦
@@ -119,7 +127,7 @@ firm_is_not_sporadic set h a b at_a at_b e =
     let is = sb.1 in
     cc
 
-pub guaranteed-apart : (set : TaskSet) (cycles : ℕ) (h : History) → is_sound set ≡ true → LegalEntries set (cycle_of set) h → IsApart (λ (j : Job). j.key) (guaranteed_in set (cycle_of set) cycles h)
+pub guaranteed-apart : {S : Slots} (set : TaskSet) (cycles : ℕ) (h : History) → is_sound set ≡ true → Entries S set (cycle_of set) h → IsApart (λ (j : Job). j.key) (guaranteed_in set (cycle_of set) cycles h)
 guaranteed-apart set cycles h sound l =
     let key = λ (j : Job). j.key in
     let cycle = cycle_of set in
@@ -150,14 +158,14 @@ pub record SoftHasCome (row : ℕ) (soft : SoftJob) : Type 0 where
   pub row_at_most : soft.row ≤ row
   pub row_some : 1 ≤ soft.row
 
-pub soft-come : (set : TaskSet) (cycle : ℕ) (h : History) (soft : SoftJob) → LegalEntries set cycle h → Has (soft_jobs h) soft → SoftHasCome (last_row h) soft
+pub soft-come : {S : Slots} (set : TaskSet) (cycle : ℕ) (h : History) (soft : SoftJob) → Entries S set cycle h → Has (soft_jobs h) soft → SoftHasCome (last_row h) soft
 soft-come set cycle [] soft l at = absurd at
 soft-come set cycle (Soft row slots SoftTaken ∷ h) soft l at =
     let taken = soft_taken-says l in
     let own : SoftJob = record { row = row; left = slots; declared = slots } in
     elim (Has-append_cases (soft_jobs h) (own ∷ []) soft at) [
       | inl a ↦
-          let come = soft-come set cycle h soft (earlier-legal l) a in
+          let come = soft-come set cycle h soft (entries-before l) a in
           record { some = come.some; whole = come.whole; row_at_most = omega (arith, come.row_at_most, taken.above); row_some = come.row_some }
       | inr b ↦ elim b [
         | inl e ↦ subst (SoftHasCome row) e (record { some = taken.some; whole = refl; row_at_most = omega arith; row_some = omega (arith, taken.above) })
@@ -165,10 +173,10 @@ soft-come set cycle (Soft row slots SoftTaken ∷ h) soft l at =
       ]
     ]
 soft-come set cycle (what ∷ h) soft l at =
-    let come = soft-come set cycle h soft (earlier-legal l) at in
+    let come = soft-come set cycle h soft (entries-before l) at in
     record { some = come.some; whole = come.whole; row_at_most = omega (arith, come.row_at_most, rows-rise l); row_some = come.row_some }
 
-pub soft-rising : (set : TaskSet) (cycle : ℕ) (h : History) → LegalEntries set cycle h → AreRising 0 (map (λ (s : SoftJob). s.row) (soft_jobs h))
+pub soft-rising : {S : Slots} (set : TaskSet) (cycle : ℕ) (h : History) → Entries S set cycle h → AreRising 0 (map (λ (s : SoftJob). s.row) (soft_jobs h))
 soft-rising set cycle [] l = tt
 soft-rising set cycle (Soft row slots SoftTaken ∷ h) l =
     let taken = soft_taken-says l in
@@ -176,11 +184,11 @@ soft-rising set cycle (Soft row slots SoftTaken ∷ h) l =
     let own : SoftJob = record { row = row; left = slots; declared = slots } in
     let below = λ (x : ℕ) (at : Has rows x).
     let m = Has-map_cases (λ (s : SoftJob). s.row) (soft_jobs h) x at in
-    let low : x < row = omega (arith, m.2, (soft-come set cycle h m.0 (earlier-legal l) m.1).row_at_most, taken.above) in
+    let low : x < row = omega (arith, m.2, (soft-come set cycle h m.0 (entries-before l) m.1).row_at_most, taken.above) in
     low in
     subst (AreRising 0) (sym (map-append (λ (s : SoftJob). s.row) (soft_jobs h) (own ∷ [])))
-    (AreRising-push 0 rows row (soft-rising set cycle h (earlier-legal l)) (omega (arith, taken.above)) below)
-soft-rising set cycle (what ∷ h) l = soft-rising set cycle h (earlier-legal l)
+    (AreRising-push 0 rows row (soft-rising set cycle h (entries-before l)) (omega (arith, taken.above)) below)
+soft-rising set cycle (what ∷ h) l = soft-rising set cycle h (entries-before l)
 
 -- a job as its key and its declared slots
 abbrev of_job : Job → Key × ℕ
@@ -196,7 +204,7 @@ all_jobs_in set cycle cycles h =
     ++ map (λ (s : SoftJob). (SoftKey s.row, s.declared)) (soft_jobs h)
 
 -- no key stands twice among them
-pub all_jobs-apart : (set : TaskSet) (cycles : ℕ) (h : History) → is_sound set ≡ true → LegalEntries set (cycle_of set) h → IsApart (λ (p : Key × ℕ). p.0) (all_jobs_in set (cycle_of set) cycles h)
+pub all_jobs-apart : {S : Slots} (set : TaskSet) (cycles : ℕ) (h : History) → is_sound set ≡ true → Entries S set (cycle_of set) h → IsApart (λ (p : Key × ℕ). p.0) (all_jobs_in set (cycle_of set) cycles h)
 all_jobs-apart set cycles h sound l =
     let first = λ (p : Key × ℕ). p.0 in
     let jobs = guaranteed_in set (cycle_of set) cycles h in
@@ -270,12 +278,12 @@ all_jobs-earlier set cycles [] h p at = at
 all_jobs-earlier set cycles (what ∷ later) h p at =
     all_jobs-later set cycles what (later ++ h) p (all_jobs-earlier set cycles later h p at)
 
--- in a legal history a key tells the declared slots
-pub declared-from_key : (set : TaskSet) (cycles : ℕ) (h : History) (key : Key) (m n : ℕ) → is_sound set ≡ true → LegalEntries set (cycle_of set) h → Has (all_jobs_in set (cycle_of set) cycles h) (key, m) → Has (all_jobs_in set (cycle_of set) cycles h) (key, n) → m ≡ n
+-- a key tells the declared slots
+pub declared-from_key : {S : Slots} (set : TaskSet) (cycles : ℕ) (h : History) (key : Key) (m n : ℕ) → is_sound set ≡ true → Entries S set (cycle_of set) h → Has (all_jobs_in set (cycle_of set) cycles h) (key, m) → Has (all_jobs_in set (cycle_of set) cycles h) (key, n) → m ≡ n
 declared-from_key set cycles h key m n sound l at_m at_n =
     ap (λ (p : Key × ℕ). p.1) (same_member-from_apart (λ (p : Key × ℕ). p.0) (all_jobs_in set (cycle_of set) cycles h) (key, m) (key, n) (all_jobs-apart set cycles h sound l) at_m at_n refl)
 
 -- and the guaranteed job
-pub job-from_key : (set : TaskSet) (cycles : ℕ) (h : History) (a b : Job) → is_sound set ≡ true → LegalEntries set (cycle_of set) h → Has (guaranteed_in set (cycle_of set) cycles h) a → Has (guaranteed_in set (cycle_of set) cycles h) b → a.key ≡ b.key → a ≡ b
+pub job-from_key : {S : Slots} (set : TaskSet) (cycles : ℕ) (h : History) (a b : Job) → is_sound set ≡ true → Entries S set (cycle_of set) h → Has (guaranteed_in set (cycle_of set) cycles h) a → Has (guaranteed_in set (cycle_of set) cycles h) b → a.key ≡ b.key → a ≡ b
 job-from_key set cycles h a b sound l at_a at_b e =
     same_member-from_apart (λ (j : Job). j.key) (guaranteed_in set (cycle_of set) cycles h) a b (guaranteed-apart set cycles h sound l) at_a at_b e

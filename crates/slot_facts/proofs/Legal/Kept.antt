@@ -6,12 +6,12 @@ use Rattle.slot_core.specs.declared.jobs.Key.TheVariants.{Offline, Sporadic, Fir
 use Rattle.slot_core.specs.declared.jobs.Job.{Job}
 use Rattle.slot_core.specs.declared.jobs.SoftJob.{SoftJob}
 use Rattle.slot_core.specs.declared.tasks.TaskSet.{TaskSet}
-use Rattle.slot_core.specs.Keys.{is_offline, row_of}
-use Rattle.slot_core.specs.Cycles.{cycle_of}
-use Rattle.slot_core.specs.Ranges.{is_sound}
-use Rattle.slot_core.specs.Histories.{History, last_row}
-use Rattle.slot_core.specs.Scenes.{guaranteed_in, unended, waiting_soft, scene_in}
-use Rattle.slot_core.specs.Kept.{KeepsRows}
+use Rattle.slot_core.specs.Offline.Keys.{is_offline, row_of}
+use Rattle.slot_core.specs.Sets.Cycles.{cycle_of}
+use Rattle.slot_core.specs.Sets.Ranges.{is_sound}
+use Rattle.slot_core.specs.Runs.Histories.{History, last_row}
+use Rattle.slot_core.specs.Runs.Scenes.{guaranteed_in, unended, waiting_soft, scene_in}
+use Rattle.slot_core.specs.Keeping.Kept.{KeepsRows}
 use Rattle.slot_facts.specs.Bounds.{EveryLegalHistoryIsKept}
 use Rattle.slot_facts.proofs.Histories.Unended.{unended_own}
 use Rattle.slot_facts.proofs.Lists.Members.{Has, AllByRecursion-from_Has}

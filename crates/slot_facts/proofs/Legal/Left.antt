@@ -5,9 +5,9 @@ use Rattle.std.proofs.lemmas.Bool.Decides.{nat_tests}
 use Rattle.std.proofs.lemmas.List.Sums.{sum_by-cons, sum_by-append}
 use Rattle.slot_core.specs.declared.jobs.Key.{Key}
 use Rattle.slot_core.specs.declared.jobs.Job.{Job}
-use Rattle.slot_core.specs.Histories.{History, executed, is_freed}
-use Rattle.slot_core.specs.Scenes.{has_ended, with_left, unended}
-use Rattle.slot_core.specs.Demand.{work_by, work_from}
+use Rattle.slot_core.specs.Runs.Histories.{History, executed, is_freed}
+use Rattle.slot_core.specs.Runs.Scenes.{has_ended, with_left, unended}
+use Rattle.slot_core.specs.Runs.Demand.{work_by, work_from}
 use Rattle.slot_facts.proofs.Lists.Members.{Has}
 use Rattle.slot_facts.proofs.Lists.Sums.{sum_by-map, sum_by-filter}
 
@@ -21,7 +21,7 @@ abbrev pub left_in : (ℕ → ℕ → Bool) → History → List Job → ℕ
 left_in test h jobs = sum_by (left_of test h) jobs
 
 -- this is the work of those that have not ended
-left_in-unended : (test : ℕ → ℕ → Bool) (h : History) (jobs : List Job) → sum_by (λ (j : Job). cond (test j.est j.dl) j.left 0) (unended h jobs) ≡ left_in test h jobs
+pub left_in-unended : (test : ℕ → ℕ → Bool) (h : History) (jobs : List Job) → sum_by (λ (j : Job). cond (test j.est j.dl) j.left 0) (unended h jobs) ≡ left_in test h jobs
 left_in-unended test h jobs =
     sum_by-map (λ (j : Job). cond (test j.est j.dl) j.left 0) (with_left h) (filter (λ (j : Job). not (has_ended h j)) jobs)
     ∙ sum_by-filter (λ (j : Job). cond (test j.est j.dl) (j.declared - executed j.key h) 0) (λ (j : Job). not (has_ended h j)) jobs

@@ -7,8 +7,8 @@ use Rattle.std.proofs.Math.Nat.{mul-le-mul_left}
 use Rattle.slot_core.specs.declared.tasks.Sporadic.{Sporadic}
 use Rattle.slot_core.specs.declared.events.What.TheVariants.{Sporadic as SporadicEntry}
 use Rattle.slot_core.specs.declared.events.Spo.TheVariants.{Taken as SporadicTaken}
-use Rattle.slot_core.specs.Histories.{History, time_of, next_arrival}
-use Rattle.slot_core.specs.Sporadics.{arrivals_due, sporadic_demand}
+use Rattle.slot_core.specs.Runs.Histories.{History, time_of, next_arrival}
+use Rattle.slot_core.specs.Feasibility.Sporadics.{arrivals_due, sporadic_demand}
 use Rattle.slot_facts.proofs.Patterns.Counts.{arrivals_due-from}
 use Rattle.slot_facts.proofs.Demand.OneSlot.{arrivals_due-later}
 

@@ -11,19 +11,19 @@ use Rattle.slot_core.specs.declared.events.What.{What}
 use Rattle.slot_core.specs.declared.events.What.TheVariants.{Done, Withdraw, Run}
 use Rattle.slot_core.specs.declared.events.Done.TheVariants.{Freed}
 use Rattle.slot_core.specs.declared.events.Gone.TheVariants.{Freed as GoneFreed}
-use Rattle.slot_core.specs.Keys.{same_key, is_offline}
-use Rattle.slot_core.specs.Cycles.{cycle_of}
-use Rattle.slot_core.specs.Ranges.{is_sound}
-use Rattle.slot_core.specs.OfflineJobs.{offline_jobs}
-use Rattle.slot_core.specs.Windows.{precedes}
-use Rattle.slot_core.specs.Histories.{History, Follows, time_of, executed, freed_by, is_freed, is_over, soft_jobs}
-use Rattle.slot_core.specs.Scenes.{guaranteed_in, has_ended, soft_has_ended}
+use Rattle.slot_core.specs.Offline.Keys.{same_key, is_offline}
+use Rattle.slot_core.specs.Sets.Cycles.{cycle_of}
+use Rattle.slot_core.specs.Sets.Ranges.{is_sound}
+use Rattle.slot_core.specs.Offline.OfflineJobs.{offline_jobs}
+use Rattle.slot_core.specs.Offline.Windows.{precedes}
+use Rattle.slot_core.specs.Runs.Histories.{History, Follows, time_of, executed, freed_by, is_freed, is_over, soft_jobs}
+use Rattle.slot_core.specs.Runs.Scenes.{guaranteed_in, has_ended, soft_has_ended}
 use Rattle.slot_facts.proofs.Choice.Earliest.{same_from_key}
 use Rattle.slot_facts.proofs.Lists.Members.{Has, Contains-from_Has}
 use Rattle.slot_facts.proofs.Offline.Windows.{same_offline-from_key}
-use Rattle.slot_facts.proofs.Legal.Data.{LegalEntries}
+use Rattle.slot_facts.proofs.Legal.Data.{Slots, Entries}
 use Rattle.slot_facts.proofs.Legal.Left.{IsFurther}
-use Rattle.slot_facts.proofs.Legal.Rows.{earlier-legal, time-rises}
+use Rattle.slot_facts.proofs.Legal.Rows.{entries-before, time-rises}
 use Rattle.slot_facts.proofs.Legal.Jobs.{all_jobs_in, guaranteed-cases, offline-key}
 
 -- the job of this key may run after this history: it is inside its window, it has not ended, and its
@@ -132,7 +132,7 @@ module _ (set : TaskSet) (cycles : ℕ) (sound : is_sound set ≡ true) where
   Planned job = Has (offline_jobs set (cycle_of set) cycles) job
 
   -- the run of an offline job is owned by it
-  pub own-run : (h : History) (job : Job) (key : Key) → LegalEntries set (cycle_of set) h → Planned job → same_key job.key key ≡ true → JobMayRun set cycles h key ⊎ SoftMayRun h key → (has_ended h job ≡ false) × (job.est ≤ time_of h) × ((before : Job) → Planned before → precedes set before.key job.key ≡ true → has_ended h before ≡ true)
+  pub own-run : {S : Slots} (h : History) (job : Job) (key : Key) → Entries S set (cycle_of set) h → Planned job → same_key job.key key ≡ true → JobMayRun set cycles h key ⊎ SoftMayRun h key → (has_ended h job ≡ false) × (job.est ≤ time_of h) × ((before : Job) → Planned before → precedes set before.key job.key ≡ true → has_ended h before ≡ true)
   own-run h job key l at same (inl may) =
       let keyed = same_from_key job.key key same in
       elim (guaranteed-cases set cycles h may.job sound l may.listed) [
@@ -148,48 +148,48 @@ module _ (set : TaskSet) (cycles : ℕ) (sound : is_sound set ≡ true) where
       absurd (both_ways (is_offline job.key) (ap is_offline (keyed ∙ sym may.keyed)) (offline-key set (cycle_of set) cycles job at))
 
   -- an offline job that starts later has not run
-  pub not_run-early : (h : History) (job : Job) → LegalEntries set (cycle_of set) h → IsOwned set cycles h → Planned job → time_of h ≤ job.est → executed job.key h ≡ 0
+  pub not_run-early : {S : Slots} (h : History) (job : Job) → Entries S set (cycle_of set) h → IsOwned set cycles h → Planned job → time_of h ≤ job.est → executed job.key h ≡ 0
   not_run-early [] job l owned at early = refl
   not_run-early (Run key ∷ h) job l owned at early =
       elim (cases_Bool (same_key job.key key)) [
         | inl same ↦
-            let own = own-run h job key (earlier-legal l) at same owned.0 in
+            let own = own-run h job key (entries-before l) at same owned.0 in
             absurd (omega (arith, own.1))
         | inr other ↦
-            cond-false (same_key job.key key) (suc (executed job.key h)) (executed job.key h) other ∙ not_run-early h job (earlier-legal l) owned.1 at (omega arith)
+            cond-false (same_key job.key key) (suc (executed job.key h)) (executed job.key h) other ∙ not_run-early h job (entries-before l) owned.1 at (omega arith)
       ]
   not_run-early (what ∷ h) job l owned at early =
-      not_run-early h job (earlier-legal l) (owned-tail set cycles what h owned) at (omega (arith, time-rises what h))
+      not_run-early h job (entries-before l) (owned-tail set cycles what h owned) at (omega (arith, time-rises what h))
 
   -- one that has a predecessor that has not ended has not run
-  pub not_run-waiting : (h : History) (before job : Job) → LegalEntries set (cycle_of set) h → IsOwned set cycles h → Planned before → Planned job → precedes set before.key job.key ≡ true → has_ended h before ≡ false → executed job.key h ≡ 0
+  pub not_run-waiting : {S : Slots} (h : History) (before job : Job) → Entries S set (cycle_of set) h → IsOwned set cycles h → Planned before → Planned job → precedes set before.key job.key ≡ true → has_ended h before ≡ false → executed job.key h ≡ 0
   not_run-waiting [] before job l owned first at listed waits = refl
   not_run-waiting (Run key ∷ h) before job l owned first at listed waits =
       let waited = not_over-earlier (Run key) h before.key before.declared waits in
       elim (cases_Bool (same_key job.key key)) [
         | inl same ↦
-            let own = own-run h job key (earlier-legal l) at same owned.0 in
+            let own = own-run h job key (entries-before l) at same owned.0 in
             absurd (both_ways (has_ended h before) waited (own.2 before first listed))
         | inr other ↦
-            cond-false (same_key job.key key) (suc (executed job.key h)) (executed job.key h) other ∙ not_run-waiting h before job (earlier-legal l) owned.1 first at listed waited
+            cond-false (same_key job.key key) (suc (executed job.key h)) (executed job.key h) other ∙ not_run-waiting h before job (entries-before l) owned.1 first at listed waited
       ]
   not_run-waiting (what ∷ h) before job l owned first at listed waits =
-      not_run-waiting h before job (earlier-legal l) (owned-tail set cycles what h owned) first at listed (not_over-earlier what h before.key before.declared waits)
+      not_run-waiting h before job (entries-before l) (owned-tail set cycles what h owned) first at listed (not_over-earlier what h before.key before.declared waits)
 
   -- and one that has not run was not ended
-  pub not_freed : (h : History) (job : Job) → LegalEntries set (cycle_of set) h → IsOwned set cycles h → Planned job → executed job.key h ≡ 0 → is_freed job.key h ≡ false
+  pub not_freed : {S : Slots} (h : History) (job : Job) → Entries S set (cycle_of set) h → IsOwned set cycles h → Planned job → executed job.key h ≡ 0 → is_freed job.key h ≡ false
   not_freed [] job l owned at none = refl
   not_freed (Run key ∷ h) job l owned at none =
-      not_freed h job (earlier-legal l) owned.1 at (omega (arith, (is_further (Run key) h).ran job.key))
+      not_freed h job (entries-before l) owned.1 at (omega (arith, (is_further (Run key) h).ran job.key))
   not_freed (Done row key (Freed n) ∷ h) job l owned at none =
       let other = false_from_ne_true (same_key job.key key) (λ same.
       let keyed = same_from_key job.key key same in
       let planned = ap is_offline (sym keyed) ∙ offline-key set (cycle_of set) cycles job at in
       absurd (omega (arith, owned.0.started planned, ap (λ k. executed k h) keyed))) in
-      or_from (same_key job.key key) (is_freed job.key h) other (not_freed h job (earlier-legal l) owned.1 at none)
+      or_from (same_key job.key key) (is_freed job.key h) other (not_freed h job (entries-before l) owned.1 at none)
   not_freed (Withdraw row firm (GoneFreed n) ∷ h) job l owned at none =
       let other = false_from_ne_true (same_key job.key (FirmKey firm)) (λ same.
       both_ways (is_offline job.key) (ap is_offline (same_from_key job.key (FirmKey firm) same)) (offline-key set (cycle_of set) cycles job at)) in
-      or_from (same_key job.key (FirmKey firm)) (is_freed job.key h) other (not_freed h job (earlier-legal l) owned.1 at none)
+      or_from (same_key job.key (FirmKey firm)) (is_freed job.key h) other (not_freed h job (entries-before l) owned.1 at none)
   not_freed (what ∷ h) job l owned at none =
-      not_freed h job (earlier-legal l) (owned-tail set cycles what h owned) at none
+      not_freed h job (entries-before l) (owned-tail set cycles what h owned) at none

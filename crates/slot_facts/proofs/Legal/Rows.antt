@@ -1,55 +1,56 @@
--- What the entries of a legal history give: its rows rise, its jobs have come, and no key stands twice.
+-- What the entries of a history give: its rows rise, its jobs have come, and no key stands twice.
 use Rattle.std.proofs.Common.{◌≡◌, ℕ, zero, suc, ◌+◌, ◌*◌, ◌/◌, ◌<◌, ◌≤◌, true, false, ◌==◌, List, [], ◌∷◌, ◌++◌, length, Some, refl, sym, ap, subst, inl, inr, arith}
 use Rattle.std.specs.Prelude.{All, slice_get}
 use Rattle.std.specs.Option.{option_map_or}
 use Rattle.std.specs.List.{enumerate_from}
 use Rattle.std.proofs.lemmas.Bool.{cond_both}
 use Rattle.std.proofs.lemmas.List.Elements.{All-from_recursion}
+use Rattle.slot_core.specs.declared.jobs.Key.{Key}
 use Rattle.slot_core.specs.declared.jobs.Key.TheVariants.{Sporadic as SporadicKey}
 use Rattle.slot_core.specs.declared.jobs.Job.{Job}
 use Rattle.slot_core.specs.declared.tasks.Sporadic.{Sporadic}
 use Rattle.slot_core.specs.declared.tasks.TaskSet.{TaskSet}
+use Rattle.slot_core.specs.declared.events.Ran.TheVariants.{Idle as RanIdle, Key as RanKey}
 use Rattle.slot_core.specs.declared.events.What.{What}
 use Rattle.slot_core.specs.declared.events.What.TheVariants.{Soft, Firm, Sporadic as SporadicEntry, Run, Idle}
 use Rattle.slot_core.specs.declared.events.Soft.TheVariants.{Taken as SoftTaken}
 use Rattle.slot_core.specs.declared.events.Firm.TheVariants.{Accepted}
 use Rattle.slot_core.specs.declared.events.Spo.TheVariants.{Taken as SporadicTaken}
-use Rattle.slot_core.specs.Keys.{is_offline, is_soft, row_of}
-use Rattle.slot_core.specs.Cycles.{cycle_of}
-use Rattle.slot_core.specs.Ranges.{is_sound}
-use Rattle.slot_core.specs.Histories.{History, time_of, last_row, firm_jobs, sporadic_job, sporadic_jobs, next_arrival}
-use Rattle.slot_core.specs.Scenes.{next_arrivals}
+use Rattle.slot_core.specs.Offline.Keys.{is_offline, is_soft, row_of}
+use Rattle.slot_core.specs.Sets.Cycles.{cycle_of}
+use Rattle.slot_core.specs.Sets.Ranges.{is_sound}
+use Rattle.slot_core.specs.Runs.Histories.{History, time_of, last_row, firm_jobs, sporadic_job, sporadic_jobs, next_arrival}
+use Rattle.slot_core.specs.Runs.Scenes.{next_arrivals}
 use Rattle.slot_facts.proofs.Bounds.CycleDemand.{FitsCycle, FitsCycle-from_Has}
 use Rattle.slot_facts.proofs.Sets.Tasks.{slice_get-within}
 use Rattle.slot_facts.proofs.Lists.Members.{Has, Has-map_cases, Has-from_slice_get, Has-enumerate_from_at, AllByRecursion-from_Has}
 use Rattle.slot_facts.proofs.Offline.Jobs.{cycle-positive}
-use Rattle.slot_facts.proofs.Legal.Data.{Accepts, TakesSoft, TakesSporadic, LegalEntries, at_start, at_end, soft_runs, job_runs, idles, soft_taken, soft_full, accepted, late, far, no_room, sporadic_taken, soon, job_freed, soft_freed, not_running, withdrawn, no_job}
+use Rattle.slot_facts.proofs.Legal.Data.{Accepts, TakesSoft, TakesSporadic, Slots, Entries, at_start, at_end, slot_runs, idles, soft_taken, soft_full, accepted, late, far, no_room, sporadic_taken, soon, job_freed, soft_freed, not_running, withdrawn, no_job}
 
--- the entries before the last are legal
-pub earlier-legal : {set : TaskSet} {cycle : ℕ} {what : What} {h : History} → LegalEntries set cycle (what ∷ h) → LegalEntries set cycle h
-earlier-legal (at_start l) = l
-earlier-legal (at_end l) = l
-earlier-legal (soft_runs r l) = l
-earlier-legal (job_runs r l) = l
-earlier-legal (idles r l) = l
-earlier-legal (soft_taken r l) = l
-earlier-legal (soft_full r l) = l
-earlier-legal (accepted r l) = l
-earlier-legal (late r l) = l
-earlier-legal (far r l) = l
-earlier-legal (no_room r l) = l
-earlier-legal (sporadic_taken r l) = l
-earlier-legal (soon r l) = l
-earlier-legal (job_freed r j s l) = l
-earlier-legal (soft_freed r s l) = l
-earlier-legal (not_running r l) = l
-earlier-legal (withdrawn r j l) = l
-earlier-legal (no_job r l) = l
+-- the entries before the last
+pub entries-before : {S : Slots} {set : TaskSet} {cycle : ℕ} {what : What} {h : History} → Entries S set cycle (what ∷ h) → Entries S set cycle h
+entries-before (at_start l) = l
+entries-before (at_end l) = l
+entries-before (slot_runs r s l) = l
+entries-before (idles r l) = l
+entries-before (soft_taken r l) = l
+entries-before (soft_full r l) = l
+entries-before (accepted r l) = l
+entries-before (late r l) = l
+entries-before (far r l) = l
+entries-before (no_room r l) = l
+entries-before (sporadic_taken r l) = l
+entries-before (soon r l) = l
+entries-before (job_freed r j s l) = l
+entries-before (soft_freed r s l) = l
+entries-before (not_running r l) = l
+entries-before (withdrawn r j l) = l
+entries-before (no_job r l) = l
 
--- so are those of each earlier history
-pub legal-from_later : {set : TaskSet} {cycle : ℕ} (later h : History) → LegalEntries set cycle (later ++ h) → LegalEntries set cycle h
-legal-from_later [] h l = l
-legal-from_later (what ∷ later) h l = legal-from_later later h (earlier-legal l)
+-- those of each earlier history
+pub entries-earlier : {S : Slots} {set : TaskSet} {cycle : ℕ} (later h : History) → Entries S set cycle (later ++ h) → Entries S set cycle h
+entries-earlier [] h l = l
+entries-earlier (what ∷ later) h l = entries-earlier later h (entries-before l)
 
 -- the time does not fall
 pub time-rises : (what : What) (h : History) → time_of h ≤ time_of (what ∷ h)
@@ -58,11 +59,10 @@ time-rises Idle h = omega arith
 time-rises _ h = omega arith
 
 -- the rows rise
-pub rows-rise : {set : TaskSet} {cycle : ℕ} {what : What} {h : History} → LegalEntries set cycle (what ∷ h) → last_row h ≤ last_row (what ∷ h)
+pub rows-rise : {S : Slots} {set : TaskSet} {cycle : ℕ} {what : What} {h : History} → Entries S set cycle (what ∷ h) → last_row h ≤ last_row (what ∷ h)
 rows-rise (at_start l) = omega arith
 rows-rise (at_end l) = omega arith
-rows-rise (soft_runs r l) = omega arith
-rows-rise (job_runs r l) = omega arith
+rows-rise (slot_runs r s l) = omega arith
 rows-rise (idles r l) = omega arith
 rows-rise (soft_taken r l) = omega (arith, r.above)
 rows-rise (soft_full r l) = omega arith
@@ -79,14 +79,21 @@ rows-rise (withdrawn r j l) = omega arith
 rows-rise (no_job r l) = omega arith
 
 -- what the entries that bring jobs say
-pub accepted-says : {set : TaskSet} {cycle row slots within : ℕ} {h : History} → LegalEntries set cycle (Firm row slots within Accepted ∷ h) → Accepts set cycle h row slots within
+pub accepted-says : {S : Slots} {set : TaskSet} {cycle row slots within : ℕ} {h : History} → Entries S set cycle (Firm row slots within Accepted ∷ h) → Accepts set cycle h row slots within
 accepted-says (accepted r l) = r
 
-pub sporadic_taken-says : {set : TaskSet} {cycle row index due : ℕ} {h : History} → LegalEntries set cycle (SporadicEntry row index (SporadicTaken due) ∷ h) → TakesSporadic set h row index due
+pub sporadic_taken-says : {S : Slots} {set : TaskSet} {cycle row index due : ℕ} {h : History} → Entries S set cycle (SporadicEntry row index (SporadicTaken due) ∷ h) → TakesSporadic set h row index due
 sporadic_taken-says (sporadic_taken r l) = r
 
-pub soft_taken-says : {set : TaskSet} {cycle row slots : ℕ} {h : History} → LegalEntries set cycle (Soft row slots SoftTaken ∷ h) → TakesSoft set h row slots
+pub soft_taken-says : {S : Slots} {set : TaskSet} {cycle row slots : ℕ} {h : History} → Entries S set cycle (Soft row slots SoftTaken ∷ h) → TakesSoft set h row slots
 soft_taken-says (soft_taken r l) = r
+
+-- what a slot says
+pub run-says : {S : Slots} {set : TaskSet} {cycle : ℕ} {key : Key} {h : History} → Entries S set cycle (Run key ∷ h) → S h (RanKey key)
+run-says (slot_runs r s l) = s
+
+pub idle-says : {S : Slots} {set : TaskSet} {cycle : ℕ} {h : History} → Entries S set cycle (Idle ∷ h) → S h RanIdle
+idle-says (idles s l) = s
 
 -- a job that came at run time, by this time and row
 pub record HasCome (t cycle row : ℕ) (job : Job) : Type 0 where
@@ -96,6 +103,7 @@ pub record HasCome (t cycle row : ℕ) (job : Job) : Type 0 where
   pub due : job.dl ≤ t + cycle
   pub some : 1 ≤ job.declared
   pub whole : job.left ≡ job.declared
+  pub row_some : 1 ≤ row_of job.key
   pub row_at_most : row_of job.key ≤ row
 
 HasCome-later : (t u cycle row last : ℕ) (job : Job) → t ≤ u → row ≤ last → HasCome t cycle row job → HasCome u cycle last job
@@ -107,11 +115,12 @@ HasCome-later t u cycle row last job le rises come =
       due = omega (arith, come.due);
       some = come.some;
       whole = come.whole;
+      row_some = come.row_some;
       row_at_most = omega (arith, come.row_at_most);
     }
 
 -- the firm jobs have come
-pub firm-come : (set : TaskSet) (cycle : ℕ) (h : History) (job : Job) → LegalEntries set cycle h → Has (firm_jobs h) job → HasCome (time_of h) cycle (last_row h) job
+pub firm-come : {S : Slots} (set : TaskSet) (cycle : ℕ) (h : History) (job : Job) → Entries S set cycle h → Has (firm_jobs h) job → HasCome (time_of h) cycle (last_row h) job
 firm-come set cycle [] job l at = absurd at
 firm-come set cycle (Firm row slots within Accepted ∷ h) job l (inl e) =
     let a = accepted-says l in
@@ -122,12 +131,13 @@ firm-come set cycle (Firm row slots within Accepted ∷ h) job l (inl e) =
       due = omega (arith, a.near);
       some = a.some;
       whole = refl;
+      row_some = omega (arith, a.above);
       row_at_most = omega arith;
     })
 firm-come set cycle (Firm row slots within Accepted ∷ h) job l (inr at) =
-    HasCome-later (time_of h) (time_of h) cycle (last_row h) row job (omega arith) (rows-rise l) (firm-come set cycle h job (earlier-legal l) at)
+    HasCome-later (time_of h) (time_of h) cycle (last_row h) row job (omega arith) (rows-rise l) (firm-come set cycle h job (entries-before l) at)
 firm-come set cycle (what ∷ h) job l at =
-    HasCome-later (time_of h) (time_of (what ∷ h)) cycle (last_row h) (last_row (what ∷ h)) job (time-rises what h) (rows-rise l) (firm-come set cycle h job (earlier-legal l) at)
+    HasCome-later (time_of h) (time_of (what ∷ h)) cycle (last_row h) (last_row (what ∷ h)) job (time-rises what h) (rows-rise l) (firm-come set cycle h job (entries-before l) at)
 
 -- a separation is at most the cycle
 multiple-at_least : (q d n : ℕ) → q * d ≡ n → 1 ≤ n → d ≤ n
@@ -144,8 +154,8 @@ sporadic_job-at ss index row t s at =
     ap (λ o. record { key = SporadicKey index row; est = t; dl = t + option_map_or (λ (s : Sporadic). s.deadline) o 0; left = option_map_or (λ (s : Sporadic). s.wcet) o 0; declared = option_map_or (λ (s : Sporadic). s.wcet) o 0 }) at
 
 -- the sporadic jobs have come
-sporadic_job-come : (set : TaskSet) (t row index : ℕ) → is_sound set ≡ true → index < length set.sporadics → HasCome t (cycle_of set) row (sporadic_job set.sporadics index row t)
-sporadic_job-come set t row index sound named =
+sporadic_job-come : (set : TaskSet) (t row index : ℕ) → is_sound set ≡ true → index < length set.sporadics → 1 ≤ row → HasCome t (cycle_of set) row (sporadic_job set.sporadics index row t)
+sporadic_job-come set t row index sound named some =
     let (s, at) = slice_get-within set.sporadics index named in
     let fits = FitsCycle-from_Has set s sound (Has-from_slice_get set.sporadics index s at) in
     subst (HasCome t (cycle_of set) row) (sym (sporadic_job-at set.sporadics index row t s at)) (record {
@@ -155,17 +165,19 @@ sporadic_job-come set t row index sound named =
       due = omega (arith, fits.within, separation-in_cycle set s sound fits);
       some = fits.some;
       whole = refl;
+      row_some = some;
       row_at_most = omega arith;
     })
 
-pub sporadic-come : (set : TaskSet) (h : History) (job : Job) → is_sound set ≡ true → LegalEntries set (cycle_of set) h → Has (sporadic_jobs set.sporadics h) job → HasCome (time_of h) (cycle_of set) (last_row h) job
+pub sporadic-come : {S : Slots} (set : TaskSet) (h : History) (job : Job) → is_sound set ≡ true → Entries S set (cycle_of set) h → Has (sporadic_jobs set.sporadics h) job → HasCome (time_of h) (cycle_of set) (last_row h) job
 sporadic-come set [] job sound l at = absurd at
 sporadic-come set (SporadicEntry row index (SporadicTaken due) ∷ h) job sound l (inl e) =
-    subst (HasCome (time_of h) (cycle_of set) row) e (sporadic_job-come set (time_of h) row index sound (sporadic_taken-says l).named)
+    let a = sporadic_taken-says l in
+    subst (HasCome (time_of h) (cycle_of set) row) e (sporadic_job-come set (time_of h) row index sound a.named (omega (arith, a.above)))
 sporadic-come set (SporadicEntry row index (SporadicTaken due) ∷ h) job sound l (inr at) =
-    HasCome-later (time_of h) (time_of h) (cycle_of set) (last_row h) row job (omega arith) (rows-rise l) (sporadic-come set h job sound (earlier-legal l) at)
+    HasCome-later (time_of h) (time_of h) (cycle_of set) (last_row h) row job (omega arith) (rows-rise l) (sporadic-come set h job sound (entries-before l) at)
 sporadic-come set (what ∷ h) job sound l at =
-    HasCome-later (time_of h) (time_of (what ∷ h)) (cycle_of set) (last_row h) (last_row (what ∷ h)) job (time-rises what h) (rows-rise l) (sporadic-come set h job sound (earlier-legal l) at)
+    HasCome-later (time_of h) (time_of (what ∷ h)) (cycle_of set) (last_row h) (last_row (what ∷ h)) job (time-rises what h) (rows-rise l) (sporadic-come set h job sound (entries-before l) at)
 
 -- the next arrival of a task is at most a separation from now
 pub next_arrival-reach : (index separation : ℕ) (h : History) → next_arrival index separation h ≤ time_of h + separation

@@ -1,4 +1,5 @@
--- Every legal history of a feasible set is served and ordered.
+-- A history whose runs and early ends are owned, and in which no job was ever late, is served and ordered; so every legal
+-- history of a feasible set is.
 use Rattle.std.proofs.Common.{◌≡◌, ℕ, suc, ◌+◌, ◌/◌, ◌≤◌, ◌<◌, Bool, true, false, ◌||◌, List, [], ◌∷◌, ◌++◌, length, take, Some, refl, sym, ap, ◌∙◌, subst, inl, inr, arith}
 use Rattle.std.specs.Prelude.{nat_le}
 use Rattle.std.proofs.lemmas.Bool.{both_ways, cases_Bool, or_left, or_right, or_parts, leb-false, cond-true, cond-false}
@@ -10,29 +11,30 @@ use Rattle.slot_core.specs.declared.events.What.{What}
 use Rattle.slot_core.specs.declared.events.What.TheVariants.{Done, Withdraw, Run}
 use Rattle.slot_core.specs.declared.events.Done.TheVariants.{Freed}
 use Rattle.slot_core.specs.declared.events.Gone.TheVariants.{Freed as GoneFreed}
-use Rattle.slot_core.specs.Keys.{same_key, is_offline, is_soft}
-use Rattle.slot_core.specs.Cycles.{cycle_of}
-use Rattle.slot_core.specs.Ranges.{is_sound}
-use Rattle.slot_core.specs.Feasible.{IsFeasible}
-use Rattle.slot_core.specs.OfflineJobs.{offline_jobs}
-use Rattle.slot_core.specs.Windows.{release_or, deadline_or, raw_release, raw_deadline, precedes}
-use Rattle.slot_core.specs.Histories.{History, Follows, time_of, executed, freed_by, is_freed, is_over}
-use Rattle.slot_core.specs.Scenes.{guaranteed_in, has_ended}
-use Rattle.slot_core.specs.Traces.{IsLegal, trace, history_of}
-use Rattle.slot_core.specs.Service.{all_jobs, IsInside, IsServed, IsOrdered}
+use Rattle.slot_core.specs.Offline.Keys.{same_key, is_offline, is_soft}
+use Rattle.slot_core.specs.Sets.Cycles.{cycle_of}
+use Rattle.slot_core.specs.Sets.Ranges.{is_sound}
+use Rattle.slot_core.specs.Feasibility.Feasible.{IsFeasible}
+use Rattle.slot_core.specs.Offline.OfflineJobs.{offline_jobs}
+use Rattle.slot_core.specs.Offline.Windows.{release_or, deadline_or, raw_release, raw_deadline, precedes}
+use Rattle.slot_core.specs.Runs.Histories.{History, Follows, time_of, executed, freed_by, is_freed, is_over}
+use Rattle.slot_core.specs.Runs.Scenes.{guaranteed_in, has_ended}
+use Rattle.slot_core.specs.Runs.Traces.{IsLegal, trace, history_of}
+use Rattle.slot_core.specs.Claims.Service.{all_jobs, IsInside, IsServed, IsOrdered}
 use Rattle.slot_facts.proofs.Offline.Windows.{precedes-offline}
 use Rattle.slot_facts.specs.Service.{EveryLegalHistoryIsServed, EveryTraceIsServed}
 use Rattle.slot_facts.proofs.Choice.Earliest.{same_from_key}
 use Rattle.slot_facts.proofs.Lists.ApartKeys.{same_key-itself}
 use Rattle.slot_facts.proofs.Lists.Members.{Has, Has-from_Contains, Contains-from_Has}
+use Rattle.slot_facts.proofs.Offline.Jobs.{cycle-positive}
 use Rattle.slot_facts.proofs.Offline.Windows.{IsOfCycle-from_offline}
-use Rattle.slot_facts.proofs.Legal.Bounds.{Reaches, IsCarried}
+use Rattle.slot_facts.proofs.Legal.Bounds.{Reaches, reaches-before, due-later}
 use Rattle.slot_facts.proofs.Legal.Carried.{carried-legal}
-use Rattle.slot_facts.proofs.Legal.Data.{LegalEntries, legal-as_data}
+use Rattle.slot_facts.proofs.Legal.Data.{Slots, Entries, LegalEntries, legal-as_data}
 use Rattle.slot_facts.proofs.Legal.Jobs.{IsGuaranteed-from_listed, guaranteed-cases, guaranteed-earlier, all_jobs_in, all_jobs-of_job, all_jobs-of_soft, all_jobs-earlier, declared-from_key, job-from_key}
-use Rattle.slot_facts.proofs.Legal.Known.{ended-in_time, concerned-known}
-use Rattle.slot_facts.proofs.Legal.Rows.{legal-from_later}
-use Rattle.slot_facts.proofs.Legal.Owned.{JobMayRun, run-owned, freed-owned, over-later}
+use Rattle.slot_facts.proofs.Legal.Known.{time-earlier, NoneIsLate, ended-in_time, concerned-known}
+use Rattle.slot_facts.proofs.Legal.Rows.{entries-earlier}
+use Rattle.slot_facts.proofs.Legal.Owned.{JobMayRun, IsOwned, run-owned, freed-owned, over-later}
 use Rattle.slot_facts.proofs.Legal.Traces.{every_trace_is_legal}
 
 -- where no run of a key comes after its end, it runs no more than its declared slots
@@ -84,7 +86,11 @@ over-freed (Withdraw row firm (GoneFreed m)) key declared n h e =
     (or_right (nat_le declared (executed key h)) (same_key key (FirmKey firm) || is_freed key h) (or_left (same_key key (FirmKey firm)) (is_freed key h) own), refl)
 over-freed what key declared n h e = absurd (cc e)
 
-module _ (set : TaskSet) (h : History) (sound : is_sound set ≡ true) (feasible : IsFeasible set (cycle_of set)) (legal : LegalEntries set (cycle_of set) h) (carried : IsCarried set (time_of h / cycle_of set + 3) h) where
+-- with the offline jobs of so many cycles, no job was ever late
+abbrev pub NoneWasLate : TaskSet → ℕ → History → Type 0
+NoneWasLate set cycles h = (later earlier : History) → h ≡ later ++ earlier → NoneIsLate set cycles earlier
+
+module _ {S : Slots} (set : TaskSet) (h : History) (sound : is_sound set ≡ true) (told : Entries S set (cycle_of set) h) (owned : IsOwned set (time_of h / cycle_of set + 3) h) (none_late : NoneWasLate set (time_of h / cycle_of set + 3) h) where
   abbrev cycles : ℕ
   cycles = time_of h / cycle_of set + 3
 
@@ -110,7 +116,7 @@ module _ (set : TaskSet) (h : History) (sound : is_sound set ≡ true) (feasible
   -- each run is of a job that is told, and that has not ended
   run-told : (key : Key) (earlier : History) → Follows h (Run key) earlier → (declared : ℕ) × Told key declared × (is_over earlier key declared ≡ false)
   run-told key earlier follows =
-      elim (run-owned set cycles h key earlier carried.owned follows) [
+      elim (run-owned set cycles h key earlier owned follows) [
         | inl may ↦
             let at = told-follow (Run key) may.job.key may.job.declared earlier follows (all_jobs-of_job set cycles earlier may.job may.listed) in
             subst (λ k. (declared : ℕ) × Told k declared × (is_over earlier k declared ≡ false)) may.keyed (may.job.declared, at, may.runs)
@@ -123,7 +129,7 @@ module _ (set : TaskSet) (h : History) (sound : is_sound set ≡ true) (feasible
   not-after_end : (key : Key) (declared : ℕ) (earlier : History) → Told key declared → Follows h (Run key) earlier → is_over earlier key declared ≡ false
   not-after_end key declared earlier at follows =
       let r = run-told key earlier follows in
-      let same = declared-from_key set cycles h key r.0 declared sound legal r.1 at in
+      let same = declared-from_key set cycles h key r.0 declared sound told r.1 at in
       subst (λ d. is_over earlier key d ≡ false) same r.2
 
   -- nor after an early end
@@ -137,8 +143,8 @@ module _ (set : TaskSet) (h : History) (sound : is_sound set ≡ true) (feasible
   -- an early end frees what its job does not run
   freed-slots : (what : What) (key : Key) (declared n : ℕ) (earlier : History) → Told key declared → Follows h what earlier → freed_by what ≡ Some (key, n) → (1 ≤ n) × (executed key h + n ≡ declared)
   freed-slots what key declared n earlier at follows e =
-      let m = freed-owned set cycles h what key n earlier carried.owned follows e in
-      let same = declared-from_key set cycles h key m.declared declared sound legal (told-follow what key m.declared earlier follows m.listed) at in
+      let m = freed-owned set cycles h what key n earlier owned follows e in
+      let same = declared-from_key set cycles h key m.declared declared sound told (told-follow what key m.declared earlier follows m.listed) at in
       let short = run_once m.declared (executed key earlier) (is_freed key earlier) m.runs in
       let still = stands-from what key declared n earlier at follows e in
       (omega (arith, m.slots), omega (arith, m.slots))
@@ -152,7 +158,7 @@ module _ (set : TaskSet) (h : History) (sound : is_sound set ≡ true) (feasible
 
   in_raw : (job : Job) → Has jobs job → (raw_release set job ≤ job.est) × (job.dl ≤ raw_deadline set job)
   in_raw job at =
-      elim (guaranteed-cases set cycles h job sound legal at) [
+      elim (guaranteed-cases set cycles h job sound told at) [
         | inl planned ↦
             let of_cycle = IsOfCycle-from_offline set cycles job sound (Contains-from_Has (offline_jobs set (cycle_of set) cycles) job planned) in
             (of_cycle.2.released, of_cycle.2.due)
@@ -165,10 +171,10 @@ module _ (set : TaskSet) (h : History) (sound : is_sound set ≡ true) (feasible
   -- a run of a guaranteed job is owned by that job
   own-job : (job : Job) (earlier : History) → Has jobs job → Follows h (Run job.key) earlier → (may : JobMayRun set cycles earlier job.key) × (may.job ≡ job)
   own-job job earlier at follows =
-      elim (run-owned set cycles h job.key earlier carried.owned follows) [
-        | inl may ↦ (may, job-from_key set cycles h may.job job sound legal (job-follow (Run job.key) may.job earlier follows may.listed) at may.keyed)
+      elim (run-owned set cycles h job.key earlier owned follows) [
+        | inl may ↦ (may, job-from_key set cycles h may.job job sound told (job-follow (Run job.key) may.job earlier follows may.listed) at may.keyed)
         | inr may ↦
-            absurd (both_ways (is_soft job.key) (IsGuaranteed-from_listed set cycles h job sound legal at).not_soft (ap is_soft (sym may.keyed)))
+            absurd (both_ways (is_soft job.key) (IsGuaranteed-from_listed set cycles h job sound told at).not_soft (ap is_soft (sym may.keyed)))
       ]
 
   run-inside : (job : Job) (earlier : History) → Has jobs job → Follows h (Run job.key) earlier → IsInside set (time_of earlier) job
@@ -180,7 +186,7 @@ module _ (set : TaskSet) (h : History) (sound : is_sound set ≡ true) (feasible
   run-ordered : (before after : Job) (earlier : History) → Has jobs before → Has jobs after → precedes set before.key after.key ≡ true → Follows h (Run after.key) earlier → has_ended earlier before ≡ true
   run-ordered before after earlier at_before at_after first follows =
       let own = own-job after earlier at_after follows in
-      elim (guaranteed-cases set cycles h before sound legal at_before) [
+      elim (guaranteed-cases set cycles h before sound told at_before) [
         | inl planned ↦ own.0.ordered before planned first
         | inr come ↦ absurd (both_ways (is_offline before.key) come.not_offline (precedes-offline set before.key after.key first).0)
       ]
@@ -189,11 +195,10 @@ module _ (set : TaskSet) (h : History) (sound : is_sound set ≡ true) (feasible
   served = record {
     inside = λ job earlier at follows. run-inside job earlier (Has-from_Contains jobs job at) follows;
     in_time = λ job later earlier at same due.
-        let reaches : Reaches set h cycles = omega arith in
         let listed = subst (λ k. Has (guaranteed_in set (cycle_of set) cycles k) job) same (Has-from_Contains jobs job at) in
-        ended-in_time set cycles later earlier job sound feasible (subst (LegalEntries set (cycle_of set)) same legal) (subst (λ k. Reaches set k cycles) same reaches) listed due;
+        ended-in_time set cycles later earlier job sound (subst (Entries S set (cycle_of set)) same told) (none_late later earlier same) listed due;
     known = λ what key earlier (later, same) concerns.
-        let own = legal-from_later later (what ∷ earlier) (subst (LegalEntries set (cycle_of set)) same legal) in
+        let own = entries-earlier later (what ∷ earlier) (subst (Entries S set (cycle_of set)) same told) in
         let (declared, at) = concerned-known set what key earlier own concerns in
         (declared, Contains-from_Has (all_jobs set (cycle_of set) earlier) (key, declared) at);
     not_after_end = λ key declared earlier at follows.
@@ -208,12 +213,27 @@ module _ (set : TaskSet) (h : History) (sound : is_sound set ≡ true) (feasible
   ordered = λ before after earlier at_before at_after first follows.
       run-ordered before after earlier (Has-from_Contains jobs before at_before) (Has-from_Contains jobs after at_after) first follows
 
--- every legal history of a feasible set is served and ordered
+-- what reaches past a history reaches past an earlier one
+pub reaches-earlier : (set : TaskSet) (cycles : ℕ) (later h : History) → is_sound set ≡ true → Reaches set (later ++ h) cycles → Reaches set h cycles
+reaches-earlier set cycles later h sound reaches =
+    reaches-before (time_of h) (time_of (later ++ h)) (cycle_of set) cycles (cycle-positive set sound) (time-earlier later h) reaches
+
+-- in a legal history of a feasible set no job was ever late
+legal-none_late : (set : TaskSet) (cycles : ℕ) (h : History) → is_sound set ≡ true → IsFeasible set (cycle_of set) → LegalEntries set (cycle_of set) h → Reaches set h cycles → NoneWasLate set cycles h
+legal-none_late set cycles h sound feasible legal reaches later earlier same job at runs =
+    let own = entries-earlier later earlier (subst (LegalEntries set (cycle_of set)) same legal) in
+    let near = reaches-earlier set cycles later earlier sound (subst (λ k. Reaches set k cycles) same reaches) in
+    due-later set cycles earlier sound own near (carried-legal set sound feasible own cycles near) job at runs
+
+-- so it is served and ordered
 pub every_legal_history_is_served : EveryLegalHistoryIsServed
 every_legal_history_is_served set h sound feasible legal =
-    let entries = legal-as_data set (cycle_of set) h legal in
-    let carried = carried-legal set sound feasible entries (time_of h / cycle_of set + 3) (omega arith) in
-    (served set h sound feasible entries carried, ordered set h sound feasible entries carried)
+    let told = legal-as_data set (cycle_of set) h legal in
+    let cycles = time_of h / cycle_of set + 3 in
+    let reaches : Reaches set h cycles = omega arith in
+    let owned = (carried-legal set sound feasible told cycles reaches).owned in
+    let none_late : NoneWasLate set cycles h = legal-none_late set cycles h sound feasible told reaches in
+    (served set h sound told owned none_late, ordered set h sound told owned none_late)
 
 -- so every trace of a feasible set and fitting arrivals is
 take-whole : {X : Type 0} (xs : List X) → take (length xs) xs ≡ xs

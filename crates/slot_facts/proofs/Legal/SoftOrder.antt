@@ -15,23 +15,23 @@ use Rattle.slot_core.specs.declared.tasks.TaskSet.{TaskSet}
 use Rattle.slot_core.specs.declared.events.What.{What}
 use Rattle.slot_core.specs.declared.events.What.TheVariants.{Soft, Run}
 use Rattle.slot_core.specs.declared.events.Soft.TheVariants.{Taken as SoftTaken}
-use Rattle.slot_core.specs.Keys.{same_key, is_soft, row_of}
-use Rattle.slot_core.specs.Rising.{AreRising}
-use Rattle.slot_core.specs.Cycles.{cycle_of}
-use Rattle.slot_core.specs.Ranges.{is_sound}
-use Rattle.slot_core.specs.Histories.{History, time_of, last_row, executed, is_freed, soft_jobs}
-use Rattle.slot_core.specs.Scenes.{remaining, guaranteed_in, soft_has_ended, soft_with_left, waiting_soft}
-use Rattle.slot_core.specs.Choice.{lower_of, ready}
-use Rattle.slot_core.specs.Kept.{KeepsSoftOrder}
+use Rattle.slot_core.specs.Offline.Keys.{same_key, is_soft, row_of}
+use Rattle.slot_core.specs.Runs.Rising.{AreRising}
+use Rattle.slot_core.specs.Sets.Cycles.{cycle_of}
+use Rattle.slot_core.specs.Sets.Ranges.{is_sound}
+use Rattle.slot_core.specs.Runs.Histories.{History, time_of, last_row, executed, is_freed, soft_jobs}
+use Rattle.slot_core.specs.Runs.Scenes.{remaining, guaranteed_in, soft_has_ended, soft_with_left, waiting_soft}
+use Rattle.slot_core.specs.Runs.Choice.{lower_of, ready}
+use Rattle.slot_core.specs.Keeping.Kept.{KeepsSoftOrder}
 use Rattle.slot_facts.proofs.Choice.Earliest.{IsEarliest-from_earliest, same_from_key}
 use Rattle.slot_facts.proofs.Histories.Unended.{unended_own}
 use Rattle.slot_facts.proofs.Lists.Apart.{AreRising-lower, above-from_rising}
 use Rattle.slot_facts.proofs.Lists.Members.{Has, Has-append_cases, Has-filter, Has-filter_passes, Has-map, AllByRecursion-from_Has}
-use Rattle.slot_facts.proofs.Legal.Data.{RunsJob, LegalEntries, soft_runs, job_runs}
+use Rattle.slot_facts.proofs.Legal.Data.{RunsJob, LegalEntries, first_soft-listed, slot_runs}
 use Rattle.slot_facts.proofs.Legal.Jobs.{IsGuaranteed-from_listed, soft-come, soft-rising}
 use Rattle.slot_facts.proofs.Legal.Owned.{is_further, over-further, not_over-earlier}
-use Rattle.slot_facts.proofs.Legal.Rows.{earlier-legal, rows-rise, soft_taken-says}
-use Rattle.slot_facts.proofs.Legal.Steps.{first_soft-listed, waiting_own}
+use Rattle.slot_facts.proofs.Legal.Rows.{entries-before, rows-rise, soft_taken-says}
+use Rattle.slot_facts.proofs.Legal.Steps.{waiting_own}
 
 -- of two soft jobs the lower one is at most each, and the first of all at most that one
 module _ (j : SoftJob) (jobs : List SoftJob) (s other : SoftJob) (more : (o : Option SoftJob) (x : SoftJob) → fold lower_of o jobs ≡ Some s → (o ≡ Some x) ⊎ Has jobs x → s.row ≤ x.row) where
@@ -62,7 +62,7 @@ first_soft-below best (j ∷ jobs) s other e which =
     below_two j jobs s other (λ o x f w. first_soft-below o jobs s x f w) best e which
 
 -- a soft job that has not ended waits
-waits : (h : History) (soft : SoftJob) → Has (soft_jobs h) soft → soft_has_ended h soft ≡ false → Has (waiting_soft h) (soft_with_left h soft)
+pub waits : (h : History) (soft : SoftJob) → Has (soft_jobs h) soft → soft_has_ended h soft ≡ false → Has (waiting_soft h) (soft_with_left h soft)
 waits h soft at runs =
     Has-map (soft_with_left h) _ soft (Has-filter (λ s. not (soft_has_ended h s)) (soft_jobs h) soft at (ap not runs))
 
@@ -88,7 +88,7 @@ module _ (set : TaskSet) (sound : is_sound set ≡ true) where
   -- no soft job of a row above the last has run
   not_run-above : (h : History) (row : ℕ) → Legal h → last_row h < row → executed (SoftKey row) h ≡ 0
   not_run-above [] row l above = refl
-  not_run-above (Run key ∷ h) row (soft_runs r l) above =
+  not_run-above (Run key ∷ h) row (slot_runs known (inl r) l) above =
       let own = waiting_own h r.soft (first_soft-listed (waiting_soft h) r.soft r.first) in
       let come = soft-come set (cycle_of set) h own.0 l own.1.listed in
       let other = false_from_ne_true (same_key (SoftKey row) key) (λ same.
@@ -96,16 +96,16 @@ module _ (set : TaskSet) (sound : is_sound set ≡ true) where
       let own_row : r.soft.row ≡ own.0.row = ap (λ (s : SoftJob). s.row) own.1.same in
       absurd (omega (arith, come.row_at_most))) in
       cond-false (same_key (SoftKey row) key) (suc (executed (SoftKey row) h)) (executed (SoftKey row) h) other ∙ not_run-above h row l above
-  not_run-above (Run key ∷ h) row (job_runs r l) above =
+  not_run-above (Run key ∷ h) row (slot_runs known (inr r) l) above =
       let other = other-key row key (job_runs-not_soft set h key sound l r) in
       cond-false (same_key (SoftKey row) key) (suc (executed (SoftKey row) h)) (executed (SoftKey row) h) other ∙ not_run-above h row l above
   not_run-above (what ∷ h) row l above =
-      not_run-above h row (earlier-legal l) (omega (arith, rows-rise l))
+      not_run-above h row (entries-before l) (omega (arith, rows-rise l))
 
   -- of the soft jobs that have not ended only the one of least row has started
   started-first : (h : History) (soft other : SoftJob) → Legal h → Has (soft_jobs h) soft → Has (soft_jobs h) other → soft_has_ended h other ≡ false → 1 ≤ executed (SoftKey soft.row) h → soft_has_ended h soft ≡ false → soft.row ≤ other.row
   started-first [] soft other l at at_other runs started unended = absurd at
-  started-first (Run key ∷ h) soft other (soft_runs r l) at at_other runs started unended =
+  started-first (Run key ∷ h) soft other (slot_runs known (inl r) l) at at_other runs started unended =
       let before = not_over-earlier (Run key) h (SoftKey other.row) other.declared runs in
       let still = not_over-earlier (Run key) h (SoftKey soft.row) soft.declared unended in
       elim (cases_Bool (same_key (SoftKey soft.row) key)) [
@@ -117,7 +117,7 @@ module _ (set : TaskSet) (sound : is_sound set ≡ true) where
             let ran = cond-false (same_key (SoftKey soft.row) key) (suc (executed (SoftKey soft.row) h)) (executed (SoftKey soft.row) h) differs in
             started-first h soft other l at at_other before (omega arith) still
       ]
-  started-first (Run key ∷ h) soft other (job_runs r l) at at_other runs started unended =
+  started-first (Run key ∷ h) soft other (slot_runs known (inr r) l) at at_other runs started unended =
       let before = not_over-earlier (Run key) h (SoftKey other.row) other.declared runs in
       let still = not_over-earlier (Run key) h (SoftKey soft.row) soft.declared unended in
       let differs = other-key soft.row key (job_runs-not_soft set h key sound l r) in
@@ -130,21 +130,21 @@ module _ (set : TaskSet) (sound : is_sound set ≡ true) where
         | inr new ↦ elim new [
           | inl e ↦
               let same : row ≡ soft.row = ap (λ (s : SoftJob). s.row) e in
-              absurd (omega (arith, not_run-above h soft.row (earlier-legal l) (omega (arith, taken.above))))
+              absurd (omega (arith, not_run-above h soft.row (entries-before l) (omega (arith, taken.above))))
           | inr none ↦ absurd none
         ]
         | inl old ↦ elim (Has-append_cases (soft_jobs h) (own ∷ []) other at_other) [
           | inr new ↦ elim new [
             | inl e ↦
                 let same : row ≡ other.row = ap (λ (s : SoftJob). s.row) e in
-                omega (arith, (soft-come set (cycle_of set) h soft (earlier-legal l) old).row_at_most, taken.above)
+                omega (arith, (soft-come set (cycle_of set) h soft (entries-before l) old).row_at_most, taken.above)
             | inr none ↦ absurd none
           ]
-          | inl too ↦ started-first h soft other (earlier-legal l) old too runs started unended
+          | inl too ↦ started-first h soft other (entries-before l) old too runs started unended
         ]
       ]
   started-first (what ∷ h) soft other l at at_other runs started unended =
-      started-first h soft other (earlier-legal l) at at_other (not_over-earlier what h (SoftKey other.row) other.declared runs) started (not_over-earlier what h (SoftKey soft.row) soft.declared unended)
+      started-first h soft other (entries-before l) at at_other (not_over-earlier what h (SoftKey other.row) other.declared runs) started (not_over-earlier what h (SoftKey soft.row) soft.declared unended)
 
   -- no more wait than the limit allows
   fewer-wait : (what : What) (h : History) (jobs : List SoftJob) → length (map (soft_with_left (what ∷ h)) (filter (λ s. not (soft_has_ended (what ∷ h) s)) jobs)) ≤ length (map (soft_with_left h) (filter (λ s. not (soft_has_ended h s)) jobs))
@@ -175,7 +175,7 @@ module _ (set : TaskSet) (sound : is_sound set ≡ true) where
       let one : length (filter test (own ∷ [])) ≤ 1 = one_at_most (test own) own in
       omega (
         arith,
-        few-wait h (earlier-legal l),
+        few-wait h (entries-before l),
         length-map (filter test (soft_jobs h ++ own ∷ [])) (soft_with_left h),
         length-map (filter test (soft_jobs h)) (soft_with_left h),
         ap length (filter-append test (soft_jobs h) (own ∷ [])),
@@ -186,7 +186,7 @@ module _ (set : TaskSet) (sound : is_sound set ≡ true) where
       one_at_most true s = omega arith
       one_at_most false s = omega arith
   few-wait (what ∷ h) l =
-      omega (arith, few-wait h (earlier-legal l), fewer-wait what h (soft_jobs h))
+      omega (arith, few-wait h (entries-before l), fewer-wait what h (soft_jobs h))
 
   -- those that wait stand in the order of their rows
   rising-kept : (p : SoftJob → Bool) (f : SoftJob → SoftJob) (start : ℕ) (jobs : List SoftJob) → ((s : SoftJob) → (f s).row ≡ s.row) → AreRising start (map (λ (s : SoftJob). s.row) jobs) → AreRising start (map (λ (s : SoftJob). s.row) (map f (filter p jobs)))

@@ -1,9 +1,9 @@
 -- What each kind of entry keeps of what a legal history carries.
-use Rattle.std.proofs.Common.{◌≡◌, ℕ, zero, suc, ◌+◌, ◌-◌, ◌*◌, ◌/◌, ◌<◌, ◌≤◌, ◌⊎◌, Bool, true, false, not, ◌&&◌, cond, List, [], ◌∷◌, ◌++◌, length, filter, fold, Option, Some, None, add-one, refl, sym, ap, ◌∙◌, subst, inl, inr, arith}
-use Rattle.std.specs.Prelude.{nat_le, nat_lt, slice_set}
+use Rattle.std.proofs.Common.{◌≡◌, ℕ, suc, ◌+◌, ◌-◌, ◌*◌, ◌/◌, ◌<◌, ◌≤◌, Bool, true, false, not, ◌&&◌, cond, List, ◌∷◌, ◌++◌, length, filter, Option, Some, None, add-one, refl, sym, ap, ◌∙◌, subst, inl, inr, arith}
+use Rattle.std.specs.Prelude.{nat_le, slice_set}
 use Rattle.std.specs.Option.{option_map_or}
 use Rattle.std.specs.List.{range_with_len}
-use Rattle.std.proofs.lemmas.Bool.{cases_lt, both_ways, true_from_ne_false, not-true, ltb-false, leb-true, le-leb, lt-leb, leb-false, or_parts, and_left}
+use Rattle.std.proofs.lemmas.Bool.{cases_lt, true_from_ne_false, not-true, ltb-false, leb-true, le-leb, lt-leb, leb-false, or_parts, and_left}
 use Rattle.slot_core.specs.declared.jobs.Key.{Key}
 use Rattle.slot_core.specs.declared.jobs.Key.TheVariants.{Sporadic as SporadicKey, Firm as FirmKey, Soft as SoftKey}
 use Rattle.slot_core.specs.declared.jobs.Job.{Job}
@@ -16,29 +16,29 @@ use Rattle.slot_core.specs.declared.events.Firm.TheVariants.{Accepted}
 use Rattle.slot_core.specs.declared.events.Spo.TheVariants.{Taken as SporadicTaken}
 use Rattle.slot_core.specs.declared.events.Done.TheVariants.{Freed}
 use Rattle.slot_core.specs.declared.events.Gone.TheVariants.{Freed as GoneFreed}
-use Rattle.slot_core.specs.Keys.{is_offline}
-use Rattle.slot_core.specs.Cycles.{cycle_of}
-use Rattle.slot_core.specs.Ranges.{is_sound}
-use Rattle.slot_core.specs.OfflineJobs.{offline_jobs}
-use Rattle.slot_core.specs.Windows.{precedes}
-use Rattle.slot_core.specs.Feasible.{IsFeasible}
-use Rattle.slot_core.specs.Histories.{History, time_of, executed, is_freed, is_over, offered_job, firm_jobs, sporadic_jobs, soft_jobs}
-use Rattle.slot_core.specs.Scenes.{Scene, horizon, guaranteed_in, has_ended, with_left, unended, remaining, soft_has_ended, soft_with_left, waiting_soft, next_arrivals, scene_of, scene_in}
-use Rattle.slot_core.specs.Demand.{work_by, work_from, need_by, is_overloaded}
-use Rattle.slot_core.specs.Choice.{ready, earliest, lower_of, first_soft, soft_may_run}
-use Rattle.slot_core.specs.Safety.{after_slot, IsSafe}
+use Rattle.slot_core.specs.Offline.Keys.{is_offline}
+use Rattle.slot_core.specs.Sets.Cycles.{cycle_of}
+use Rattle.slot_core.specs.Sets.Ranges.{is_sound}
+use Rattle.slot_core.specs.Offline.OfflineJobs.{offline_jobs}
+use Rattle.slot_core.specs.Offline.Windows.{precedes}
+use Rattle.slot_core.specs.Feasibility.Feasible.{IsFeasible}
+use Rattle.slot_core.specs.Runs.Histories.{History, time_of, executed, is_freed, is_over, offered_job, firm_jobs, sporadic_jobs, soft_jobs}
+use Rattle.slot_core.specs.Runs.Scenes.{Scene, horizon, guaranteed_in, has_ended, with_left, unended, remaining, soft_has_ended, soft_with_left, waiting_soft, next_arrivals, scene_of, scene_in}
+use Rattle.slot_core.specs.Runs.Demand.{work_by, work_from, need_by, is_overloaded}
+use Rattle.slot_core.specs.Runs.Choice.{ready, earliest, soft_may_run}
+use Rattle.slot_core.specs.Claims.Safety.{after_slot, IsSafe}
 use Rattle.slot_facts.proofs.Offline.Windows.{precedes-offline}
 use Rattle.slot_facts.proofs.Choice.Earliest.{IsEarliest-from_earliest, least_due, same_from_key}
 use Rattle.slot_facts.proofs.Demand.OneSlot.{one_slot}
 use Rattle.slot_facts.proofs.Histories.Unended.{Has-unended, unended_own, unended_have_left, after_run-unended}
-use Rattle.slot_facts.proofs.Lists.Members.{Has, Contains-from_Has, Has-append_left, Has-append_right, Has-append_cases, Has-filter, Has-filter_passes, Has-map_cases, Has-range_with_len, passes_from_list_all, Has-from_slice_get}
+use Rattle.slot_facts.proofs.Lists.Members.{Has, Contains-from_Has, Has-filter, Has-filter_passes, Has-map_cases, Has-range_with_len, passes_from_list_all, Has-from_slice_get}
 use Rattle.slot_facts.proofs.Offline.Jobs.{cycle-positive}
 use Rattle.slot_facts.proofs.Offline.Windows.{IsBefore-from_precedes}
 use Rattle.slot_facts.proofs.Legal.Bounds.{Reaches, below_end, IsCarried, due-later, bounds-carried}
-use Rattle.slot_facts.proofs.Legal.Cycles.{left_in-guaranteed, ready-guaranteed}
-use Rattle.slot_facts.proofs.Legal.Data.{RunsSoft, RunsJob, Accepts, TakesSporadic, Remains, RunningSoft, LegalEntries}
+use Rattle.slot_facts.proofs.Legal.Cycles.{guaranteed-more, left_in-guaranteed, ready-guaranteed}
+use Rattle.slot_facts.proofs.Legal.Data.{RunsSoft, RunsJob, Accepts, TakesSporadic, Remains, RunningSoft, LegalEntries, first_soft-listed}
 use Rattle.slot_facts.proofs.Legal.Extended.{bound-extended}
-use Rattle.slot_facts.proofs.Legal.Jobs.{guaranteed-cases, guaranteed-offline, all_jobs-of_job, all_jobs-of_soft}
+use Rattle.slot_facts.proofs.Legal.Jobs.{planned-from_offline, guaranteed-offline, all_jobs-of_job, all_jobs-of_soft}
 use Rattle.slot_facts.proofs.Legal.Left.{left_in, left_in-append, left_in-cons, left_in-further, left_of-le, due_by, from_by, work_by-unended, work_from-unended, IsFurther}
 use Rattle.slot_facts.proofs.Legal.Owned.{JobMayRun, MayEnd, is_further}
 use Rattle.slot_facts.proofs.Legal.Rows.{sporadic_job-at}
@@ -47,34 +47,6 @@ use Rattle.slot_facts.proofs.Bounds.CycleLater.{one_cycle_later_has_no_less_room
 use Rattle.slot_facts.proofs.Bounds.TakenArrival.{sporadic_demand-taken}
 use Rattle.slot_facts.proofs.Sets.Tasks.{slice_get-within}
 use Rattle.slot_facts.proofs.Legal.NextArrivals.{next_arrivals-set, length-next_arrivals, sporadic_demand-later_next}
-
--- the offline jobs of some cycles are among those of more
-offline-more : (set : TaskSet) (m n : ℕ) (job : Job) → m ≤ n → Has (offline_jobs set (cycle_of set) m) job → Has (offline_jobs set (cycle_of set) n) job
-offline-more set m zero job le at =
-    let same : m ≡ 0 = omega arith in
-    rw same at at
-offline-more set m (suc n) job le at =
-    elim (cases_lt n m) [
-      | inl above ↦ let same : m ≡ suc n = omega arith in rw same at at
-      | inr below ↦ Has-append_left (offline_jobs set (cycle_of set) n) _ job (offline-more set m n job below at)
-    ]
-
--- the first soft job is one of them
-first_soft-among : (best : Option SoftJob) (jobs : List SoftJob) (s : SoftJob) → fold lower_of best jobs ≡ Some s → (best ≡ Some s) ⊎ Has jobs s
-first_soft-among best [] s e = inl e
-first_soft-among best (j ∷ jobs) s e =
-    elim (first_soft-among (lower_of best j) jobs s e) [ inl two ↦ of_two best two | inr at ↦ inr (inr at) ]
-  where
-    by_test : (b : Bool) (other : SoftJob) → cond b (Some j) (Some other) ≡ Some s → (Some other ≡ Some s) ⊎ ((j ≡ s) ⊎ Has jobs s)
-    by_test true other e = inr (inl cc)
-    by_test false other e = inl e
-
-    of_two : (o : Option SoftJob) → lower_of o j ≡ Some s → (o ≡ Some s) ⊎ ((j ≡ s) ⊎ Has jobs s)
-    of_two None e = inr (inl cc)
-    of_two (Some other) e = by_test (nat_lt j.row other.row) other e
-
-pub first_soft-listed : (jobs : List SoftJob) (s : SoftJob) → first_soft jobs ≡ Some s → Has jobs s
-first_soft-listed jobs s e = elim (first_soft-among None jobs s e) [ inl none ↦ absurd (cc none) | inr at ↦ at ]
 
 -- each soft job that waits is one of the soft jobs
 pub record IsWaiting (h : History) (soft own : SoftJob) : Type 0 where
@@ -93,6 +65,40 @@ left_is_whole : (h : History) (key : Key) (declared : ℕ) → is_over h key dec
 left_is_whole h key declared runs =
     let short = leb-false declared (executed key h) (or_parts (nat_le declared (executed key h)) (is_freed key h) runs).0 in
     omega arith
+
+-- a job that remains may end, an offline one where it has started
+pub job_may_end : (set : TaskSet) (cycles : ℕ) (h : History) (key : Key) (n : ℕ) → Reaches set h cycles → (j : Remains set (cycle_of set) h key n) → (is_offline key ≡ true → j.job.left < j.job.declared) → MayEnd set cycles h key n
+job_may_end set cycles h key n reaches j started =
+    let few = guaranteed_in set (cycle_of set) (time_of h / cycle_of set + 3) h in
+    let own = unended_own h few j.job j.among in
+    let same = own.1.same in
+    let key_is : own.0.key ≡ key = sym (ap (λ (j : Job). j.key) same) ∙ same_from_key j.job.key key j.keyed in
+    let left_is : j.job.left ≡ own.0.declared - executed own.0.key h = ap (λ (j : Job). j.left) same in
+    let declared_is : j.job.declared ≡ own.0.declared = ap (λ (j : Job). j.declared) same in
+    let slots : n ≡ own.0.declared - executed own.0.key h = j.slots ∙ left_is in
+    let listed = guaranteed-more set (time_of h / cycle_of set + 3) cycles h own.0 reaches own.1.listed in
+    subst (λ k. MayEnd set cycles h k n) key_is (record {
+      declared = own.0.declared;
+      listed = all_jobs-of_job set cycles h own.0 listed;
+      runs = own.1.runs;
+      slots = omega (arith, left_is_whole h own.0.key own.0.declared own.1.runs);
+      started = λ planned. let less = started (ap is_offline (sym key_is) ∙ planned) in omega arith;
+    })
+
+-- so may a soft job that has started
+pub soft_may_end : (set : TaskSet) (cycles : ℕ) (h : History) (key : Key) (n : ℕ) → RunningSoft h key n → MayEnd set cycles h key n
+soft_may_end set cycles h key n r =
+    let own = waiting_own h r.soft r.among in
+    let same = own.1.same in
+    let key_is : SoftKey own.0.row ≡ key = ap (λ (s : SoftJob). SoftKey s.row) (sym same) ∙ same_from_key (SoftKey r.soft.row) key r.keyed in
+    let left_is : r.soft.left ≡ own.0.declared - executed (SoftKey own.0.row) h = ap (λ (s : SoftJob). s.left) same in
+    subst (λ k. MayEnd set cycles h k n) key_is (record {
+      declared = own.0.declared;
+      listed = all_jobs-of_soft set cycles h own.0 own.1.listed;
+      runs = own.1.runs;
+      slots = omega (arith, left_is_whole h (SoftKey own.0.row) own.0.declared own.1.runs, r.slots);
+      started = λ planned. absurd (cc planned);
+    })
 
 module _ (set : TaskSet) (cycles : ℕ) (h : History) (sound : is_sound set ≡ true) (feasible : IsFeasible set (cycle_of set)) (legal : LegalEntries set (cycle_of set) h) (reaches : Reaches set h cycles) (carried : IsCarried set cycles h) where
   abbrev t : ℕ
@@ -156,10 +162,7 @@ module _ (set : TaskSet) (cycles : ℕ) (h : History) (sound : is_sound set ≡ 
         started = started;
         early = due;
         ordered = λ before at listed.
-            let second = elim (guaranteed-cases set cycles h own.0 sound legal own.1.listed) as (λ _. Has planned own.0) [
-              | inl p ↦ p
-              | inr come ↦ absurd (both_ways (is_offline own.0.key) come.not_offline (ap is_offline (sym (r.keyed ∙ key_is)) ∙ (precedes-offline set before.key key listed).1))
-            ] in
+            let second = planned-from_offline set cycles h own.0 sound legal own.1.listed (ap is_offline (sym (r.keyed ∙ key_is)) ∙ (precedes-offline set before.key key listed).1) in
             let windows = IsBefore-from_precedes set cycles before own.0 sound (Contains-from_Has planned before at) (Contains-from_Has planned own.0 second) (subst (λ k. precedes set before.key k ≡ true) (r.keyed ∙ key_is) listed) in
             true_from_ne_false (has_ended h before) (λ runs.
             let waits = Has-unended h guaranteed before runs (guaranteed-offline set cycles h before at) in
@@ -249,64 +252,17 @@ module _ (set : TaskSet) (cycles : ℕ) (h : History) (sound : is_sound set ≡ 
     to_come = λ a x low middle high. omega (arith, less-to_come after a x further, carried.safe.to_come a x low middle high);
   }
 
-  job_may_end : (key : Key) (n : ℕ) (j : Remains set cycle h key n) → (is_offline key ≡ true → j.job.left < j.job.declared) → MayEnd set cycles h key n
-  job_may_end key n j started =
-      let few = guaranteed_in set cycle (t / cycle + 3) h in
-      let own = unended_own h few j.job j.among in
-      let same = own.1.same in
-      let key_is : own.0.key ≡ key = sym (ap (λ (j : Job). j.key) same) ∙ same_from_key j.job.key key j.keyed in
-      let left_is : j.job.left ≡ own.0.declared - executed own.0.key h = ap (λ (j : Job). j.left) same in
-      let declared_is : j.job.declared ≡ own.0.declared = ap (λ (j : Job). j.declared) same in
-      let slots : n ≡ own.0.declared - executed own.0.key h = j.slots ∙ left_is in
-      let listed = guaranteed-more own.0 own.1.listed in
-      subst (λ k. MayEnd set cycles h k n) key_is (record {
-        declared = own.0.declared;
-        listed = all_jobs-of_job set cycles h own.0 listed;
-        runs = own.1.runs;
-        slots = omega (arith, left_is_whole h own.0.key own.0.declared own.1.runs);
-        started = λ planned. let less = started (ap is_offline (sym key_is) ∙ planned) in omega arith;
-      })
-    where
-      guaranteed-more : (job : Job) → Has (guaranteed_in set cycle (t / cycle + 3) h) job → Has guaranteed job
-      guaranteed-more job at =
-          let few = offline_jobs set cycle (t / cycle + 3) in
-          let firm = firm_jobs h in
-          let sporadic = sporadic_jobs set.sporadics h in
-          elim (Has-append_cases (few ++ firm) sporadic job at) [
-            | inl a ↦ elim (Has-append_cases few firm job a) [
-              | inl b ↦ guaranteed-offline set cycles h job (offline-more set (t / cycle + 3) cycles job reaches b)
-              | inr b ↦ Has-append_left (planned ++ firm) sporadic job (Has-append_right planned firm job b)
-            ]
-            | inr a ↦ Has-append_right (planned ++ firm) sporadic job a
-          ]
-
   pub carried-freed : (row n : ℕ) (key : Key) (j : Remains set cycle h key n) → j.job.left < j.job.declared → IsCarried set cycles (Done row key (Freed n) ∷ h)
   carried-freed row n key j started =
-      record { safe = safe-freed (Done row key (Freed n) ∷ h) (is_further (Done row key (Freed n)) h); owned = (job_may_end key n j (λ _. started), carried.owned) }
+      record { safe = safe-freed (Done row key (Freed n) ∷ h) (is_further (Done row key (Freed n)) h); owned = (job_may_end set cycles h key n reaches j (λ _. started), carried.owned) }
 
   pub carried-withdrawn : (row firm n : ℕ) → Remains set cycle h (FirmKey firm) n → IsCarried set cycles (Withdraw row firm (GoneFreed n) ∷ h)
   carried-withdrawn row firm n j =
-      record { safe = safe-freed (Withdraw row firm (GoneFreed n) ∷ h) (is_further (Withdraw row firm (GoneFreed n)) h); owned = (job_may_end (FirmKey firm) n j (λ planned. absurd (cc planned)), carried.owned) }
+      record { safe = safe-freed (Withdraw row firm (GoneFreed n) ∷ h) (is_further (Withdraw row firm (GoneFreed n)) h); owned = (job_may_end set cycles h (FirmKey firm) n reaches j (λ planned. absurd (cc planned)), carried.owned) }
 
   pub carried-soft_freed : (row n : ℕ) (key : Key) → RunningSoft h key n → IsCarried set cycles (Done row key (Freed n) ∷ h)
   carried-soft_freed row n key r =
-      let own = waiting_own h r.soft r.among in
-      let same = own.1.same in
-      let key_is : SoftKey own.0.row ≡ key = ap (λ (s : SoftJob). SoftKey s.row) (sym same) ∙ same_from_key (SoftKey r.soft.row) key r.keyed in
-      let left_is : r.soft.left ≡ own.0.declared - executed (SoftKey own.0.row) h = ap (λ (s : SoftJob). s.left) same in
-      record {
-        safe = safe-freed (Done row key (Freed n) ∷ h) (is_further (Done row key (Freed n)) h);
-        owned = (
-          subst (λ k. MayEnd set cycles h k n) key_is (record {
-            declared = own.0.declared;
-            listed = all_jobs-of_soft set cycles h own.0 own.1.listed;
-            runs = own.1.runs;
-            slots = omega (arith, left_is_whole h (SoftKey own.0.row) own.0.declared own.1.runs, r.slots);
-            started = λ planned. absurd (cc planned);
-          }),
-          carried.owned,
-        );
-      }
+      record { safe = safe-freed (Done row key (Freed n) ∷ h) (is_further (Done row key (Freed n)) h); owned = (soft_may_end set cycles h key n r, carried.owned) }
 
   -- the work of one job more, in the middle of the guaranteed jobs or behind the firm ones
   work-more_firm : (test : ℕ → ℕ → Bool) (what : What) (job : Job) → left_in test (what ∷ h) ((planned ++ job ∷ firm_jobs h) ++ sporadic_jobs set.sporadics h) ≤ cond (test job.est job.dl) job.declared 0 + left_in test h guaranteed

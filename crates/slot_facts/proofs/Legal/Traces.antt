@@ -14,12 +14,12 @@ use Rattle.slot_core.specs.declared.events.Ran.TheVariants.{Idle as RanIdle, Key
 use Rattle.slot_core.specs.declared.events.What.{What}
 use Rattle.slot_core.specs.declared.events.What.TheVariants.{Start, Soft as SoftEntry, Firm as FirmEntry, Sporadic as SporadicEntry, Done as DoneEntry, Withdraw as WithdrawEntry, Run, Idle, End}
 use Rattle.slot_core.specs.declared.TheConstants.{ARRIVAL_LIMIT}
-use Rattle.slot_core.specs.Cycles.{cycle_of}
-use Rattle.slot_core.specs.Histories.{History, time_of, last_row}
-use Rattle.slot_core.specs.Scenes.{scene_of}
-use Rattle.slot_core.specs.Choice.{choice}
-use Rattle.slot_core.specs.Arrivals.{event_may_come, event_names_known, event_fits, arrivals_follow}
-use Rattle.slot_core.specs.Traces.{Occurrence, arrive, slot, told_of_slot, told_of, shown_entry, entries, occurrences_in, occurrences_of, started, end_entry, trace, history_of, IsDue, IsLegal}
+use Rattle.slot_core.specs.Sets.Cycles.{cycle_of}
+use Rattle.slot_core.specs.Runs.Histories.{History, time_of, last_row}
+use Rattle.slot_core.specs.Runs.Scenes.{scene_of}
+use Rattle.slot_core.specs.Runs.Choice.{choice}
+use Rattle.slot_core.specs.Runs.Arrivals.{event_may_come, event_names_known, event_fits, arrivals_follow, are_fitting}
+use Rattle.slot_core.specs.Runs.Traces.{Occurrence, arrive, slot, told_of_slot, told_of, shown_entry, entries, occurrences_in, occurrences_of, started, end_entry, trace, history_of, MayCome, IsDue, IsLegal}
 use Rattle.slot_facts.specs.Service.{EveryTraceIsLegal}
 
 -- an entry that is due keeps a history legal
@@ -35,10 +35,25 @@ legal-due set cycle h (Run key) legal due = (due, legal)
 legal-due set cycle h Idle legal due = (due, legal)
 
 -- from a row on, occurrences may come one after the other
-abbrev MayAllCome : TaskSet → ℕ → List Occurrence → Type 0
+abbrev pub MayAllCome : TaskSet → ℕ → List Occurrence → Type 0
 MayAllCome set row [] = ⊤
 MayAllCome set row (arrive r event ∷ later) = (row < r) × (event_may_come set event ≡ true) × MayAllCome set r later
 MayAllCome set row (slot ∷ later) = MayAllCome set row later
+
+-- so the first may come
+pub MayCome-first : (set : TaskSet) (h : History) (next : Occurrence) (later : List Occurrence) → MayAllCome set (last_row h) (next ∷ later) → MayCome set h next
+MayCome-first set h (arrive row event) later may = (may.0, may.1)
+MayCome-first set h slot later may = tt
+
+-- the last row after what happens next
+abbrev pub row_past : Occurrence → ℕ → ℕ
+row_past (arrive row event) last = row
+row_past slot last = last
+
+-- from which the others may come
+pub MayAllCome-past : (set : TaskSet) (row : ℕ) (next : Occurrence) (later : List Occurrence) → MayAllCome set row (next ∷ later) → MayAllCome set (row_past next row) later
+MayAllCome-past set row (arrive r event) later may = may.2
+MayAllCome-past set row slot later may = may
 
 -- the last row after an arrival is its row
 pub last_row-arrival : (set : TaskSet) (cycle : ℕ) (h : History) (row : ℕ) (event : Event) → last_row (told_of set cycle h (arrive row event) ∷ h) ≡ row
@@ -52,6 +67,15 @@ last_row-arrival set cycle h row (Withdraw firm) = refl
 pub last_row-ran : (ran : Ran) (h : History) → last_row (told_of_slot ran ∷ h) ≡ last_row h
 last_row-ran RanIdle h = refl
 last_row-ran (RanKey key) h = refl
+
+-- so is it after what is told of what happens next
+last_row-told : (set : TaskSet) (cycle : ℕ) (h : History) (next : Occurrence) → last_row (told_of set cycle h next ∷ h) ≡ row_past next (last_row h)
+last_row-told set cycle h (arrive row event) = last_row-arrival set cycle h row event
+last_row-told set cycle h slot = last_row-ran (choice set.sporadics cycle (scene_of set cycle h)) h
+
+pub MayAllCome-told : (set : TaskSet) (cycle : ℕ) (h : History) (next : Occurrence) (later : List Occurrence) → MayAllCome set (last_row h) (next ∷ later) → MayAllCome set (last_row (told_of set cycle h next ∷ h)) later
+MayAllCome-told set cycle h next later may =
+    subst (λ r. MayAllCome set r later) (sym (last_row-told set cycle h next)) (MayAllCome-past set (last_row h) next later may)
 
 -- the history that the first entries tell, on top of this one
 abbrev told_front : ℕ → List Entry → History → History
@@ -67,16 +91,11 @@ legal-entries : (set : TaskSet) (h : History) (next : List Occurrence) (n m : �
 legal-entries set h next n zero legal may = legal
 legal-entries set h [] n (suc zero) legal may = legal
 legal-entries set h [] n (suc (suc m)) legal may = legal
-legal-entries set h (arrive row event ∷ later) n (suc m) legal may =
+legal-entries set h (next ∷ later) n (suc m) legal may =
     let cycle = cycle_of set in
-    let what = told_of set cycle h (arrive row event) in
-    let more = legal-entries set (what ∷ h) later n m (legal-due set cycle h what legal (arrive row event, (may.0, may.1), refl)) (subst (λ r. MayAllCome set r later) (sym (last_row-arrival set cycle h row event)) may.2) in
-    subst (IsLegal set cycle) (sym (told_front-cons m (shown_entry set cycle (time_of h) what (what ∷ h)) (entries set cycle (what ∷ h) later ++ end_entry n ∷ []) h)) more
-legal-entries set h (slot ∷ later) n (suc m) legal may =
-    let cycle = cycle_of set in
-    let what = told_of set cycle h slot in
-    let row = last_row-ran (choice set.sporadics cycle (scene_of set cycle h)) h in
-    let more = legal-entries set (what ∷ h) later n m (legal-due set cycle h what legal (slot, tt, refl)) (subst (λ r. MayAllCome set r later) (sym row) may) in
+    let what = told_of set cycle h next in
+    let longer = legal-due set cycle h what legal (next, MayCome-first set h next later may, refl) in
+    let more = legal-entries set (what ∷ h) later n m longer (MayAllCome-told set cycle h next later may) in
     subst (IsLegal set cycle) (sym (told_front-cons m (shown_entry set cycle (time_of h) what (what ∷ h)) (entries set cycle (what ∷ h) later ++ end_entry n ∷ []) h)) more
 
 -- the first arrival of a list that follows, and the rest
@@ -154,14 +173,18 @@ in_slots set n start from row time zero arrivals h above = tt
 in_slots set n start from row time (suc count) arrivals h above =
     in_slot set n start from row time arrivals (flat_map (occurrences_in arrivals) (range_with_len (time + 1) count)) h above (λ r up. in_slots set n start from r (time + 1) count arrivals h up)
 
+-- what happens in n slots with fitting arrivals may all come
+pub may_all_come-fitting : (set : TaskSet) (arrivals : List Arrival) (n : ℕ) → are_fitting set n arrivals ≡ true → MayAllCome set 0 (occurrences_of arrivals n)
+may_all_come-fitting set arrivals n fits =
+    let follow = (and_parts (nat_le (length arrivals) ARRIVAL_LIMIT) (arrivals_follow set n 1 0 arrivals) fits).1 in
+    in_slots set n 1 0 0 0 n arrivals follow (above-follow set n 0 1 0 0 arrivals (omega arith) follow)
+
 -- the history of each front part of a trace of fitting arrivals is legal
 pub every_trace_is_legal : EveryTraceIsLegal
 every_trace_is_legal set arrivals n zero fits = tt
 every_trace_is_legal set arrivals n (suc m) fits =
     let cycle = cycle_of set in
-    let follow = (and_parts (nat_le (length arrivals) ARRIVAL_LIMIT) (arrivals_follow set n 1 0 arrivals) fits).1 in
-    let may = in_slots set n 1 0 0 0 n arrivals follow (above-follow set n 0 1 0 0 arrivals (omega arith) follow) in
-    let legal = legal-entries set started (occurrences_of arrivals n) n m tt may in
+    let legal = legal-entries set started (occurrences_of arrivals n) n m tt (may_all_come-fitting set arrivals n fits) in
     let rest = entries set cycle started (occurrences_of arrivals n) ++ end_entry n ∷ [] in
     let whole = told_front-cons m (shown_entry set cycle 0 Start started) rest [] in
     subst (IsLegal set cycle) (sym whole ∙ append-nil (history_of (take (suc m) (trace set arrivals n)))) legal

@@ -3,7 +3,7 @@ use Rattle.std.proofs.Common.{◌≡◌, ℕ, ◌<◌, ◌≤◌, Bool, true, fa
 use Rattle.std.specs.Prelude.{count_by}
 use Rattle.std.proofs.lemmas.Bool.{cases_Bool, cond-true, cond-false, false_from_ne_true}
 use Rattle.std.proofs.lemmas.List.Sums.{sum_by-cons}
-use Rattle.slot_core.specs.Rising.{AreRising}
+use Rattle.slot_core.specs.Runs.Rising.{AreRising}
 use Rattle.slot_facts.proofs.Lists.Members.{Has, Has-map, Has-filter_passes}
 use Rattle.slot_facts.proofs.Offline.DistinctKeys.{IsApart}
 

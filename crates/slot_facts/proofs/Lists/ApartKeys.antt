@@ -4,8 +4,8 @@ use Rattle.std.proofs.lemmas.Bool.{cases_Bool, cases_lt, cond-true, cond-false, 
 use Rattle.std.proofs.lemmas.List.Sums.{sum_by-cons, sum_by-append}
 use Rattle.slot_core.specs.declared.jobs.Key.{Key}
 use Rattle.slot_core.specs.declared.jobs.Job.{Job}
-use Rattle.slot_core.specs.Keys.{key_order, same_key, row_of}
-use Rattle.slot_core.specs.Kept.{AreApart}
+use Rattle.slot_core.specs.Offline.Keys.{key_order, same_key, row_of}
+use Rattle.slot_core.specs.Keeping.Kept.{AreApart}
 use Rattle.slot_facts.proofs.Lists.Members.{Has}
 use Rattle.slot_facts.proofs.Lists.Apart.{count-none}
 use Rattle.slot_facts.proofs.Lists.Sums.{cond-le}

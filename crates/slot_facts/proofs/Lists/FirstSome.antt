@@ -3,7 +3,7 @@ use Rattle.std.proofs.Common.{◌≡◌, ℕ, zero, suc, ◌+◌, ◌<◌, ◌�
 use Rattle.std.specs.Option.{option_or}
 use Rattle.std.specs.List.{range_with_len}
 use Rattle.std.proofs.lemmas.Bool.{cases_eq}
-use Rattle.slot_core.specs.Feasible.{first_some}
+use Rattle.slot_core.specs.Feasibility.Feasible.{first_some}
 use Rattle.slot_facts.proofs.Sets.Faults.{option_or-None}
 
 -- nothing is first where no value is there

@@ -10,9 +10,9 @@ use Rattle.std.proofs.lemmas.List.Sums.{sum_by-cons, sum_by-append}
 use Rattle.std.proofs.lemmas.List.Sorted.{sum_by-IsPermutation, IsPermutation-refl, IsPermutation-sym, IsPermutation-trans, IsPermutation-cons, IsPermutation-middle}
 use Rattle.slot_core.specs.declared.jobs.Key.{Key}
 use Rattle.slot_core.specs.declared.jobs.Job.{Job}
-use Rattle.slot_core.specs.Keys.{key_order, same_key}
-use Rattle.slot_core.specs.Safety.{after_run, after_slot}
-use Rattle.slot_core.specs.Matches.{HaveSameItems}
+use Rattle.slot_core.specs.Offline.Keys.{key_order, same_key}
+use Rattle.slot_core.specs.Claims.Safety.{after_run, after_slot}
+use Rattle.slot_core.specs.Runs.Matches.{HaveSameItems}
 use Rattle.slot_facts.proofs.Choice.Earliest.{same_from_order}
 use Rattle.slot_facts.proofs.Lists.Members.{Has}
 use Rattle.slot_facts.proofs.Lists.Sums.{sum_by-map, sum_by-filter}

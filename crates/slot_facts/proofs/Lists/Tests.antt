@@ -68,7 +68,13 @@ Has-from_equal xs x h =
     let same : r.0 ≡ x = eqb-true r.0 x r.2 in
     subst (λ y. Has xs y) same r.1
 
--- what stands at a place of a longer list
+-- what stands at a place stands there in a longer list
+pub slice_get-append : {X : Type 0} (xs ys : List X) (i : ℕ) (x : X) → slice_get xs i ≡ Some x → slice_get (xs ++ ys) i ≡ Some x
+slice_get-append [] ys i x at = absurd (cc at)
+slice_get-append (z ∷ xs) ys zero x at = at
+slice_get-append (z ∷ xs) ys (suc i) x at = slice_get-append xs ys i x at
+
+-- what stands at a place of a list that is longer by one
 pub slice_get-push : {X : Type 0} (xs : List X) (y x : X) (i : ℕ) → slice_get (xs ++ y ∷ []) i ≡ Some x → ((i < length xs) × (slice_get xs i ≡ Some x)) ⊎ ((i ≡ length xs) × (x ≡ y))
 slice_get-push [] y x zero h = inr (refl, cc h)
 slice_get-push [] y x (suc i) h = absurd (cc h)

@@ -10,9 +10,9 @@ use Rattle.slot_core.specs.declared.jobs.Evidence.{Evidence}
 use Rattle.slot_core.specs.declared.tasks.Sporadic.{Sporadic}
 use Rattle.slot_core.specs.declared.events.Firm.{Firm as FirmAnswer}
 use Rattle.slot_core.specs.declared.events.Firm.TheVariants.{Accepted, Late, Far, NoRoom}
-use Rattle.slot_core.specs.Scenes.{Scene, horizon}
-use Rattle.slot_core.specs.Demand.{need_by, is_overloaded, HasRoom}
-use Rattle.slot_core.specs.Answers.{first_overload, evidence_at, firm_answer}
+use Rattle.slot_core.specs.Runs.Scenes.{Scene, horizon}
+use Rattle.slot_core.specs.Runs.Demand.{need_by, is_overloaded, HasRoom}
+use Rattle.slot_core.specs.Runs.Answers.{first_overload, evidence_at, firm_answer}
 use Rattle.slot_facts.proofs.Lists.Members.{Has-range_with_len, Has-range_with_len_bounds}
 use Rattle.slot_facts.proofs.Lists.Tests.{find-Some, None-from_fails}
 use Rattle.slot_facts.proofs.Lists.RangeSearch.{least-from_find}

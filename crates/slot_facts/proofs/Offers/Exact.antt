@@ -16,21 +16,21 @@ use Rattle.slot_core.specs.declared.events.Ran.TheVariants.{Idle, Key as KeyRan}
 use Rattle.slot_core.specs.declared.events.What.{What}
 use Rattle.slot_core.specs.declared.events.What.TheVariants.{Start, End, Firm as FirmEntry}
 use Rattle.slot_core.specs.declared.events.Firm.TheVariants.{Accepted, NoRoom}
-use Rattle.slot_core.specs.Cycles.{cycle_of}
-use Rattle.slot_core.specs.Feasible.{IsFeasible}
-use Rattle.slot_core.specs.Ranges.{is_between, is_sound}
-use Rattle.slot_core.specs.Futures.{pattern_jobs, with_offer, OfferCanBeServed, OfferCannotBeServed, OfferIsExact}
-use Rattle.slot_core.specs.Histories.{History, Follows, time_of, last_row}
-use Rattle.slot_core.specs.Schedules.{HasSchedule}
-use Rattle.slot_core.specs.Scenes.{Scene, horizon, scene_of}
-use Rattle.slot_core.specs.Sporadics.{IsLegalPattern}
-use Rattle.slot_core.specs.Choice.{choice}
-use Rattle.slot_core.specs.Answers.{firm_answer, answer}
-use Rattle.slot_core.specs.Traces.{arrive, slot, told_of_slot, MayCome, IsDue, IsLegal}
+use Rattle.slot_core.specs.Sets.Cycles.{cycle_of}
+use Rattle.slot_core.specs.Feasibility.Feasible.{IsFeasible}
+use Rattle.slot_core.specs.Sets.Ranges.{is_between, is_sound}
+use Rattle.slot_core.specs.Claims.Futures.{pattern_jobs, with_offer, OfferCanBeServed, LeavesNone, OfferCannotBeServed, densest_until, OfferIsExact}
+use Rattle.slot_core.specs.Runs.Histories.{History, Follows, time_of, last_row}
+use Rattle.slot_core.specs.Claims.Schedules.{HasSchedule}
+use Rattle.slot_core.specs.Runs.Scenes.{Scene, horizon, scene_of}
+use Rattle.slot_core.specs.Feasibility.Sporadics.{IsLegalPattern}
+use Rattle.slot_core.specs.Runs.Choice.{choice}
+use Rattle.slot_core.specs.Runs.Answers.{firm_answer, answer}
+use Rattle.slot_core.specs.Runs.Traces.{arrive, slot, told_of_slot, MayCome, IsDue, IsLegal}
 use Rattle.slot_facts.specs.Offers.{OffersAreAlwaysExact}
 use Rattle.slot_facts.proofs.Sets.Ranges.{bounds}
-use Rattle.slot_facts.proofs.Offers.Answers.{accepted_or_no_room, room-from_accepted, short-from_no_room, no_room-from_short}
-use Rattle.slot_facts.proofs.Offers.Room.{room_is_exact, the_densest_pattern_shows_it}
+use Rattle.slot_facts.proofs.Offers.Answers.{accepted_or_no_room, room-from_accepted, short-from_no_room}
+use Rattle.slot_facts.proofs.Offers.Room.{room_is_exact, room_at-densest, densest-legal}
 
 -- the history before an entry of a legal one is legal
 IsLegal-tail : (set : TaskSet) (cycle : ℕ) (what : What) (h : History) → IsLegal set cycle (what ∷ h) → IsLegal set cycle h
@@ -118,11 +118,11 @@ module _ (set : TaskSet) (h : History) (slots within : ℕ) (sound : is_sound se
   -- where nothing can follow, what cannot be served has none
   none-from_refused : set.sporadics ≡ [] → OfferCannotBeServed set cycle h slots within → ¬ IsAlone
   none-from_refused bare cannot alone =
-      let nothing = no_arrivals scene.nexts (time_of h) cannot.pattern (subst (λ (ss : List SporadicTask). IsLegalPattern ss scene.nexts (time_of h) cannot.pattern) bare cannot.legal) in
+      let nothing = no_arrivals scene.nexts (time_of h) cannot.0 (subst (λ (ss : List SporadicTask). IsLegalPattern ss scene.nexts (time_of h) cannot.0) bare cannot.1.legal) in
       let jobs = with_offer set cycle h slots within in
       let row = last_row h + 1 + 1 in
-      let same : jobs ++ pattern_jobs set.sporadics row cannot.pattern ≡ jobs = ap (λ p. jobs ++ pattern_jobs set.sporadics row p) nothing ∙ append-nil jobs in
-      cannot.none (subst (λ js. HasSchedule set js (time_of h) (horizon cycle (time_of h))) (sym same) alone)
+      let same : jobs ++ pattern_jobs set.sporadics row cannot.0 ≡ jobs = ap (λ p. jobs ++ pattern_jobs set.sporadics row p) nothing ∙ append-nil jobs in
+      cannot.1.none (subst (λ js. HasSchedule set js (time_of h) (horizon cycle (time_of h))) (sym same) alone)
 
   module _ (a : FirmAnswer) (told : firm_answer set.sporadics cycle scene slots within ≡ a) where
     -- an accepted offer can be served
@@ -130,12 +130,21 @@ module _ (set : TaskSet) (h : History) (slots within : ℕ) (sound : is_sound se
     served-from_accepted is =
         (room_is_exact set h slots within sound feasible legal some).0 (room-from_accepted set.sporadics cycle scene slots within (told ∙ is))
 
-    -- one that is refused cannot
-    cannot-from_refused : (evidence : Evidence) → a ≡ NoRoom evidence → OfferCannotBeServed set cycle h slots within
-    cannot-from_refused evidence is =
+    -- one that is refused is left no schedule by the densest arrivals that are due by the time of the
+    -- evidence
+    none-from_densest : (evidence : Evidence) → a ≡ NoRoom evidence → LeavesNone set cycle h slots within (densest_until set scene evidence.until)
+    none-from_densest evidence is =
         let short = short-from_no_room set.sporadics cycle scene slots within evidence (told ∙ is) in
-        let shown = the_densest_pattern_shows_it set h slots within sound feasible legal some (no_room-from_short set.sporadics cycle scene slots within evidence short) in
-        record { pattern = _; legal = shown.0; none = shown.1 }
+        record {
+          legal = densest-legal set scene.nexts (time_of h) evidence.until sound;
+          none = λ schedule.
+              let room = room_at-densest set h slots within evidence.until evidence.until sound feasible legal some short.after (omega arith) short.before schedule in
+              absurd (omega (arith, room, short.short));
+        }
+
+    -- so it cannot be served
+    cannot-from_refused : (evidence : Evidence) → a ≡ NoRoom evidence → OfferCannotBeServed set cycle h slots within
+    cannot-from_refused evidence is = (densest_until set scene evidence.until, none-from_densest evidence is)
 
     -- one in reach is accepted or refused
     answered-in_reach : 1 ≤ within → within ≤ cycle → (a ≡ Accepted) ⊎ ((evidence : Evidence) × (a ≡ NoRoom evidence))
@@ -144,6 +153,14 @@ module _ (set : TaskSet) (h : History) (slots within : ℕ) (sound : is_sound se
         (λ (b : FirmAnswer). (b ≡ Accepted) ⊎ ((evidence : Evidence) × (b ≡ NoRoom evidence)))
         told
         (accepted_or_no_room set.sporadics cycle scene slots within due near)
+
+    -- one in reach that cannot be served is refused
+    refused-from_cannot : 1 ≤ within → within ≤ cycle → OfferCannotBeServed set cycle h slots within → (evidence : Evidence) × (a ≡ NoRoom evidence)
+    refused-from_cannot due near (pattern, leaves) =
+        elim (answered-in_reach due near) [
+          | inl accepted ↦ absurd (leaves.none (served-from_accepted accepted pattern leaves.legal))
+          | inr refused ↦ refused
+        ]
 
     -- where no schedule serves it, one in reach is refused
     refused-from_none : set.sporadics ≡ [] → 1 ≤ within → within ≤ cycle → ¬ IsAlone → (evidence : Evidence) × (a ≡ NoRoom evidence)
@@ -159,7 +176,9 @@ module _ (set : TaskSet) (h : History) (slots within : ℕ) (sound : is_sound se
         record {
           accepted = served-from_accepted;
           refused = cannot-from_refused;
+          densest = none-from_densest;
           in_reach = answered-in_reach;
+          exactly = λ due near. (λ refused. cannot-from_refused refused.0 refused.1, refused-from_cannot due near);
           alone = λ bare due near. (λ refused. none-from_refused bare (cannot-from_refused refused.0 refused.1), refused-from_none bare due near);
         }
 

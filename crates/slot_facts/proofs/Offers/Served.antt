@@ -6,17 +6,17 @@ use Rattle.std.specs.Prelude.{All}
 use Rattle.std.proofs.lemmas.List.Elements.{recursion_from_All, All-weaker}
 use Rattle.slot_core.specs.declared.jobs.Job.{Job}
 use Rattle.slot_core.specs.declared.tasks.TaskSet.{TaskSet}
-use Rattle.slot_core.specs.Keys.{row_of}
-use Rattle.slot_core.specs.Cycles.{cycle_of}
-use Rattle.slot_core.specs.Ranges.{is_sound}
-use Rattle.slot_core.specs.Sporadics.{sporadic_demand, IsLegalPattern}
-use Rattle.slot_core.specs.Histories.{History, time_of, last_row}
-use Rattle.slot_core.specs.Scenes.{Scene, scene_in, next_arrivals}
-use Rattle.slot_core.specs.Kept.{KeepsBounds}
-use Rattle.slot_core.specs.Feasible.{IsFeasible}
-use Rattle.slot_core.specs.Demand.{work_by, work_from}
-use Rattle.slot_core.specs.Schedules.{HasSchedule}
-use Rattle.slot_core.specs.Futures.{pattern_jobs}
+use Rattle.slot_core.specs.Offline.Keys.{row_of}
+use Rattle.slot_core.specs.Sets.Cycles.{cycle_of}
+use Rattle.slot_core.specs.Sets.Ranges.{is_sound}
+use Rattle.slot_core.specs.Feasibility.Sporadics.{sporadic_demand, IsLegalPattern}
+use Rattle.slot_core.specs.Runs.Histories.{History, time_of, last_row}
+use Rattle.slot_core.specs.Runs.Scenes.{Scene, scene_in, next_arrivals}
+use Rattle.slot_core.specs.Keeping.Kept.{KeepsBounds}
+use Rattle.slot_core.specs.Feasibility.Feasible.{IsFeasible}
+use Rattle.slot_core.specs.Runs.Demand.{work_by, work_from}
+use Rattle.slot_core.specs.Claims.Schedules.{HasSchedule}
+use Rattle.slot_core.specs.Claims.Futures.{pattern_jobs}
 use Rattle.slot_facts.specs.Bounds.{HistoryIsKept}
 use Rattle.slot_facts.specs.Offers.{EveryLegalHistoryCanBeServed}
 use Rattle.slot_facts.proofs.Lists.Members.{Contains-from_Has, AllByRecursion-at_Has}

@@ -5,14 +5,14 @@ use Rattle.std.proofs.lemmas.Bool.{and_parts, leb-true}
 use Rattle.std.proofs.lemmas.Bool.Decides.{nat_tests}
 use Rattle.slot_core.specs.declared.jobs.Job.{Job}
 use Rattle.slot_core.specs.declared.tasks.TaskSet.{TaskSet}
-use Rattle.slot_core.specs.Keys.{row_of}
-use Rattle.slot_core.specs.Cycles.{cycle_of}
-use Rattle.slot_core.specs.Ranges.{is_sound}
-use Rattle.slot_core.specs.OfflineJobs.{cycle_jobs, offline_jobs}
-use Rattle.slot_core.specs.Sporadics.{IsLegalPattern, densest_pattern}
-use Rattle.slot_core.specs.Schedules.{HasSchedule}
-use Rattle.slot_core.specs.Feasible.{demand}
-use Rattle.slot_core.specs.Futures.{pattern_jobs, densest_from}
+use Rattle.slot_core.specs.Offline.Keys.{row_of}
+use Rattle.slot_core.specs.Sets.Cycles.{cycle_of}
+use Rattle.slot_core.specs.Sets.Ranges.{is_sound}
+use Rattle.slot_core.specs.Offline.OfflineJobs.{cycle_jobs, offline_jobs}
+use Rattle.slot_core.specs.Feasibility.Sporadics.{IsLegalPattern, densest_pattern}
+use Rattle.slot_core.specs.Claims.Schedules.{HasSchedule}
+use Rattle.slot_core.specs.Feasibility.Feasible.{demand}
+use Rattle.slot_core.specs.Claims.Futures.{pattern_jobs, densest_from}
 use Rattle.slot_facts.specs.Verdicts.{TheVerdictMeansSchedules, FeasibleSetsCanBeServedForEver, TheDensestPatternShowsTheFailure}
 use Rattle.slot_facts.proofs.Lists.Members.{Contains-from_Has, Has-from_slice_get, AllByRecursion-from_Has}
 use Rattle.slot_facts.proofs.Lists.Sums.{sum_by-le-where}
@@ -30,7 +30,7 @@ use Rattle.slot_facts.proofs.Patterns.Densest.{the_densest_pattern_needs_all}
 use Rattle.slot_facts.proofs.Bounds.SafeStart.{offline_jobs-safe}
 
 -- the offline jobs of any number of cycles
-own-offline : (set : TaskSet) (cycles : ℕ) → is_sound set ≡ true → AreOwn set cycles 1 (offline_jobs set (cycle_of set) cycles)
+pub own-offline : (set : TaskSet) (cycles : ℕ) → is_sound set ≡ true → AreOwn set cycles 1 (offline_jobs set (cycle_of set) cycles)
 own-offline set cycles sound =
     let jobs = offline_jobs set (cycle_of set) cycles in
     let of_cycle = λ (job : Job) (at : Contains jobs job). (IsOfCycle-from_offline set cycles job sound at).2 in

@@ -7,7 +7,7 @@ use Rattle.std.proofs.lemmas.Bool.Decides.{nat_tests}
 use Rattle.std.proofs.lemmas.List.Elements.{recursion_from_All, filter_passes}
 use Rattle.std.proofs.lemmas.List.Sums.{sum_by-cons}
 use Rattle.slot_core.specs.declared.tasks.Task.{Task}
-use Rattle.slot_core.specs.Precedence.{wcet_of, comes_after, predecessors, successors, chains, longest_before, longest_after}
+use Rattle.slot_core.specs.Offline.Precedence.{wcet_of, comes_after, predecessors, successors, chains, longest_before, longest_after}
 use Rattle.slot_facts.proofs.Offline.Chains.{HasNoLoop, longest_before-step, longest_after-step}
 
 -- the greatest sum of a list of chains

@@ -6,8 +6,8 @@ use Rattle.std.proofs.lemmas.Bool.{eqb-true, false_from_ne_true, both_ways}
 use Rattle.std.proofs.lemmas.List.Sums.{sum_by-cons}
 use Rattle.std.proofs.lemmas.Map.Steps.{length-le_from_distinct_below}
 use Rattle.slot_core.specs.declared.tasks.Task.{Task}
-use Rattle.slot_core.specs.Precedence.{wcet_of, after_of, comes_after, predecessors, successors, chains, leads_to, is_on_loop, longest_before, longest_after}
-use Rattle.slot_facts.proofs.Lists.Members.{Has, Has-map, Has-map_cases, Has-flat_map, Has-flat_map_cases, Has-filter, Has-filter_passes, Has-range_with_len, list_any-from_Has, Has-from_list_any, AllByRecursion-from_Has, fold_max-at, fold_max-le}
+use Rattle.slot_core.specs.Offline.Precedence.{wcet_of, after_of, comes_after, predecessors, successors, chains, leads_to, is_on_loop, longest_before, longest_after}
+use Rattle.slot_facts.proofs.Lists.Members.{Has, Has-map, Has-map_cases, Has-flat_map, Has-flat_map_cases, Has-filter, Has-filter_passes, Has-range_with_len, Has-range_with_len_bounds, list_any-from_Has, Has-from_list_any, AllByRecursion-from_Has, fold_max-at, fold_max-le}
 
 -- no task of the list is on a loop, and each `after` entry names one of them
 pub record HasNoLoop (tasks : List Task) : Type 0 where
@@ -185,6 +185,30 @@ longest_before-step tasks t p sound step =
     t
     p
     (Has-filter (λ q. comes_after tasks t q) (range_with_len 0 (length tasks)) p listed step)
+
+-- and no more than the most of them
+pub longest_before-le : (tasks : List Task) (t m : ℕ) → ((p : ℕ) → comes_after tasks t p ≡ true → p < length tasks → longest_before tasks p + wcet_of tasks p ≤ m) → longest_before tasks t ≤ m
+longest_before-le tasks t m each =
+    fold_max-le 0 m (map weight (chains step (length tasks) t)) (omega arith) λ x at.
+    let c = Has-map_cases weight (chains step (length tasks) t) x at in
+    let i = IsChain-from_chains step (length tasks) t c.0 c.1 in
+    omega (arith, c.2, of_chain c.0 i.0 i.1)
+  where
+    step : ℕ → List ℕ
+    step = predecessors tasks
+
+    weight : List ℕ → ℕ
+    weight = sum_by (wcet_of tasks)
+
+    of_chain : (chain : List ℕ) → IsChain (predecessors tasks) t chain → length chain ≤ length tasks → sum_by (wcet_of tasks) chain ≤ m
+    of_chain [] goes short = omega arith
+    of_chain (p ∷ chain) goes short =
+        let f = Has-filter_passes (λ q. comes_after tasks t q) (range_with_len 0 (length tasks)) p goes.0 in
+        let below = Has-range_with_len_bounds 0 (length tasks) p f.0 in
+        let before = each p f.1 (omega (arith, below.1)) in
+        let listed = Has-chains (predecessors tasks) (length tasks) p chain goes.1 (omega (arith, short)) in
+        let most = fold_max-at 0 (map (sum_by (wcet_of tasks)) (chains (predecessors tasks) (length tasks) p)) (sum_by (wcet_of tasks) chain) (Has-map (sum_by (wcet_of tasks)) (chains (predecessors tasks) (length tasks) p) chain listed) in
+        omega (arith, before, most, sum_by-cons (wcet_of tasks) p chain)
 
 -- the longest chain after a task holds each successor and the longest chain after it
 pub longest_after-step : (tasks : List Task) (t p : ℕ) → HasNoLoop tasks → comes_after tasks t p ≡ true → longest_after tasks t + wcet_of tasks t ≤ longest_after tasks p

@@ -5,7 +5,7 @@ use Rattle.std.specs.List.{range_with_len}
 use Rattle.std.proofs.Math.Nat.{mul_assoc, mul_comm, mul-mod_left, one-le-mul}
 use Rattle.std.proofs.lemmas.Bool.{eqb-true, ltb-false}
 use Rattle.std.proofs.lemmas.Nat.{div-add-mod'}
-use Rattle.slot_core.specs.Cycles.{least_common_multiple, first_multiple_above}
+use Rattle.slot_core.specs.Sets.Cycles.{least_common_multiple, first_multiple_above}
 use Rattle.slot_facts.proofs.Lists.Members.{Has, Has-range_with_len_bounds}
 use Rattle.slot_facts.proofs.Lists.Tests.{find-Some}
 use Rattle.slot_facts.proofs.Sets.Faults.{cond-None}

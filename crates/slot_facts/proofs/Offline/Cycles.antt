@@ -8,10 +8,10 @@ use Rattle.slot_core.specs.declared.jobs.Job.{Job}
 use Rattle.slot_core.specs.declared.tasks.Task.{Task}
 use Rattle.slot_core.specs.declared.tasks.Graph.{Graph}
 use Rattle.slot_core.specs.declared.tasks.TaskSet.{TaskSet}
-use Rattle.slot_core.specs.Cycles.{cycle_of}
-use Rattle.slot_core.specs.Ranges.{is_sound}
-use Rattle.slot_core.specs.OfflineJobs.{release_of, deadline_of, chain_before, chain_after, derived_job, cycle_jobs}
-use Rattle.slot_core.specs.Windows.{raw_release, raw_deadline}
+use Rattle.slot_core.specs.Sets.Cycles.{cycle_of}
+use Rattle.slot_core.specs.Sets.Ranges.{is_sound}
+use Rattle.slot_core.specs.Offline.OfflineJobs.{release_of, deadline_of, chain_before, chain_after, derived_job, cycle_jobs}
+use Rattle.slot_core.specs.Offline.Windows.{raw_release, raw_deadline}
 use Rattle.slot_facts.proofs.Offline.Jobs.{offline_from_cycle, cycle-multiple}
 use Rattle.slot_facts.proofs.Sets.Ranges.{GraphFits}
 use Rattle.slot_facts.proofs.Offline.LaterCycles.{GraphFits-from_sound, wcet-from_sound}

@@ -8,7 +8,7 @@ use Rattle.slot_core.specs.declared.jobs.Job.{Job}
 use Rattle.slot_core.specs.declared.tasks.Task.{Task}
 use Rattle.slot_core.specs.declared.tasks.Graph.{Graph}
 use Rattle.slot_core.specs.declared.tasks.TaskSet.{TaskSet}
-use Rattle.slot_core.specs.OfflineJobs.{raw_job, instance_jobs, graph_jobs, raw_jobs, derived_job, cycle_jobs, offline_jobs}
+use Rattle.slot_core.specs.Offline.OfflineJobs.{raw_job, instance_jobs, graph_jobs, raw_jobs, derived_job, cycle_jobs, offline_jobs}
 use Rattle.slot_facts.proofs.Lists.Members.{Has, Contains-from_Has, Has-append_cases, Has-map_cases, Has-flat_map_cases, Has-range_with_len_bounds, Has-enumerate_from_at}
 use Rattle.slot_facts.proofs.Offline.Jobs.{IsInstance, offline_from_cycle, offline_from_cycles}
 

@@ -18,18 +18,18 @@ use Rattle.slot_core.specs.declared.faults.Part.TheVariants.{Task as TaskPart, S
 use Rattle.slot_core.specs.declared.faults.Field.TheVariants.{After}
 use Rattle.slot_core.specs.declared.faults.Place.{Place}
 use Rattle.slot_core.specs.declared.faults.TaskFault.TheVariants.{Loop, CycleTooLong}
-use Rattle.slot_core.specs.Cycles.{cycle_lengths, cycle_of, first_multiple_above}
-use Rattle.slot_core.specs.Faults.{first_fault, entries_fault, graph_names_fault, names_fault, after_fault, loop_fault, set_fault}
-use Rattle.slot_core.specs.Ranges.{is_in_range, is_sound, graph_in_range, task_in_range, sporadic_in_range}
-use Rattle.slot_core.specs.OfflineJobs.{raw_job, instance_jobs, graph_jobs, raw_jobs, derived_job, tasks_of, cycle_jobs, offline_jobs}
-use Rattle.slot_core.specs.Precedence.{comes_after, is_on_loop}
+use Rattle.slot_core.specs.Sets.Cycles.{cycle_lengths, cycle_of, first_multiple_above}
+use Rattle.slot_core.specs.Sets.Faults.{first_fault, entries_fault, graph_names_fault, names_fault, after_fault, loop_fault, set_fault}
+use Rattle.slot_core.specs.Sets.Ranges.{is_in_range, is_sound, graph_in_range, task_in_range, sporadic_in_range}
+use Rattle.slot_core.specs.Offline.OfflineJobs.{raw_job, instance_jobs, graph_jobs, raw_jobs, derived_job, tasks_of, cycle_jobs, offline_jobs}
+use Rattle.slot_core.specs.Offline.Precedence.{comes_after, is_on_loop}
 use Rattle.slot_facts.proofs.Lists.Members.{Has, Has-from_Contains, Contains-from_Has, Has-append_left, Has-append_cases, Has-map, Has-map_cases, Has-flat_map, Has-flat_map_cases, Has-range_with_len, Has-range_with_len_bounds, Has-enumerate_from, Has-enumerate_from_at, Has-from_list_any, Has-from_slice_get, passes_from_list_all}
 use Rattle.slot_facts.proofs.Offline.Chains.{HasNoLoop}
 use Rattle.slot_facts.proofs.Sets.Ranges.{bounds, GraphRanges-from_test, SporadicRanges-from_test, SetRanges-from_sound}
 use Rattle.slot_facts.proofs.Sets.Faults.{None-from_is_none, option_or-None, option_map-None, find-None, first_fault-None, below-from_entries}
 use Rattle.slot_facts.proofs.Offline.CycleMultiples.{div-mul-IsMultiple, IsMultiple-fold, fold_least_common_multiple-positive, fold_least_common_multiple-le}
 use Rattle.slot_core.specs.declared.jobs.Key.TheVariants.{Offline}
-use Rattle.slot_core.specs.Arrivals.{key_in_set}
+use Rattle.slot_core.specs.Runs.Arrivals.{key_in_set}
 
 -- a task of a graph of the set, and an instance of it
 pub record IsInstance (set : TaskSet) (job : Job) (g t k : ℕ) (graph : Graph) (task : Task) : Type 0 where

@@ -13,11 +13,11 @@ use Rattle.slot_core.specs.declared.jobs.Job.{Job}
 use Rattle.slot_core.specs.declared.tasks.Task.{Task}
 use Rattle.slot_core.specs.declared.tasks.Graph.{Graph}
 use Rattle.slot_core.specs.declared.tasks.TaskSet.{TaskSet}
-use Rattle.slot_core.specs.Cycles.{cycle_of}
-use Rattle.slot_core.specs.Precedence.{wcet_of, longest_before, longest_after}
-use Rattle.slot_core.specs.Ranges.{is_sound}
-use Rattle.slot_core.specs.OfflineJobs.{tasks_of, release_of, deadline_of, raw_job, instance_jobs, graph_jobs, raw_jobs, chain_before, chain_after, derived_job, cycle_jobs}
-use Rattle.slot_core.specs.Feasible.{declared_within, IsFeasible}
+use Rattle.slot_core.specs.Sets.Cycles.{cycle_of}
+use Rattle.slot_core.specs.Offline.Precedence.{wcet_of, longest_before, longest_after}
+use Rattle.slot_core.specs.Sets.Ranges.{is_sound}
+use Rattle.slot_core.specs.Offline.OfflineJobs.{tasks_of, release_of, deadline_of, raw_job, instance_jobs, graph_jobs, raw_jobs, chain_before, chain_after, derived_job, cycle_jobs}
+use Rattle.slot_core.specs.Feasibility.Feasible.{declared_within, IsFeasible}
 use Rattle.slot_facts.proofs.Offline.Chains.{HasNoLoop}
 use Rattle.slot_facts.proofs.Offline.ChainRoom.{sum_below, chain_room}
 use Rattle.slot_facts.proofs.Sets.Ranges.{bounds, TaskRanges-from_test, GraphFits, GraphFits-from_test}

@@ -11,10 +11,10 @@ use Rattle.slot_core.specs.declared.jobs.Job.{Job}
 use Rattle.slot_core.specs.declared.tasks.Task.{Task}
 use Rattle.slot_core.specs.declared.tasks.Graph.{Graph}
 use Rattle.slot_core.specs.declared.tasks.TaskSet.{TaskSet}
-use Rattle.slot_core.specs.Cycles.{cycle_of}
-use Rattle.slot_core.specs.Ranges.{is_sound}
-use Rattle.slot_core.specs.OfflineJobs.{instance_jobs, graph_jobs, raw_jobs, derived_job, cycle_jobs, later_job}
-use Rattle.slot_core.specs.Feasible.{IsFeasible}
+use Rattle.slot_core.specs.Sets.Cycles.{cycle_of}
+use Rattle.slot_core.specs.Sets.Ranges.{is_sound}
+use Rattle.slot_core.specs.Offline.OfflineJobs.{instance_jobs, graph_jobs, raw_jobs, derived_job, cycle_jobs, later_job}
+use Rattle.slot_core.specs.Feasibility.Feasible.{IsFeasible}
 use Rattle.slot_facts.proofs.Lists.Members.{AllByRecursion-from_Has}
 use Rattle.slot_facts.proofs.Lists.Permuted.{Contains-from_permuted}
 use Rattle.slot_facts.proofs.Offline.Jobs.{offline_from_cycle}

@@ -9,9 +9,9 @@ use Rattle.slot_core.specs.declared.jobs.Job.{Job}
 use Rattle.slot_core.specs.declared.jobs.RawJob.{RawJob}
 use Rattle.slot_core.specs.declared.tasks.Graph.{Graph}
 use Rattle.slot_core.specs.declared.tasks.TaskSet.{TaskSet}
-use Rattle.slot_core.specs.Cycles.{cycle_of}
-use Rattle.slot_core.specs.OfflineJobs.{raw_jobs, derived_job, release_of, chain_before}
-use Rattle.slot_core.specs.Ranges.{is_sound}
+use Rattle.slot_core.specs.Sets.Cycles.{cycle_of}
+use Rattle.slot_core.specs.Offline.OfflineJobs.{raw_jobs, derived_job, release_of, chain_before}
+use Rattle.slot_core.specs.Sets.Ranges.{is_sound}
 use Rattle.slot_facts.proofs.Lists.Members.{Has, Has-map, Contains-from_Has}
 use Rattle.slot_facts.proofs.Offline.Jobs.{offline_from_cycle, cycle-multiple, cycle-at_most}
 use Rattle.slot_facts.proofs.Sets.Ranges.{GraphFits}

@@ -5,16 +5,16 @@ use Rattle.std.proofs.lemmas.List.Elements.{Contains-append_cases}
 use Rattle.std.specs.Prelude.{Contains, slice_get, Some, ◌&&◌, ◌==◌}
 use Rattle.slot_core.specs.declared.jobs.Key.{Key}
 use Rattle.slot_core.specs.declared.jobs.Key.TheVariants.{Offline, Sporadic, Firm, Soft}
-use Rattle.slot_core.specs.Keys.{is_offline}
+use Rattle.slot_core.specs.Offline.Keys.{is_offline}
 use Rattle.slot_core.specs.declared.jobs.Job.{Job}
 use Rattle.slot_core.specs.declared.tasks.Task.{Task}
 use Rattle.slot_core.specs.declared.tasks.Graph.{Graph}
 use Rattle.slot_core.specs.declared.tasks.TaskSet.{TaskSet}
-use Rattle.slot_core.specs.Cycles.{cycle_of}
-use Rattle.slot_core.specs.Ranges.{is_sound}
-use Rattle.slot_core.specs.Precedence.{wcet_of, comes_after, longest_before, longest_after}
-use Rattle.slot_core.specs.OfflineJobs.{tasks_of, cycle_jobs, offline_jobs}
-use Rattle.slot_core.specs.Windows.{precedes}
+use Rattle.slot_core.specs.Sets.Cycles.{cycle_of}
+use Rattle.slot_core.specs.Sets.Ranges.{is_sound}
+use Rattle.slot_core.specs.Offline.Precedence.{wcet_of, comes_after, longest_before, longest_after}
+use Rattle.slot_core.specs.Offline.OfflineJobs.{tasks_of, cycle_jobs, offline_jobs}
+use Rattle.slot_core.specs.Offline.Windows.{precedes}
 use Rattle.slot_facts.proofs.Offline.Chains.{longest_before-step, longest_after-step}
 use Rattle.slot_facts.proofs.Offline.Cycles.{IsOfCycle, IsOfCycle-from_cycle}
 use Rattle.slot_facts.proofs.Offline.Jobs.{IsInstance, offline_from_cycles, HasNoLoop-from_sound}

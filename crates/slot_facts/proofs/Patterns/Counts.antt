@@ -7,7 +7,7 @@ use Rattle.std.proofs.lemmas.Bool.{cases_lt}
 use Rattle.std.proofs.lemmas.Bool.Decides.{nat_tests}
 use Rattle.std.proofs.lemmas.List.Sums.{sum_by-cons}
 use Rattle.slot_core.specs.declared.tasks.Sporadic.{Sporadic}
-use Rattle.slot_core.specs.Sporadics.{arrivals_due, AreSpaced}
+use Rattle.slot_core.specs.Feasibility.Sporadics.{arrivals_due, AreSpaced}
 use Rattle.slot_facts.proofs.Demand.Arrivals.{arrivals_due-none, arrivals_due-spaced}
 use Rattle.slot_facts.proofs.Demand.OneSlot.{arrivals_due-later}
 

@@ -9,8 +9,8 @@ use Rattle.std.proofs.lemmas.List.Elements.{filter-append, recursion_from_All, A
 use Rattle.std.proofs.lemmas.List.Sums.{sum_by-cons, sum_by-append}
 use Rattle.slot_core.specs.declared.jobs.Job.{Job}
 use Rattle.slot_core.specs.declared.tasks.Sporadic.{Sporadic}
-use Rattle.slot_core.specs.Histories.{sporadic_job}
-use Rattle.slot_core.specs.Sporadics.{arrivals_due, sporadic_demand, densest_arrivals, densest_pattern, AreSpaced, times_of, IsLegalPattern}
+use Rattle.slot_core.specs.Runs.Histories.{sporadic_job}
+use Rattle.slot_core.specs.Feasibility.Sporadics.{arrivals_due, sporadic_demand, densest_arrivals, densest_pattern, AreSpaced, times_of, IsLegalPattern}
 use Rattle.slot_facts.specs.Patterns.{AreSeparated, TheDensestPatternNeedsAll}
 use Rattle.slot_facts.proofs.Lists.Members.{Has, Has-append_cases, Has-map_cases, AllByRecursion-from_Has, AllByRecursion-at_Has, Has-from_slice_get}
 use Rattle.slot_facts.proofs.Lists.Sums.{sum_by-map}

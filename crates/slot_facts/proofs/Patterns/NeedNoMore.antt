@@ -6,10 +6,10 @@ use Rattle.std.proofs.lemmas.List.Elements.{recursion_from_All}
 use Rattle.std.proofs.lemmas.List.Sums.{sum_by-le-sum_by}
 use Rattle.slot_core.specs.declared.jobs.Job.{Job}
 use Rattle.slot_core.specs.declared.tasks.Sporadic.{Sporadic}
-use Rattle.slot_core.specs.Histories.{sporadic_job}
-use Rattle.slot_core.specs.Sporadics.{arrivals_due, sporadic_demand, times_of, IsLegalPattern}
-use Rattle.slot_core.specs.Futures.{pattern_jobs}
-use Rattle.slot_core.specs.Demand.{work_from}
+use Rattle.slot_core.specs.Runs.Histories.{sporadic_job}
+use Rattle.slot_core.specs.Feasibility.Sporadics.{arrivals_due, sporadic_demand, times_of, IsLegalPattern}
+use Rattle.slot_core.specs.Claims.Futures.{pattern_jobs}
+use Rattle.slot_core.specs.Runs.Demand.{work_from}
 use Rattle.slot_facts.specs.Patterns.{AreSeparated, PatternsNeedNoMore}
 use Rattle.slot_facts.proofs.Lists.Members.{AllByRecursion-at_Has, Has-from_slice_get}
 use Rattle.slot_facts.proofs.Demand.OneSlot.{sporadic_demand-later}

@@ -6,10 +6,10 @@ use Rattle.std.proofs.lemmas.Bool.Decides.{nat_tests}
 use Rattle.std.proofs.lemmas.List.Sums.{sum_by-cons, sum_by-le-sum_by}
 use Rattle.slot_core.specs.declared.jobs.Job.{Job}
 use Rattle.slot_core.specs.declared.tasks.Sporadic.{Sporadic}
-use Rattle.slot_core.specs.Histories.{sporadic_job}
-use Rattle.slot_core.specs.Sporadics.{arrivals_due, sporadic_demand, times_of}
-use Rattle.slot_core.specs.Futures.{pattern_jobs}
-use Rattle.slot_core.specs.Demand.{work_by, work_from}
+use Rattle.slot_core.specs.Runs.Histories.{sporadic_job}
+use Rattle.slot_core.specs.Feasibility.Sporadics.{arrivals_due, sporadic_demand, times_of}
+use Rattle.slot_core.specs.Claims.Futures.{pattern_jobs}
+use Rattle.slot_core.specs.Runs.Demand.{work_by, work_from}
 use Rattle.slot_facts.proofs.Lists.Members.{Has}
 use Rattle.slot_facts.proofs.Lists.Sums.{sum_by-map, sum_by-filter, sum_by-plus}
 

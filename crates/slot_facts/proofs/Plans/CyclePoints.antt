@@ -4,7 +4,7 @@ use Rattle.std.specs.Prelude.{nat_lt}
 use Rattle.std.specs.List.{range_with_len}
 use Rattle.std.proofs.lemmas.Bool.{cases_lt, cases_order, cond-true, cond-false, lt-ltb, le-ltb, false_from_ne_true}
 use Rattle.slot_core.specs.declared.jobs.Job.{Job}
-use Rattle.slot_core.specs.Points.{end_before, least_start, interval_start, plan_points, is_point}
+use Rattle.slot_core.specs.Runs.Points.{end_before, least_start, interval_start, plan_points, is_point}
 use Rattle.slot_facts.proofs.Lists.Members.{Has}
 use Rattle.slot_facts.proofs.Plans.Points.{IsPlannedPoint, IsPlannedPoint-from_points, AreInCycle, end_before-at, end_before-le, least_start-at, due-from_least_start, interval_start-is, interval_start-lt, planned-bounds, planned-from_point, point-from_planned, Has-deadline, Has-interval_start, Has-cycle}
 use Rattle.slot_facts.proofs.Lists.RangeFilters.{filter-parts, filter-last}

@@ -9,9 +9,9 @@ use Rattle.slot_core.specs.declared.jobs.Key.{Key}
 use Rattle.slot_core.specs.declared.jobs.Key.TheVariants.{Offline, Sporadic, Firm, Soft}
 use Rattle.slot_core.specs.declared.jobs.Job.{Job}
 use Rattle.slot_core.specs.declared.tasks.TaskSet.{TaskSet}
-use Rattle.slot_core.specs.OfflineJobs.{later_key, later_job, instances_of}
-use Rattle.slot_core.specs.Keys.{key_order, is_earlier}
-use Rattle.slot_core.specs.Plans.{AreInDeadlineOrder}
+use Rattle.slot_core.specs.Offline.OfflineJobs.{later_key, later_job, instances_of}
+use Rattle.slot_core.specs.Offline.Keys.{key_order, is_earlier}
+use Rattle.slot_core.specs.Keeping.Plans.{AreInDeadlineOrder}
 use Rattle.slot_facts.proofs.Lists.Members.{AllByRecursion-append}
 
 -- numbers that grow by the same compare as before

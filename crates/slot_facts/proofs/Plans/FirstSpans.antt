@@ -2,9 +2,9 @@
 use Rattle.std.proofs.Common.{◌≡◌, ℕ, zero, suc, ◌-◌, List, [], ◌∷◌, length, take, refl, ap, ◌∙◌, ◌<◌, ◌≤◌, ◌++◌, filter, inl, inr, Bool, true, false, cond, map}
 use Rattle.slot_core.specs.declared.jobs.Job.{Job}
 use Rattle.slot_core.specs.declared.jobs.Span.{Span}
-use Rattle.slot_core.specs.ShownSpans.{ShownSpans}
-use Rattle.slot_core.specs.Demand.{work_between}
-use Rattle.slot_core.specs.Spans.{spare_capacity, spans_between}
+use Rattle.slot_core.specs.Runs.ShownSpans.{ShownSpans}
+use Rattle.slot_core.specs.Runs.Demand.{work_between}
+use Rattle.slot_core.specs.Runs.Spans.{spare_capacity, spans_between}
 use Rattle.std.specs.Prelude.{nat_le}
 use Rattle.std.proofs.lemmas.Bool.{le-leb, lt-leb, cond-true, cond-false}
 use Rattle.slot_core.specs.declared.TheConstants.{SHOWN_LIMIT}

@@ -2,7 +2,7 @@
 use Rattle.std.proofs.Common.{◌≡◌, ℕ, suc, ◌+◌, ◌*◌, ◌/◌, ◌%◌, ◌<◌, ◌≤◌, ap, ◌∙◌, ◌⊎◌, inl, inr, arith}
 use Rattle.std.proofs.lemmas.Bool.{cases_lt}
 use Rattle.std.proofs.lemmas.Nat.{div-add-mod', div-mul-add, mod-mul-add, mod_below}
-use Rattle.slot_core.specs.Scenes.{horizon}
+use Rattle.slot_core.specs.Runs.Scenes.{horizon}
 
 -- the next slot starts a cycle, or lies in the same cycle as this one
 pub data NextSlot (t cycle : ℕ) : Type 0 where

@@ -8,8 +8,8 @@ use Rattle.std.proofs.lemmas.Bool.{cases_Bool, false≢true, false_from_ne_true}
 use Rattle.std.proofs.lemmas.Cmp.{nat_list_cmp_total}
 use Rattle.std.proofs.lemmas.List.Sorted.{ranks_by, IsPermutation-refl, IsPermutation-sym, IsPermutation-trans, IsPermutation-cons, IsPermutation-middle}
 use Rattle.slot_core.specs.declared.jobs.Job.{Job}
-use Rattle.slot_core.specs.Keys.{deadline_order, is_earlier}
-use Rattle.slot_core.specs.Plans.{AreInDeadlineOrder, with_job, in_deadline_order}
+use Rattle.slot_core.specs.Offline.Keys.{deadline_order, is_earlier}
+use Rattle.slot_core.specs.Keeping.Plans.{AreInDeadlineOrder, with_job, in_deadline_order}
 use Rattle.slot_facts.proofs.Choice.Earliest.{job_cmp, job_cmp_total}
 use Rattle.slot_facts.proofs.Lists.Members.{Has, AllByRecursion-from_Has, AllByRecursion-at_Has, AllByRecursion-weaker}
 use Rattle.slot_facts.proofs.Lists.Permuted.{Has-permuted, AllByRecursion-permuted}

@@ -7,9 +7,9 @@ use Rattle.std.proofs.lemmas.Option.{slice_get-get_or}
 use Rattle.slot_core.specs.declared.TheConstants.{CYCLES_LIMIT, SLOT_LIMIT}
 use Rattle.slot_core.specs.declared.jobs.Job.{Job}
 use Rattle.slot_core.specs.declared.jobs.Span.{Span}
-use Rattle.slot_core.specs.Plans.{PlanParts, IsPlan}
-use Rattle.slot_core.specs.Scenes.{scene_of}
-use Rattle.slot_core.specs.Spans.{spans_of}
+use Rattle.slot_core.specs.Keeping.Plans.{PlanParts, IsPlan}
+use Rattle.slot_core.specs.Runs.Scenes.{scene_of}
+use Rattle.slot_core.specs.Runs.Spans.{spans_of}
 use Rattle.slot_facts.proofs.Offline.Jobs.{cycle-positive, cycle-at_most}
 
 -- one more job, made of the one at the place

@@ -4,7 +4,7 @@ use Rattle.std.specs.Prelude.{nat_le}
 use Rattle.std.specs.List.{range_with_len}
 use Rattle.std.proofs.Math.Nat.{add-mul-mod_self_right, mod-eq_of_lt}
 use Rattle.std.proofs.lemmas.Bool.{cases_lt, ne_eqb, le-leb, lt-leb, leb-true}
-use Rattle.slot_core.specs.Points.{is_point}
+use Rattle.slot_core.specs.Runs.Points.{is_point}
 use Rattle.slot_facts.proofs.Lists.Members.{Has}
 use Rattle.slot_facts.proofs.Lists.Tests.{list_any-same}
 use Rattle.slot_facts.proofs.Lists.RangeFilters.{filter-shifted}

@@ -3,11 +3,11 @@ use Rattle.std.proofs.Common.{◌≡◌, true, refl, ap, ◌∙◌, subst}
 use Rattle.std.specs.Prelude.{IsPermutation}
 use Rattle.std.proofs.lemmas.List.Sorted.{IsPermutation-sym, IsPermutation-trans}
 use Rattle.slot_core.specs.declared.tasks.TaskSet.{TaskSet}
-use Rattle.slot_core.specs.Cycles.{cycle_of}
-use Rattle.slot_core.specs.Feasible.{IsFeasible}
-use Rattle.slot_core.specs.OfflineJobs.{cycle_jobs}
-use Rattle.slot_core.specs.Plans.{AreInDeadlineOrder, PlanParts, plan_spans, IsPlan, in_deadline_order, planned}
-use Rattle.slot_core.specs.Ranges.{is_sound}
+use Rattle.slot_core.specs.Sets.Cycles.{cycle_of}
+use Rattle.slot_core.specs.Feasibility.Feasible.{IsFeasible}
+use Rattle.slot_core.specs.Offline.OfflineJobs.{cycle_jobs}
+use Rattle.slot_core.specs.Keeping.Plans.{AreInDeadlineOrder, PlanParts, plan_spans, IsPlan, in_deadline_order, planned}
+use Rattle.slot_core.specs.Sets.Ranges.{is_sound}
 use Rattle.slot_facts.proofs.Offline.DistinctKeys.{offline_jobs-apart}
 use Rattle.slot_facts.proofs.Plans.InOrder.{IsPermutation-in_order, AreInDeadlineOrder-in_order, AreInDeadlineOrder-one}
 

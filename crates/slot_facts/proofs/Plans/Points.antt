@@ -4,7 +4,7 @@ use Rattle.std.specs.Prelude.{fold, nat_le, nat_lt}
 use Rattle.std.proofs.Math.Nat.{zero-mod, mod-eq_of_lt}
 use Rattle.std.proofs.lemmas.Bool.{cases_lt, eqb-true, eq-eqb, ltb-true, lt-ltb, leb-true, le-leb, and_parts, and_from, or_cases, or_left, false≢true}
 use Rattle.slot_core.specs.declared.jobs.Job.{Job}
-use Rattle.slot_core.specs.Points.{end_before, least_start, interval_start, plan_points, is_point}
+use Rattle.slot_core.specs.Runs.Points.{end_before, least_start, interval_start, plan_points, is_point}
 use Rattle.slot_facts.proofs.Lists.Members.{Has, Has-append_left, Has-append_right, Has-append_cases, Has-map, Has-map_cases, Has-filter, Has-filter_passes, list_any-from_Has, Has-from_list_any, fold_max-at, fold_max-le}
 
 -- the least of a list is at most each member, at least what they are all at least, and one of them

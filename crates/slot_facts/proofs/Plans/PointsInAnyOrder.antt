@@ -3,7 +3,7 @@ use Rattle.std.proofs.Common.{◌≡◌, ℕ, ◌≤◌, true, false, List, [], 
 use Rattle.std.specs.Prelude.{◌-◌, ◌%◌, ◌==◌, ◌&&◌, ◌||◌, nat_le}
 use Rattle.std.specs.List.{list_any}
 use Rattle.slot_core.specs.declared.jobs.Job.{Job}
-use Rattle.slot_core.specs.Points.{end_before, least_start, interval_start, plan_points, is_point}
+use Rattle.slot_core.specs.Runs.Points.{end_before, least_start, interval_start, plan_points, is_point}
 use Rattle.slot_facts.proofs.Lists.Members.{Has, list_any-from_Has, Has-from_list_any}
 use Rattle.slot_facts.proofs.Lists.Tests.{same_tests}
 use Rattle.slot_facts.proofs.Plans.Points.{IsPlannedPoint-from_points, Has-deadline, Has-interval_start, Has-cycle, end_before-at, end_before-le, least_start-at, least_start-most, least_start-le}

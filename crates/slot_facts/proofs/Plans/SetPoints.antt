@@ -3,17 +3,17 @@ use Rattle.std.proofs.Common.{ℕ, Bool, List, [], filter, ◌≡◌, ◌-◌, �
 use Rattle.std.specs.List.{range_with_len}
 use Rattle.std.proofs.Math.Nat.{zero-div}
 use Rattle.slot_core.specs.declared.tasks.TaskSet.{TaskSet}
-use Rattle.slot_core.specs.Cycles.{cycle_of}
-use Rattle.slot_core.specs.OfflineJobs.{cycle_jobs, later_job}
-use Rattle.slot_core.specs.Points.{plan_points, is_point}
-use Rattle.slot_core.specs.Scenes.{horizon, points_of}
+use Rattle.slot_core.specs.Sets.Cycles.{cycle_of}
+use Rattle.slot_core.specs.Offline.OfflineJobs.{cycle_jobs, later_job}
+use Rattle.slot_core.specs.Runs.Points.{plan_points, is_point}
+use Rattle.slot_core.specs.Runs.Scenes.{horizon, points_of}
 use Rattle.std.specs.Prelude.{nat_le}
 use Rattle.std.proofs.lemmas.Bool.{lt-leb}
 use Rattle.std.proofs.lemmas.List.Elements.{filter-append}
 use Rattle.slot_core.specs.declared.jobs.Job.{Job}
-use Rattle.slot_core.specs.Feasible.{IsFeasible}
-use Rattle.slot_core.specs.Plans.{PlanParts, IsPlan}
-use Rattle.slot_core.specs.Ranges.{is_sound}
+use Rattle.slot_core.specs.Feasibility.Feasible.{IsFeasible}
+use Rattle.slot_core.specs.Keeping.Plans.{PlanParts, IsPlan}
+use Rattle.slot_core.specs.Sets.Ranges.{is_sound}
 use Rattle.slot_facts.proofs.Lists.Members.{Has, Contains-from_Has, Has-map_cases, Has-filter_passes, Has-range_with_len_bounds}
 use Rattle.slot_facts.proofs.Offline.Jobs.{cycle-positive}
 use Rattle.slot_facts.proofs.Offline.LaterJobs.{cycle_jobs-are_later, FitsInCycle-from_first}

@@ -15,8 +15,8 @@ use Rattle.std.proofs.lemmas.List.Sorted.{ranks_by, sorted_far}
 use Rattle.std.proofs.lemmas.Map.Keys.{IsDistinct-head, IsDistinct-tail, IsDistinct-IsPermutation}
 use Rattle.std.proofs.lemmas.Map.Lookups.{exact_bytes}
 use Rattle.slot_core.specs.declared.jobs.Job.{Job}
-use Rattle.slot_core.specs.Keys.{key_order, deadline_order, is_earlier}
-use Rattle.slot_core.specs.Plans.{AreInDeadlineOrder}
+use Rattle.slot_core.specs.Offline.Keys.{key_order, deadline_order, is_earlier}
+use Rattle.slot_core.specs.Keeping.Plans.{AreInDeadlineOrder}
 use Rattle.slot_facts.proofs.Choice.Earliest.{job_cmp, job_cmp_total, same_from_key, equal_itself}
 use Rattle.slot_facts.proofs.Offline.DistinctKeys.{IsApart}
 use Rattle.slot_facts.proofs.Lists.Members.{AllByRecursion-from_Has}

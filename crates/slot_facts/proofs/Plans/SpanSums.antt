@@ -3,13 +3,13 @@ use Rattle.std.proofs.Common.{◌≡◌, ℕ, ◌-◌, ◌&&◌, List, [], ◌�
 use Rattle.std.specs.Prelude.{pos, ◌-ℤ◌, nat_lt, nat_le, if◌then◌else◌, ◌&&◌}
 use Rattle.std.specs.List.Sorted.{IsPermutation}
 use Rattle.slot_core.specs.declared.jobs.Job.{Job}
-use Rattle.slot_core.specs.Demand.{work_between}
-use Rattle.slot_core.specs.Matches.{HaveSameItems}
+use Rattle.slot_core.specs.Runs.Demand.{work_between}
+use Rattle.slot_core.specs.Runs.Matches.{HaveSameItems}
 use Rattle.slot_facts.proofs.Lists.SameItems.{same-from_permutation}
-use Rattle.slot_core.specs.Spans.{least, spare_capacity, spans_between}
+use Rattle.slot_core.specs.Runs.Spans.{least, spare_capacity, spans_between}
 use Rattle.slot_core.specs.declared.tasks.Sporadic.{Sporadic}
-use Rattle.slot_core.specs.Sporadics.{sporadic_demand}
-use Rattle.slot_core.specs.Feasible.{window_demand}
+use Rattle.slot_core.specs.Feasibility.Sporadics.{sporadic_demand}
+use Rattle.slot_core.specs.Feasibility.Feasible.{window_demand}
 
 -- lists of the same jobs have the same work that is due
 pub work_between-same : (jobs others : List Job) → HaveSameItems jobs others → (s e : ℕ) → work_between jobs s e ≡ work_between others s e

@@ -5,8 +5,8 @@ use Rattle.std.specs.List.{range_with_len}
 use Rattle.std.proofs.lemmas.Bool.{ne_eqb, eq-eqb, le-leb}
 use Rattle.slot_core.specs.declared.tasks.TaskSet.{TaskSet}
 use Rattle.slot_core.specs.declared.events.Arrival.{Arrival}
-use Rattle.slot_core.specs.Arrivals.{arrivals_follow}
-use Rattle.slot_core.specs.Traces.{Occurrence, arrive, slot, occurrences_in}
+use Rattle.slot_core.specs.Runs.Arrivals.{arrivals_follow}
+use Rattle.slot_core.specs.Runs.Traces.{Occurrence, arrive, slot, occurrences_in}
 use Rattle.slot_facts.proofs.Legal.Traces.{BeginsWith-from, none_before}
 
 -- what happens in so many slots from this one on

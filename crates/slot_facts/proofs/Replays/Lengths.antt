@@ -8,9 +8,9 @@ use Rattle.std.proofs.lemmas.Nat.{mul-le}
 use Rattle.slot_core.specs.declared.TheConstants.{ARRIVAL_LIMIT, REPLAY_LIMIT}
 use Rattle.slot_core.specs.declared.tasks.TaskSet.{TaskSet}
 use Rattle.slot_core.specs.declared.events.Arrival.{Arrival}
-use Rattle.slot_core.specs.Cycles.{cycle_of}
-use Rattle.slot_core.specs.Histories.{History}
-use Rattle.slot_core.specs.Traces.{Occurrence, arrive, slot, end_entry, entries, occurrences_in, occurrences_of, started, told_of, trace}
+use Rattle.slot_core.specs.Sets.Cycles.{cycle_of}
+use Rattle.slot_core.specs.Runs.Histories.{History}
+use Rattle.slot_core.specs.Runs.Traces.{Occurrence, arrive, slot, end_entry, entries, occurrences_in, occurrences_of, started, told_of, trace}
 
 -- an entry for each occurrence
 length-entries : (set : TaskSet) (cycle : ℕ) (h : History) (steps : List Occurrence) → length (entries set cycle h steps) ≡ length steps

@@ -4,9 +4,9 @@ use Rattle.std.specs.Prelude.{reverse}
 use Rattle.std.proofs.lemmas.List.{map-append, reverse-append}
 use Rattle.slot_core.specs.declared.events.Entry.{Entry}
 use Rattle.slot_core.specs.declared.events.What.TheVariants.{End}
-use Rattle.slot_core.specs.Executives.{Executive, StandsFor}
-use Rattle.slot_core.specs.Histories.{History}
-use Rattle.slot_core.specs.Traces.{history_of, started}
+use Rattle.slot_core.specs.Keeping.Executives.{Executive, StandsFor}
+use Rattle.slot_core.specs.Runs.Histories.{History}
+use Rattle.slot_core.specs.Runs.Traces.{history_of, started}
 
 -- the last entry stands first in the history
 pub history_of-more : (told : List Entry) (e : Entry) → history_of (told ++ e ∷ []) ≡ e.what ∷ history_of told

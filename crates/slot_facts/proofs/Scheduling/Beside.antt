@@ -7,13 +7,13 @@ use Rattle.std.proofs.lemmas.List.Elements.{Contains-append_left, Contains-appen
 use Rattle.std.proofs.lemmas.List.Sums.{sum_by-append}
 use Rattle.slot_core.specs.declared.jobs.Job.{Job}
 use Rattle.slot_core.specs.declared.tasks.TaskSet.{TaskSet}
-use Rattle.slot_core.specs.Keys.{is_offline, row_of}
-use Rattle.slot_core.specs.Cycles.{cycle_of}
-use Rattle.slot_core.specs.Ranges.{is_sound}
-use Rattle.slot_core.specs.Windows.{raw_deadline}
-use Rattle.slot_core.specs.Demand.{work_by, work_from}
-use Rattle.slot_core.specs.Schedules.{HasSchedule}
-use Rattle.slot_core.specs.Kept.{ArePlanned, AreApart, SuccessorsWait, PredecessorsWait}
+use Rattle.slot_core.specs.Offline.Keys.{is_offline, row_of}
+use Rattle.slot_core.specs.Sets.Cycles.{cycle_of}
+use Rattle.slot_core.specs.Sets.Ranges.{is_sound}
+use Rattle.slot_core.specs.Offline.Windows.{raw_deadline}
+use Rattle.slot_core.specs.Runs.Demand.{work_by, work_from}
+use Rattle.slot_core.specs.Claims.Schedules.{HasSchedule}
+use Rattle.slot_core.specs.Keeping.Kept.{ArePlanned, AreApart, SuccessorsWait, PredecessorsWait}
 use Rattle.slot_facts.proofs.Lists.Members.{Has, Has-from_Contains, Has-append_cases}
 use Rattle.slot_facts.proofs.Lists.ApartKeys.{AreApart-append}
 use Rattle.slot_facts.proofs.Sets.Ranges.{GraphFits}

@@ -10,10 +10,10 @@ use Rattle.slot_core.specs.declared.jobs.Key.TheVariants.{Offline}
 use Rattle.slot_core.specs.declared.jobs.Job.{Job}
 use Rattle.slot_core.specs.declared.tasks.Graph.{Graph}
 use Rattle.slot_core.specs.declared.tasks.TaskSet.{TaskSet}
-use Rattle.slot_core.specs.Precedence.{wcet_of, comes_after, predecessors, successors, chains, longest_before, longest_after}
-use Rattle.slot_core.specs.OfflineJobs.{tasks_of, release_of, deadline_of}
-use Rattle.slot_core.specs.Windows.{release_or, deadline_or, raw_release, raw_deadline, precedes}
-use Rattle.slot_core.specs.Schedules.{holds, IsSchedule}
+use Rattle.slot_core.specs.Offline.Precedence.{wcet_of, comes_after, predecessors, successors, chains, longest_before, longest_after}
+use Rattle.slot_core.specs.Offline.OfflineJobs.{tasks_of, release_of, deadline_of}
+use Rattle.slot_core.specs.Offline.Windows.{release_or, deadline_or, raw_release, raw_deadline, precedes}
+use Rattle.slot_core.specs.Claims.Schedules.{holds, IsSchedule}
 use Rattle.slot_facts.proofs.Lists.Members.{Has, Has-map_cases, Has-flat_map_cases, Has-filter_passes, fold_max-le}
 use Rattle.slot_facts.proofs.Scheduling.Counts.{count_in_window, held_number}
 

@@ -3,7 +3,7 @@ use Rattle.std.proofs.Common.{◌≡◌, ℕ, suc, ◌+◌, ◌-◌, ◌<◌, �
 use Rattle.std.specs.Prelude.{slice_get, sum_by, count_by}
 use Rattle.std.proofs.lemmas.Bool.{cases_Bool, cond-true, cond-false, or_cases, and_parts, false≢true, eqb-true}
 use Rattle.std.proofs.lemmas.List.Sums.{sum_by-cons}
-use Rattle.slot_core.specs.Schedules.{holds}
+use Rattle.slot_core.specs.Claims.Schedules.{holds}
 
 -- items that all stand in a window are no more than it has places; the first item stands at `base`
 pub count_in_window : {X : Type 0} (p : X → Bool) (xs : List X) (base low high : ℕ) → ((v : ℕ) (x : X) → slice_get xs v ≡ Some x → p x ≡ true → (low ≤ base + v) × (base + v < high)) → count_by p xs ≤ high - max low base

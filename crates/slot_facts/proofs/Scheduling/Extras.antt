@@ -9,12 +9,12 @@ use Rattle.slot_core.specs.declared.TheConstants.{SLOT_LIMIT}
 use Rattle.slot_core.specs.declared.jobs.Job.{Job}
 use Rattle.slot_core.specs.declared.tasks.Sporadic.{Sporadic}
 use Rattle.slot_core.specs.declared.tasks.TaskSet.{TaskSet}
-use Rattle.slot_core.specs.Keys.{is_offline, row_of, same_key}
-use Rattle.slot_core.specs.Ranges.{is_sound, sporadic_in_range}
-use Rattle.slot_core.specs.Histories.{sporadic_job}
-use Rattle.slot_core.specs.Sporadics.{AreSpaced, times_of, IsLegalPattern}
-use Rattle.slot_core.specs.Futures.{pattern_jobs}
-use Rattle.slot_core.specs.Kept.{AreApart}
+use Rattle.slot_core.specs.Offline.Keys.{is_offline, row_of, same_key}
+use Rattle.slot_core.specs.Sets.Ranges.{is_sound, sporadic_in_range}
+use Rattle.slot_core.specs.Runs.Histories.{sporadic_job}
+use Rattle.slot_core.specs.Feasibility.Sporadics.{AreSpaced, times_of, IsLegalPattern}
+use Rattle.slot_core.specs.Claims.Futures.{pattern_jobs}
+use Rattle.slot_core.specs.Keeping.Kept.{AreApart}
 use Rattle.slot_facts.specs.Patterns.{AreSeparated}
 use Rattle.slot_facts.proofs.Lists.Members.{Has, Has-map, Has-filter, AllByRecursion-at_Has, Has-from_slice_get, passes_from_list_all}
 use Rattle.slot_facts.proofs.Sets.Tasks.{slice_get-within}

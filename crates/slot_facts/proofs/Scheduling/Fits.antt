@@ -9,14 +9,14 @@ use Rattle.slot_core.specs.declared.jobs.Job.{Job}
 use Rattle.slot_core.specs.declared.tasks.Task.{Task}
 use Rattle.slot_core.specs.declared.tasks.Graph.{Graph}
 use Rattle.slot_core.specs.declared.tasks.TaskSet.{TaskSet}
-use Rattle.slot_core.specs.Keys.{is_offline}
-use Rattle.slot_core.specs.Cycles.{cycle_of}
-use Rattle.slot_core.specs.Ranges.{is_sound}
-use Rattle.slot_core.specs.Precedence.{comes_after, predecessors, successors, longest_before, longest_after}
-use Rattle.slot_core.specs.OfflineJobs.{offline_jobs, release_of, deadline_of, derived_job, raw_job}
-use Rattle.slot_core.specs.Windows.{raw_deadline, precedes}
-use Rattle.slot_core.specs.Schedules.{holds, IsSchedule}
-use Rattle.slot_core.specs.Kept.{ArePlanned, SuccessorsWait, PredecessorsWait}
+use Rattle.slot_core.specs.Offline.Keys.{is_offline}
+use Rattle.slot_core.specs.Sets.Cycles.{cycle_of}
+use Rattle.slot_core.specs.Sets.Ranges.{is_sound}
+use Rattle.slot_core.specs.Offline.Precedence.{comes_after, predecessors, successors, longest_before, longest_after}
+use Rattle.slot_core.specs.Offline.OfflineJobs.{offline_jobs, release_of, deadline_of, derived_job, raw_job}
+use Rattle.slot_core.specs.Offline.Windows.{raw_deadline, precedes}
+use Rattle.slot_core.specs.Claims.Schedules.{holds, IsSchedule}
+use Rattle.slot_core.specs.Keeping.Kept.{ArePlanned, SuccessorsWait, PredecessorsWait}
 use Rattle.slot_facts.specs.Schedules.{SlotsLieBeforeDerivedDeadlines, SlotsLieAfterDerivedStarts, AScheduleFitsItsWork}
 use Rattle.slot_facts.proofs.Lists.Members.{Has-from_Contains, Contains-from_Has, Has-from_slice_get, Has-filter_passes, Has-range_with_len_bounds}
 use Rattle.slot_facts.proofs.Lists.MemberSums.{place_of_member}
@@ -59,7 +59,7 @@ listed-from_planned set cycles jobs job planned at offline =
     listed-from_offline set cycles job (offline_from_cycles set (cycle_of set) cycles (record job { left = job.declared }) (planned job at offline))
 
 -- a job of another task of such an instance
-job_of_task : (set : TaskSet) (cycles g k s : ℕ) (graph : Graph) (task : Task) → slice_get set.graphs g ≡ Some graph → slice_get graph.tasks s ≡ Some task → k < cycles * (cycle_of set / graph.period) → Contains (offline_jobs set (cycle_of set) cycles) (derived_job set (raw_job g graph k (s, task)))
+pub job_of_task : (set : TaskSet) (cycles g k s : ℕ) (graph : Graph) (task : Task) → slice_get set.graphs g ≡ Some graph → slice_get graph.tasks s ≡ Some task → k < cycles * (cycle_of set / graph.period) → Contains (offline_jobs set (cycle_of set) cycles) (derived_job set (raw_job g graph k (s, task)))
 job_of_task set cycles g k s graph task graph_at task_at below =
     cycles_from_offline set (cycle_of set) cycles (derived_job set (raw_job g graph k (s, task)))
     (record {

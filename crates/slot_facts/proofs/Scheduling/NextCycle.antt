@@ -9,12 +9,12 @@ use Rattle.slot_core.specs.declared.jobs.Job.{Job}
 use Rattle.slot_core.specs.declared.tasks.Task.{Task}
 use Rattle.slot_core.specs.declared.tasks.Graph.{Graph}
 use Rattle.slot_core.specs.declared.tasks.TaskSet.{TaskSet}
-use Rattle.slot_core.specs.Cycles.{cycle_of}
-use Rattle.slot_core.specs.Ranges.{is_sound}
-use Rattle.slot_core.specs.Precedence.{longest_before, longest_after}
-use Rattle.slot_core.specs.OfflineJobs.{release_of, deadline_of, tasks_of, raw_job, instance_jobs, graph_jobs, raw_jobs, derived_job, cycle_jobs, offline_jobs}
-use Rattle.slot_core.specs.Demand.{work_from}
-use Rattle.slot_core.specs.Feasible.{declared_within}
+use Rattle.slot_core.specs.Sets.Cycles.{cycle_of}
+use Rattle.slot_core.specs.Sets.Ranges.{is_sound}
+use Rattle.slot_core.specs.Offline.Precedence.{longest_before, longest_after}
+use Rattle.slot_core.specs.Offline.OfflineJobs.{release_of, deadline_of, tasks_of, raw_job, instance_jobs, graph_jobs, raw_jobs, derived_job, cycle_jobs, offline_jobs}
+use Rattle.slot_core.specs.Runs.Demand.{work_from}
+use Rattle.slot_core.specs.Feasibility.Feasible.{declared_within}
 use Rattle.slot_facts.proofs.Lists.Members.{Has, Has-enumerate_from_at}
 use Rattle.slot_facts.proofs.Lists.MemberSums.{sum_by-le_joined, sum_by-le_shifted}
 use Rattle.slot_facts.proofs.Lists.Sums.{sum_by-map, cond-le}

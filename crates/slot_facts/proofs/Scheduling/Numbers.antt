@@ -8,8 +8,8 @@ use Rattle.slot_core.specs.declared.jobs.Key.{Key}
 use Rattle.slot_core.specs.declared.jobs.Job.{Job}
 use Rattle.slot_core.specs.declared.events.Ran.{Ran}
 use Rattle.slot_core.specs.declared.events.Ran.TheVariants.{Idle, Key as KeyRan}
-use Rattle.slot_core.specs.Keys.{same_key}
-use Rattle.slot_core.specs.Schedules.{holds}
+use Rattle.slot_core.specs.Offline.Keys.{same_key}
+use Rattle.slot_core.specs.Claims.Schedules.{holds}
 use Rattle.slot_facts.proofs.Lists.Members.{Has-from_slice_get}
 use Rattle.slot_facts.proofs.Lists.Sums.{sum_by-map}
 use Rattle.slot_facts.proofs.Choice.Earliest.{same_from_key}

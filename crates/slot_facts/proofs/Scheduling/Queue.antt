@@ -11,10 +11,10 @@ use Rattle.slot_core.specs.declared.jobs.Job.{Job}
 use Rattle.slot_core.specs.declared.tasks.TaskSet.{TaskSet}
 use Rattle.slot_core.specs.declared.events.Ran.{Ran}
 use Rattle.slot_core.specs.declared.events.Ran.TheVariants.{Idle, Key as KeyRan}
-use Rattle.slot_core.specs.Keys.{same_key}
-use Rattle.slot_core.specs.Windows.{precedes}
-use Rattle.slot_core.specs.Choice.{earliest, ready, earliest_ready}
-use Rattle.slot_core.specs.Safety.{after_slot, IsSafe}
+use Rattle.slot_core.specs.Offline.Keys.{same_key}
+use Rattle.slot_core.specs.Offline.Windows.{precedes}
+use Rattle.slot_core.specs.Runs.Choice.{earliest, ready, earliest_ready}
+use Rattle.slot_core.specs.Claims.Safety.{after_slot, IsSafe}
 use Rattle.slot_facts.proofs.Lists.MemberSums.{term-le_sum_by}
 use Rattle.slot_facts.proofs.Lists.Sums.{cond-le}
 use Rattle.slot_facts.proofs.Lists.Members.{Has, Has-filter, Has-filter_passes, Has-map, Has-map_cases, AllByRecursion-from_Has}

@@ -6,11 +6,11 @@ use Rattle.slot_core.specs.declared.jobs.Key.{Key}
 use Rattle.slot_core.specs.declared.jobs.Key.TheVariants.{Offline, Sporadic, Firm, Soft}
 use Rattle.slot_core.specs.declared.jobs.Job.{Job}
 use Rattle.slot_core.specs.declared.tasks.TaskSet.{TaskSet}
-use Rattle.slot_core.specs.Keys.{is_offline}
-use Rattle.slot_core.specs.Cycles.{cycle_of}
-use Rattle.slot_core.specs.Ranges.{is_sound}
-use Rattle.slot_core.specs.Windows.{release_or, deadline_or, raw_release, raw_deadline, precedes}
-use Rattle.slot_core.specs.Kept.{ArePlanned}
+use Rattle.slot_core.specs.Offline.Keys.{is_offline}
+use Rattle.slot_core.specs.Sets.Cycles.{cycle_of}
+use Rattle.slot_core.specs.Sets.Ranges.{is_sound}
+use Rattle.slot_core.specs.Offline.Windows.{release_or, deadline_or, raw_release, raw_deadline, precedes}
+use Rattle.slot_core.specs.Keeping.Kept.{ArePlanned}
 use Rattle.slot_facts.proofs.Offline.Windows.{IsOfCycle-from_offline, IsBefore, IsBefore-from_precedes, precedes-offline}
 
 -- of a job that is not offline the raw window is the derived one

@@ -6,11 +6,11 @@ use Rattle.std.proofs.lemmas.Option.{slice_get_within}
 use Rattle.slot_core.specs.declared.jobs.Job.{Job}
 use Rattle.slot_core.specs.declared.tasks.TaskSet.{TaskSet}
 use Rattle.slot_core.specs.declared.events.Ran.{Ran}
-use Rattle.slot_core.specs.Cycles.{cycle_of}
-use Rattle.slot_core.specs.Ranges.{is_sound}
-use Rattle.slot_core.specs.Safety.{IsSafe}
-use Rattle.slot_core.specs.Schedules.{IsSchedule}
-use Rattle.slot_core.specs.Kept.{ArePlanned, AreApart}
+use Rattle.slot_core.specs.Sets.Cycles.{cycle_of}
+use Rattle.slot_core.specs.Sets.Ranges.{is_sound}
+use Rattle.slot_core.specs.Claims.Safety.{IsSafe}
+use Rattle.slot_core.specs.Claims.Schedules.{IsSchedule}
+use Rattle.slot_core.specs.Keeping.Kept.{ArePlanned, AreApart}
 use Rattle.slot_facts.specs.Schedules.{SafeJobsHaveASchedule}
 use Rattle.slot_facts.proofs.Lists.Members.{Contains-from_Has, Has-from_slice_get}
 use Rattle.slot_facts.proofs.Lists.ApartKeys.{IsApart-from_count, same_member-from_apart}

@@ -7,7 +7,7 @@ use Rattle.std.proofs.lemmas.Bool.{false≢true, leb-false}
 use Rattle.slot_core.specs.declared.faults.Place.{Place}
 use Rattle.slot_core.specs.declared.faults.TaskFault.{TaskFault}
 use Rattle.slot_core.specs.declared.faults.TaskFault.TheVariants.{Doubled, NoSuchTask}
-use Rattle.slot_core.specs.Faults.{fault_if, first_fault, entries_fault}
+use Rattle.slot_core.specs.Sets.Faults.{fault_if, first_fault, entries_fault}
 use Rattle.slot_facts.proofs.Lists.Members.{Has}
 
 -- a test or a choice of options that gives none, by its parts

@@ -8,9 +8,9 @@ use Rattle.slot_core.specs.declared.tasks.Task.{Task}
 use Rattle.slot_core.specs.declared.tasks.Graph.{Graph}
 use Rattle.slot_core.specs.declared.tasks.Sporadic.{Sporadic}
 use Rattle.slot_core.specs.declared.tasks.TaskSet.{TaskSet}
-use Rattle.slot_core.specs.Names.{is_name}
-use Rattle.slot_core.specs.Faults.{set_fault}
-use Rattle.slot_core.specs.Ranges.{is_between, task_in_range, graph_in_range, sporadic_in_range, is_in_range, is_sound}
+use Rattle.slot_core.specs.Sets.Names.{is_name}
+use Rattle.slot_core.specs.Sets.Faults.{set_fault}
+use Rattle.slot_core.specs.Sets.Ranges.{is_between, task_in_range, graph_in_range, sporadic_in_range, is_in_range, is_sound}
 
 -- the two bounds of a range
 pub bounds : (low high n : ℕ) → is_between low high n ≡ true → (low ≤ n) × (n ≤ high)

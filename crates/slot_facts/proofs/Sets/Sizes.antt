@@ -11,9 +11,9 @@ use Rattle.slot_core.specs.declared.tasks.Task.{Task}
 use Rattle.slot_core.specs.declared.tasks.Graph.{Graph}
 use Rattle.slot_core.specs.declared.tasks.Sporadic.{Sporadic}
 use Rattle.slot_core.specs.declared.tasks.TaskSet.{TaskSet}
-use Rattle.slot_core.specs.Faults.{set_fault}
-use Rattle.slot_core.specs.Sporadics.{arrivals_due, sporadic_demand}
-use Rattle.slot_core.specs.Ranges.{task_in_range, graph_in_range, sporadic_in_range, is_in_range, is_sound}
+use Rattle.slot_core.specs.Sets.Faults.{set_fault}
+use Rattle.slot_core.specs.Feasibility.Sporadics.{arrivals_due, sporadic_demand}
+use Rattle.slot_core.specs.Sets.Ranges.{task_in_range, graph_in_range, sporadic_in_range, is_in_range, is_sound}
 use Rattle.slot_facts.proofs.Sets.Ranges.{bounds, TaskRanges-from_test, GraphRanges-from_test, SporadicRanges-from_test, SetRanges-from_sound, few_tasks, few_sporadics}
 use Rattle.slot_facts.proofs.Demand.Arrivals.{arrivals_due-le}
 

@@ -7,9 +7,9 @@ use Rattle.slot_core.specs.declared.TheConstants.{SLOT_LIMIT}
 use Rattle.slot_core.specs.declared.tasks.Task.{Task}
 use Rattle.slot_core.specs.declared.tasks.Graph.{Graph}
 use Rattle.slot_core.specs.declared.tasks.TaskSet.{TaskSet}
-use Rattle.slot_core.specs.OfflineJobs.{tasks_of}
-use Rattle.slot_core.specs.Precedence.{wcet_of}
-use Rattle.slot_core.specs.Ranges.{is_sound}
+use Rattle.slot_core.specs.Offline.OfflineJobs.{tasks_of}
+use Rattle.slot_core.specs.Offline.Precedence.{wcet_of}
+use Rattle.slot_core.specs.Sets.Ranges.{is_sound}
 use Rattle.slot_facts.proofs.Offline.Jobs.{task_in_range-from_sound}
 use Rattle.slot_facts.proofs.Sets.Ranges.{bounds, TaskRanges-from_test}
 

@@ -2,7 +2,7 @@
 use Rattle.std.proofs.Common.{rules, ◌≡◌, ◌≤◌, [], length, map, None, Some, Err, sym, subst, arith}
 use Rattle.slot_core.specs.declared.faults.Part.TheVariants.{Sporadic as SporadicPart}
 use Rattle.slot_core.specs.declared.tasks.Sporadic.{Sporadic}
-use Rattle.slot_core.specs.Faults.{after_fault, first_fault, graph_names_fault, loop_fault, names_fault, set_fault}
+use Rattle.slot_core.specs.Sets.Faults.{after_fault, first_fault, graph_names_fault, loop_fault, names_fault, set_fault}
 use Rattle.slot_facts.proofs.Sets.Ranges.{few_sporadics}
 use Rattle.graph_unroll.proofs.RangeLemmas.{lengths_in_range}
 use Rattle.source_check.specs.Checks.{AreFew}

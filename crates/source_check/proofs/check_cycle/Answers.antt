@@ -2,7 +2,7 @@
 use Rattle.std.proofs.Common.{refl, ap}
 use Rattle.std.specs.Prelude.{option_map}
 use Rattle.slot_core.specs.declared.faults.TaskFault.TheVariants.{CycleTooLong}
-use Rattle.slot_core.specs.Cycles.{cycle_lengths}
+use Rattle.slot_core.specs.Sets.Cycles.{cycle_lengths}
 use Rattle.source_check.proofs.CycleLemmas.{none_above}
 use Rattle.source_check.proofs.check_cycle.Goals as goal
 

@@ -9,12 +9,12 @@ use Rattle.slot_core.specs.declared.jobs.Job.{Job}
 use Rattle.slot_core.specs.declared.jobs.RawJob.{RawJob}
 use Rattle.slot_core.specs.declared.tasks.Graph.{Graph}
 use Rattle.slot_core.specs.declared.tasks.TaskSet.{TaskSet}
-use Rattle.slot_core.specs.Cycles.{cycle_of}
-use Rattle.slot_core.specs.Ranges.{is_sound}
+use Rattle.slot_core.specs.Sets.Cycles.{cycle_of}
+use Rattle.slot_core.specs.Sets.Ranges.{is_sound}
 use Rattle.window_derive.specs.declared.windows.Chains.{Chains}
-use Rattle.slot_core.specs.OfflineJobs.{raw_jobs, derived_job, cycle_jobs}
+use Rattle.slot_core.specs.Offline.OfflineJobs.{raw_jobs, derived_job, cycle_jobs}
 use Rattle.slot_facts.proofs.Offline.DistinctKeys.{IsApart, offline_jobs-apart}
-use Rattle.slot_core.specs.Keys.{deadline_order}
+use Rattle.slot_core.specs.Offline.Keys.{deadline_order}
 use Rattle.std.specs.Ordering.{is_lt}
 use Rattle.std.proofs.lemmas.Cmp.{nat_list_cmp_total}
 use Rattle.std.proofs.lemmas.List.Sorted.{ranks_by, answers_always}

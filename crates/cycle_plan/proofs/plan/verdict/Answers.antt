@@ -2,8 +2,8 @@
 use Rattle.std.proofs.Common.{◌≡◌, List, ap, sym, ◌∙◌, subst, arith}
 use Rattle.std.specs.Prelude.{IfOk}
 use Rattle.slot_core.specs.declared.tasks.Sporadic.{Sporadic}
-use Rattle.slot_core.specs.OfflineJobs.{cycle_jobs}
-use Rattle.slot_core.specs.Feasible.{window_demand, counterexample_in}
+use Rattle.slot_core.specs.Offline.OfflineJobs.{cycle_jobs}
+use Rattle.slot_core.specs.Feasibility.Feasible.{window_demand, counterexample_in}
 use Rattle.slot_facts.proofs.Offline.Jobs.{cycle-at_most}
 use Rattle.demand_test.specs.Verdicts.{verdict_of}
 use Rattle.slot_facts.proofs.Demand.Feasible.{counterexample_in-permutation}

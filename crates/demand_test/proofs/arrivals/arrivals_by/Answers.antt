@@ -2,7 +2,7 @@ use Rattle.std.proofs.Common.{◌≡◌, ℕ, ◌+◌, ◌-◌, ◌/◌, ◌<◌
 use Rattle.std.specs.Prelude.{unwrap_or}
 use Rattle.std.specs.Option.{SomeIff}
 use Rattle.slot_core.specs.declared.tasks.Sporadic.{Sporadic}
-use Rattle.slot_core.specs.Sporadics.{arrivals_due}
+use Rattle.slot_core.specs.Feasibility.Sporadics.{arrivals_due}
 use Rattle.slot_facts.proofs.Demand.Arrivals.{arrivals_due-none, arrivals_due-at_once, arrivals_due-spaced}
 use Rattle.demand_test.proofs.arrivals.arrivals_by.Goals as goal
 

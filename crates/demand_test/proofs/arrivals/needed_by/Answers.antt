@@ -4,7 +4,7 @@ use Rattle.std.proofs.lemmas.Nat.{mul-le}
 use Rattle.std.proofs.lemmas.List.{take_all}
 use Rattle.std.proofs.lemmas.List.Sums.{sum_by_more, sum_by_more_le}
 use Rattle.slot_core.specs.declared.tasks.Sporadic.{Sporadic}
-use Rattle.slot_core.specs.Sporadics.{arrivals_due}
+use Rattle.slot_core.specs.Feasibility.Sporadics.{arrivals_due}
 use Rattle.slot_facts.proofs.Demand.Arrivals.{arrivals_due-le, sporadic_demand-sum_by}
 use Rattle.demand_test.proofs.arrivals.needed_by.Goals as goal
 

@@ -1,7 +1,7 @@
 use Rattle.std.proofs.Common.{◌≡◌, ◌*◌, ◌^◌, ◌<◌, take}
 use Rattle.std.specs.Prelude.{sum_by}
 use Rattle.slot_core.specs.declared.tasks.Sporadic.{Sporadic}
-use Rattle.slot_core.specs.Sporadics.{arrivals_due}
+use Rattle.slot_core.specs.Feasibility.Sporadics.{arrivals_due}
 use Rattle.demand_test.proofs.arrivals.needed_by.Given as goal
 
 abbrev pub invariant-loop-task : goal.invariant-loop-task

@@ -1,6 +1,6 @@
 use Rattle.std.proofs.Common.{◌≡◌, [], ◌^◌, ◌<◌, map}
 use Rattle.std.specs.List.{range_with_len, All}
-use Rattle.slot_core.specs.Sporadics.{sporadic_demand}
+use Rattle.slot_core.specs.Feasibility.Sporadics.{sporadic_demand}
 use Rattle.demand_test.proofs.arrivals.needed_table.Given as goal
 
 abbrev pub invariant-loop-end : goal.invariant-loop-end

@@ -6,7 +6,7 @@ use Rattle.std.proofs.lemmas.List.Sums.{sum_by_more}
 use Rattle.slot_core.specs.declared.TheConstants.{SLOT_LIMIT, TASK_LIMIT}
 use Rattle.slot_core.specs.declared.tasks.Task.{Task}
 use Rattle.slot_core.specs.declared.tasks.Graph.{Graph}
-use Rattle.slot_core.specs.Ranges.{graph_in_range}
+use Rattle.slot_core.specs.Sets.Ranges.{graph_in_range}
 use Rattle.demand_test.specs.Totals.{graph_work}
 use Rattle.slot_facts.proofs.Sets.Sizes.{graph_slots-le}
 use Rattle.demand_test.proofs.offline.offline_slots.Goals as goal

@@ -2,7 +2,7 @@
 use Rattle.std.proofs.Common.{◌≡◌, ◌++◌, drop, map}
 use Rattle.std.specs.Prelude.{flat_map}
 use Rattle.std.specs.List.{enumerate_from}
-use Rattle.slot_core.specs.Charts.{graph_rows}
+use Rattle.slot_core.specs.Output.Charts.{graph_rows}
 use Rattle.gantt_print.specs.Drawings.{unmarked}
 use Rattle.gantt_print.proofs.chart.push_graphs.Given as goal
 

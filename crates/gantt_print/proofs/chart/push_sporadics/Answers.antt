@@ -3,7 +3,7 @@ use Rattle.std.proofs.Common.{◌≡◌, ℕ, ◌++◌, length, map, sym, ap, �
 use Rattle.std.specs.List.{enumerate_from, range_with_len}
 use Rattle.slot_core.specs.declared.tasks.Sporadic.{Sporadic}
 use Rattle.slot_facts.proofs.Lists.Maps.{map-map}
-use Rattle.slot_core.specs.Charts.{sporadic_row}
+use Rattle.slot_core.specs.Output.Charts.{sporadic_row}
 use Rattle.gantt_print.specs.Drawings.{unmarked}
 use Rattle.gantt_print.proofs.RowLemmas.{appended-more, map-places}
 use Rattle.gantt_print.proofs.chart.push_sporadics.Goals as goal

@@ -1,7 +1,7 @@
 -- The rows of the first sporadic tasks are appended.
 use Rattle.std.proofs.Common.{◌≡◌, ◌++◌, map}
 use Rattle.std.specs.List.{range_with_len}
-use Rattle.slot_core.specs.Charts.{sporadic_row}
+use Rattle.slot_core.specs.Output.Charts.{sporadic_row}
 use Rattle.gantt_print.specs.Drawings.{unmarked}
 use Rattle.gantt_print.proofs.chart.push_sporadics.Given as goal
 

@@ -1,6 +1,6 @@
 -- The longest label so far, and at most 49.
 use Rattle.std.proofs.Common.{◌≡◌, ◌≤◌, map, take, length, max, fold}
-use Rattle.slot_core.specs.Charts.{row_label}
+use Rattle.slot_core.specs.Output.Charts.{row_label}
 use Rattle.gantt_print.specs.Drawings.{MarkedRow}
 use Rattle.gantt_print.proofs.labels.label_width.Given as goal
 

@@ -5,7 +5,7 @@ use Rattle.std.specs.List.{range_with_len}
 use Rattle.std.proofs.lemmas.List.Elements.{All-contains}
 use Rattle.std.proofs.lemmas.List.FromFn.{length-map-range_with_len, get_or-map-range_with_len}
 use Rattle.slot_core.specs.declared.jobs.Job.{Job}
-use Rattle.slot_core.specs.Points.{end_before, least_start}
+use Rattle.slot_core.specs.Runs.Points.{end_before, least_start}
 use Rattle.slot_facts.proofs.Lists.Members.{Contains-from_Has}
 use Rattle.slot_facts.proofs.Plans.Points.{AreInCycle, end_before-le}
 use Rattle.slot_facts.proofs.Plans.CyclePoints.{start_if_later, points_by, points_by-due, end_before-none, points_by-cycle}

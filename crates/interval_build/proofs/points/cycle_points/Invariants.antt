@@ -1,6 +1,6 @@
 -- The points up to the last deadline before this slot.
 use Rattle.std.proofs.Common.{◌≡◌}
-use Rattle.slot_core.specs.Points.{end_before}
+use Rattle.slot_core.specs.Runs.Points.{end_before}
 use Rattle.slot_facts.proofs.Plans.CyclePoints.{points_by}
 use Rattle.interval_build.proofs.points.cycle_points.Given as goal
 

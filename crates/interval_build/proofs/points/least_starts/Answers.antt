@@ -3,7 +3,7 @@ use Rattle.std.proofs.Common.{◌≡◌, ◌+◌, length, get_or, ap, ◌∙◌,
 use Rattle.std.specs.List.{range_with_len}
 use Rattle.std.proofs.lemmas.List.{take_all}
 use Rattle.std.proofs.lemmas.List.FromFn.{length-range_with_len, get_or-range_with_len, fill_by_all}
-use Rattle.slot_core.specs.Points.{least_start}
+use Rattle.slot_core.specs.Runs.Points.{least_start}
 use Rattle.interval_build.proofs.points.least_starts.Goals as goal
 
 pub loop-job-init : goal.loop-job-init

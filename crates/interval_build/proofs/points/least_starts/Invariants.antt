@@ -1,6 +1,6 @@
 -- Each slot has the least start of the jobs so far that are due there.
 use Rattle.std.proofs.Common.{◌≡◌, ℕ, ◌+◌, ◌<◌, length, get_or, take}
-use Rattle.slot_core.specs.Points.{least_start}
+use Rattle.slot_core.specs.Runs.Points.{least_start}
 use Rattle.interval_build.proofs.points.least_starts.Given as goal
 
 abbrev pub invariant-loop-job : goal.invariant-loop-job

@@ -65,7 +65,7 @@ set-requires g c =
     let pairs = c.args.chain.now.pairs in
     let index = c.args.place.index in
     let put = c.insert_before-first.ensures.span index c.at-id.ensures in
-    (index + 1, ap (λ ps. id_at ps (index + 1)) put ∙ id_at-insert pairs index (c.insert_before-first.result, c.refilled-first.result) (span_at-within pairs index c.args.place.row c.requires.row) ∙ c.at-id.ensures)
+    (index + 1, ap (λ ps. id_at ps (index + 1)) put ∙ id_at-insert pairs index _ (span_at-within pairs index c.args.place.row c.requires.row) ∙ c.at-id.ensures)
 
 pub returns-clause-spans : goal.returns-clause-spans
 returns-clause-spans g c =

@@ -3,7 +3,7 @@ use Rattle.std.specs.List.Sorted.{IsNonDecreasingBy}
 use Rattle.std.specs.Option.{option_copied}
 use Rattle.std.proofs.lemmas.List.Sorted.{IsNonDecreasingBy-drop}
 use Rattle.slot_core.specs.declared.jobs.Job.{Job}
-use Rattle.slot_core.specs.Choice.{earlier_of, ready}
+use Rattle.slot_core.specs.Runs.Choice.{earlier_of, ready}
 use Rattle.job_queue.proofs.ReadyJobs.{ready-first_now, ready-ordered_later}
 use Rattle.job_queue.proofs.queue.earliest_listed.Goals as goal
 

@@ -2,7 +2,7 @@ use Rattle.std.proofs.Common.{◌≡◌, ◌+◌, ◌≤◌, ◌++◌, fold, len
 use Rattle.std.specs.List.Sorted.{IsNonDecreasingBy}
 use Rattle.std.specs.Option.{option_copied}
 use Rattle.slot_core.specs.declared.jobs.Job.{Job}
-use Rattle.slot_core.specs.Choice.{earlier_of, ready}
+use Rattle.slot_core.specs.Runs.Choice.{earlier_of, ready}
 use Rattle.job_queue.proofs.queue.earliest_listed.Given as goal
 
 abbrev pub invariant-loop-job : goal.invariant-loop-job

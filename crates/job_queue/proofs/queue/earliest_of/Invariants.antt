@@ -1,6 +1,6 @@
 use Rattle.std.proofs.Common.{◌≡◌, ◌+◌, take}
 use Rattle.std.specs.Option.{option_copied}
-use Rattle.slot_core.specs.Choice.{earliest, ready}
+use Rattle.slot_core.specs.Runs.Choice.{earliest, ready}
 use Rattle.job_queue.proofs.queue.earliest_of.Given as goal
 
 abbrev pub invariant-loop-job : goal.invariant-loop-job

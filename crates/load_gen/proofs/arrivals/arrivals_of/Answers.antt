@@ -1,7 +1,7 @@
 -- One slot more, and why the arrivals fit.
 use Rattle.std.proofs.Common.{◌≡◌, ◌+◌, ◌++◌, length, ap, ◌∙◌, arith}
 use Rattle.std.proofs.lemmas.List.{length-append}
-use Rattle.slot_core.specs.Arrivals.{are_fitting}
+use Rattle.slot_core.specs.Runs.Arrivals.{are_fitting}
 use Rattle.load_gen.specs.Loads.{load_set}
 use Rattle.load_gen.specs.LoadArrivals.{arrivals_at, load_arrivals, next_number}
 use Rattle.load_gen.proofs.ArrivalLemmas.{arrivals_from-end, arrivals_from-more, length-arrivals_at, load_arrivals-fit}

@@ -1,7 +1,7 @@
 -- The text is a name.
 use Rattle.std.proofs.Common.{◌≡◌, ◌++◌, true, codes, ap, ◌∙◌, rules}
 use Rattle.std.specs.Prelude.{decimal}
-use Rattle.slot_core.specs.Names.{is_name}
+use Rattle.slot_core.specs.Sets.Names.{is_name}
 use Rattle.load_gen.proofs.Sound.{graph_name-is_name}
 use Rattle.load_gen.proofs.sets.graph_name.Goals as goal
 

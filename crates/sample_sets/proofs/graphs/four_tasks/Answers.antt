@@ -5,7 +5,7 @@ use Rattle.std.proofs.lemmas.List.Elements.{All-contains}
 use Rattle.std.proofs.lemmas.Map.Views.{Contains-from_any}
 use Rattle.slot_core.specs.declared.tasks.Task.{Task}
 use Rattle.sample_sets.specs.Sets.{task}
-use Rattle.slot_core.specs.Precedence.{comes_after}
+use Rattle.slot_core.specs.Offline.Precedence.{comes_after}
 use Rattle.sample_sets.proofs.graphs.four_tasks.Goals as goal
 
 -- four such tasks

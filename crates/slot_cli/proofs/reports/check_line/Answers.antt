@@ -1,6 +1,6 @@
 use Rattle.std.proofs.Common.{◌≡◌, length, ◌∙◌}
 use Rattle.std.proofs.lemmas.Result.{IfOk-weaker}
-use Rattle.slot_core.specs.Reports.{check_line, counts_line}
+use Rattle.slot_core.specs.Output.Reports.{check_line, counts_line}
 use Rattle.slot_cli.proofs.PlannedSets.{check_line-from_plan}
 use Rattle.slot_cli.proofs.reports.check_line.Goals as goal
 

@@ -1,5 +1,5 @@
 use Rattle.std.proofs.Common.{◌≡◌, ℕ, List, [], ◌∷◌, ◌++◌, length, codes, ap, append_assoc, ◌∙◌}
-use Rattle.slot_core.specs.Texts.{worded}
+use Rattle.slot_core.specs.Output.Texts.{worded}
 use Rattle.slot_cli.proofs.reports.plan_line.Goals as goal
 
 regroup : (a b c d e f l : List ℕ) → (a ++ (b ++ c ++ d)) ++ (e ++ f ++ l) ≡ a ++ b ++ c ++ d ++ e ++ f ++ l

@@ -1,11 +1,11 @@
 -- One more line is written, or a part of it.
-use Rattle.std.proofs.Common.{◌≡◌, ℕ, List, take, drop, suc, subst, ◌∙◌, arith}
+use Rattle.std.proofs.Common.{ℕ, List, take, drop, suc, subst, arith}
 use Rattle.std.specs.Prelude.{Result, Ok, Err, OnErr, flat_map}
 use Rattle.std.proofs.KnownBytes.{Appends-trans}
 use Rattle.std.specs.Io.KnownBytes.{Appends}
 use Rattle.slot_core.specs.declared.jobs.Job.{Job}
 use Rattle.slot_core.specs.declared.jobs.Key.TheVariants.{Offline}
-use Rattle.slot_core.specs.Reports.{job_line}
+use Rattle.slot_core.specs.Output.Reports.{job_line}
 use Rattle.slot_io.specs.Sinks.{AppendsPart}
 use Rattle.slot_io.proofs.SinkParts.{AppendsPart-more}
 use Rattle.slot_cli.proofs.PlanLines.{line-at, line-more}

@@ -2,7 +2,7 @@
 use Rattle.std.proofs.Common.{◌≤◌, take}
 use Rattle.std.specs.Prelude.{flat_map}
 use Rattle.std.specs.Io.KnownBytes.{Appends}
-use Rattle.slot_core.specs.Reports.{job_line}
+use Rattle.slot_core.specs.Output.Reports.{job_line}
 use Rattle.slot_cli.proofs.reports.show_jobs.Given as goal
 
 abbrev pub invariant-loop-job : goal.invariant-loop-job

@@ -1,10 +1,10 @@
 -- The first line, the jobs and the spans, or a part of one of them.
-use Rattle.std.proofs.Common.{◌≡◌, ◌≤◌, ℕ, List, [], ◌++◌, refl, append_assoc, ◌∙◌, arith}
+use Rattle.std.proofs.Common.{◌≤◌, ℕ, [], ◌++◌, refl, append_assoc, ◌∙◌, arith}
 use Rattle.std.specs.Prelude.{flat_map}
 use Rattle.std.proofs.KnownBytes.{Appends-nil, Appends-trans}
 use Rattle.std.proofs.lemmas.Result.{err_from_is_err_and}
-use Rattle.slot_core.specs.Counts.{Rose}
-use Rattle.slot_core.specs.Reports.{job_line, plan_line, show_text, span_line}
+use Rattle.slot_core.specs.Calls.Counts.{Rose}
+use Rattle.slot_core.specs.Output.Reports.{job_line, plan_line, show_text, span_line}
 use Rattle.slot_io.proofs.SinkParts.{AppendsPart-more, AppendsPart-on}
 use Rattle.slot_cli.proofs.PlanLines.{keys-named}
 use Rattle.slot_cli.proofs.reports.show_plan.Goals as goal

@@ -2,7 +2,7 @@
 use Rattle.std.proofs.Common.{◌≤◌, take}
 use Rattle.std.specs.Prelude.{flat_map}
 use Rattle.std.specs.Io.KnownBytes.{Appends}
-use Rattle.slot_core.specs.Reports.{span_line}
+use Rattle.slot_core.specs.Output.Reports.{span_line}
 use Rattle.slot_cli.proofs.reports.show_spans.Given as goal
 
 abbrev pub invariant-loop-span : goal.invariant-loop-span

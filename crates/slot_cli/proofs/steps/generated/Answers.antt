@@ -1,6 +1,6 @@
 use Rattle.std.proofs.Common.{◌≡◌, Ok, ap, ◌∙◌}
 use Rattle.load_gen.specs.Loads.{load_set}
-use Rattle.slot_core.specs.Plans.{planned, PlanParts}
+use Rattle.slot_core.specs.Keeping.Plans.{planned, PlanParts}
 use Rattle.run_outcome.specs.Refusals.{Outcome}
 use Rattle.slot_core.specs.declared.tasks.TaskSet.{TaskSet}
 use Rattle.slot_cli.specs.Due.{feasible_plan}

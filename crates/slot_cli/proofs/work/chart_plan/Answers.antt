@@ -1,23 +1,12 @@
-use Rattle.std.proofs.Common.{◌≡◌, ℕ, List, subst}
-use Rattle.std.proofs.lemmas.Result.{err_from_is_err_and}
-use Rattle.std.specs.Io.KnownBytes.{Appends}
-use Rattle.slot_io.specs.Sinks.{AppendsPart}
-use Rattle.gantt_print.specs.Drawings.{MarkedRow}
-use Rattle.slot_cli.proofs.TraceLines.{IsDrawn, chart-drawn, chart-told}
+-- The executive has the plan that it was started with.
+use Rattle.std.proofs.Common.{subst}
+use Rattle.slot_core.specs.Keeping.Plans.{PlanParts}
+use Rattle.slot_core.specs.Output.Charts.{chart_text}
+use Rattle.slot_core.specs.Runs.Traces.{trace}
+use Rattle.slot_cli.specs.Steps.{IsWriting}
 use Rattle.slot_cli.proofs.work.chart_plan.Goals as goal
-
-pub print-requires : goal.print-requires
-print-requires g c =
-    (chart-drawn c.args.plan c.in_ok-exec.exec.plan c.drive.new.exec.plan c.tasks.result.now c.tasks-2.result.now c.in_ok-chart.chart c.drive.new.taker c.args.arrivals.now c.args.slots c.from.result c.in_ok-exec.ensures.plan c.in_ok-drive.ensures.plan c.tasks.ensures.tasks c.tasks-2.ensures.tasks c.from.ensures c.in_ok-chart.ensures c.in_ok-drive.ensures.took).is_chart
 
 pub returns : goal.returns
 returns g c =
-    let drawn = chart-drawn c.args.plan c.in_ok-exec.exec.plan c.drive.new.exec.plan c.tasks.result.now c.tasks-2.result.now c.in_ok-chart.chart c.drive.new.taker c.args.arrivals.now c.args.slots c.from.result c.in_ok-exec.ensures.plan c.in_ok-drive.ensures.plan c.tasks.ensures.tasks c.tasks-2.ensures.tasks c.from.ensures c.in_ok-chart.ensures c.in_ok-drive.ensures.took in
-    subst (λ (text : List ℕ). Appends (g.K.Sink.written c.args.out.now) (g.K.Sink.written c.print.new.out) text) (chart-told c.tasks-2.result.now c.args.plan c.args.arrivals.now c.args.slots c.drive.new.taker drawn c.print.ensures.runs) c.in_ok-print.ensures.text
-
-pub returns-in_err-print : goal.returns-in_err-print
-returns-in_err-print g c =
-    let drawn = chart-drawn c.args.plan c.in_ok-exec.exec.plan c.drive.new.exec.plan c.tasks.result.now c.tasks-2.result.now c.in_ok-chart.chart c.drive.new.taker c.args.arrivals.now c.args.slots c.from.result c.in_ok-exec.ensures.plan c.in_ok-drive.ensures.plan c.tasks.ensures.tasks c.tasks-2.ensures.tasks c.from.ensures c.in_ok-chart.ensures c.in_ok-drive.ensures.took in
-    let p = err_from_is_err_and c.from_residual-in_err-print.result c.from_residual-in_err-print.ensures.1 in
-    let part = subst (λ (text : List ℕ). AppendsPart (g.K.Sink.written c.args.out.now) (g.K.Sink.written c.print.new.out) text) (chart-told c.tasks-2.result.now c.args.plan c.args.arrivals.now c.args.slots c.drive.new.taker drawn c.print.ensures.runs) c.in_err-print.ensures.part in
-    rw (p.1, p.2) (part, c.in_err-print.ensures.failed)
+    let Writes : PlanParts → Type 0 = λ plan. IsWriting g.K.Sink.written g.K.Sink.faults (chart_text plan.tasks c.args.slots (trace plan.tasks c.args.arrivals.now c.args.slots)) c.draw_trace.result c.args.out.now c.draw_trace.new.out in
+    subst Writes c.in_ok-exec.ensures.plan c.draw_trace.ensures

@@ -1,18 +1,12 @@
-use Rattle.std.proofs.Common.{◌≡◌, ℕ, List, subst, ◌∙◌}
-use Rattle.std.proofs.lemmas.Result.{err_from_is_err_and}
-use Rattle.std.specs.Io.KnownBytes.{Appends}
-use Rattle.slot_io.specs.Sinks.{AppendsPart}
-use Rattle.slot_cli.proofs.TraceLines.{tally-told}
+-- The executive has the plan that it was started with.
+use Rattle.std.proofs.Common.{subst}
+use Rattle.slot_core.specs.Keeping.Plans.{PlanParts}
+use Rattle.slot_core.specs.Output.Charts.{tally_text}
+use Rattle.slot_core.specs.Runs.Traces.{trace}
+use Rattle.slot_cli.specs.Steps.{IsWriting}
 use Rattle.slot_cli.proofs.work.tally_plan.Goals as goal
 
 pub returns : goal.returns
 returns g c =
-    let told = tally-told c.args.n c.line.result c.new-tally.result c.drive.new.taker c.args.plan c.in_ok-exec.exec.plan c.args.arrivals.now c.from.result c.in_ok-exec.ensures.plan c.from.ensures c.requires.fitting c.new-tally.ensures c.in_ok-drive.ensures.took c.line.ensures.trace in
-    subst (λ (text : List ℕ). Appends (g.K.Sink.written c.args.out.now) (g.K.Sink.written c.put.new.self) text) (c.bytes.ensures ∙ told) c.in_ok-put.ensures.ok
-
-pub returns-in_err-put : goal.returns-in_err-put
-returns-in_err-put g c =
-    let told = tally-told c.args.n c.line.result c.new-tally.result c.drive.new.taker c.args.plan c.in_ok-exec.exec.plan c.args.arrivals.now c.from.result c.in_ok-exec.ensures.plan c.from.ensures c.requires.fitting c.new-tally.ensures c.in_ok-drive.ensures.took c.line.ensures.trace in
-    let p = err_from_is_err_and c.from_residual-in_err-put.result c.from_residual-in_err-put.ensures.1 in
-    let part = subst (λ (text : List ℕ). AppendsPart (g.K.Sink.written c.args.out.now) (g.K.Sink.written c.put.new.self) text) (c.bytes.ensures ∙ told) c.in_err-put.ensures.part in
-    rw (p.1, p.2) (part, c.in_err-put.ensures.failed)
+    let Writes : PlanParts → Type 0 = λ plan. IsWriting g.K.Sink.written g.K.Sink.faults (tally_text c.args.n c.args.slots (trace plan.tasks c.args.arrivals.now c.args.slots)) c.count_trace.result c.args.out.now c.count_trace.new.out in
+    subst Writes c.in_ok-exec.ensures.plan c.count_trace.ensures

@@ -2,8 +2,8 @@
 use Rattle.std.proofs.Common.{◌≡◌, ◌≤◌, false, arith}
 use Rattle.std.proofs.lemmas.List.Sorted.{length_permutation}
 use Rattle.slot_core.specs.declared.jobs.Job.{Job}
-use Rattle.slot_core.specs.Keys.{is_soft}
-use Rattle.slot_core.specs.OfflineJobs.{later_job}
+use Rattle.slot_core.specs.Offline.Keys.{is_soft}
+use Rattle.slot_core.specs.Offline.OfflineJobs.{later_job}
 use Rattle.scene_steps.proofs.Starts.ComingJobs.{come_in-all, each-come_in, fresh-come_in, length-come_in}
 use Rattle.scene_steps.proofs.Starts.FirstJobs.{plan_jobs-wait}
 use Rattle.slot_exec.proofs.cycles.insert_cycle.Goals as goal

@@ -1,6 +1,6 @@
 use Rattle.std.proofs.Common.{◌≡◌, ◌≤◌, ◌++◌, map, take}
-use Rattle.slot_core.specs.Matches.{HaveSameItems}
-use Rattle.slot_core.specs.OfflineJobs.{later_job}
+use Rattle.slot_core.specs.Runs.Matches.{HaveSameItems}
+use Rattle.slot_core.specs.Offline.OfflineJobs.{later_job}
 use Rattle.slot_exec.proofs.cycles.insert_cycle.Given as goal
 
 -- the jobs so far have come in

@@ -1,5 +1,5 @@
 use Rattle.std.proofs.Common.{◌≡◌}
-use Rattle.slot_core.specs.Matches.{HaveSameItems}
+use Rattle.slot_core.specs.Runs.Matches.{HaveSameItems}
 use Rattle.scene_steps.proofs.Starts.FirstJobs.{first_cycles}
 use Rattle.slot_exec.specs.Parts.{job_room}
 use Rattle.slot_exec.proofs.cycles.insert_first.Given as goal

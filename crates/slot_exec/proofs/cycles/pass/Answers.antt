@@ -2,7 +2,7 @@
 use Rattle.std.proofs.Common.{◌≡◌, ℕ, ◌+◌, ◌/◌, ◌%◌, ◌==◌, ◌≤◌, Bool, true, false, cond, List, [], ◌∷◌, length, ap, refl, subst, sym, ◌∙◌, arith}
 use Rattle.slot_core.specs.declared.jobs.Job.{Job}
 use Rattle.slot_core.specs.declared.jobs.Span.{Span}
-use Rattle.slot_core.specs.Plans.{PlanParts}
+use Rattle.slot_core.specs.Keeping.Plans.{PlanParts}
 use Rattle.slot_facts.proofs.Plans.Items.{plan_cycle-bounds}
 use Rattle.spare_capacity.specs.Recurrence.{last_end}
 use Rattle.interval_row.specs.Changes.{after_pass}

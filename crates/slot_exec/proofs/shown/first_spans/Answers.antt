@@ -3,7 +3,7 @@ use Rattle.std.specs.Prelude.{slice_get}
 use Rattle.std.proofs.lemmas.List.{take_more}
 use Rattle.std.proofs.lemmas.Option.{get_or_from_slice_get, slice_get_within}
 use Rattle.slot_core.specs.declared.jobs.Span.{Span}
-use Rattle.slot_core.specs.ShownSpans.{ShownSpans}
+use Rattle.slot_core.specs.Runs.ShownSpans.{ShownSpans}
 use Rattle.interval_row.specs.Tables.{spans_of_pairs}
 use Rattle.slot_exec.proofs.shown.first_spans.Goals as goal
 

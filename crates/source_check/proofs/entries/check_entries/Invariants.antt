@@ -1,6 +1,6 @@
 -- No graph so far has a wrong entry.
 use Rattle.std.proofs.Common.{◌≡◌}
-use Rattle.slot_core.specs.Faults.{after_fault}
+use Rattle.slot_core.specs.Sets.Faults.{after_fault}
 use Rattle.source_check.proofs.FaultSteps.{faults_from}
 use Rattle.source_check.proofs.entries.check_entries.Given as goal
 

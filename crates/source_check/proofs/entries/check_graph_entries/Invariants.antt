@@ -1,6 +1,6 @@
 -- No task so far has a wrong entry.
 use Rattle.std.proofs.Common.{◌≡◌, length}
-use Rattle.slot_core.specs.Faults.{task_fault}
+use Rattle.slot_core.specs.Sets.Faults.{task_fault}
 use Rattle.source_check.proofs.FaultSteps.{faults_from}
 use Rattle.source_check.proofs.entries.check_graph_entries.Given as goal
 

@@ -1,7 +1,7 @@
 -- No graph has a wrong entry.
 use Rattle.std.proofs.Common.{refl, arith}
 use Rattle.std.proofs.lemmas.Option.{slice_get_read}
-use Rattle.slot_core.specs.Faults.{after_fault}
+use Rattle.slot_core.specs.Sets.Faults.{after_fault}
 use Rattle.slot_facts.proofs.Sets.Faults.{first_fault-None}
 use Rattle.source_check.proofs.loops.check_loops.Goals as goal
 

@@ -1,6 +1,6 @@
 -- No graph so far has a loop.
 use Rattle.std.proofs.Common.{◌≡◌}
-use Rattle.slot_core.specs.Faults.{loop_fault}
+use Rattle.slot_core.specs.Sets.Faults.{loop_fault}
 use Rattle.source_check.proofs.FaultSteps.{faults_from}
 use Rattle.source_check.proofs.loops.check_loops.Given as goal
 

@@ -1,7 +1,7 @@
 use Rattle.std.proofs.Common.{◌≡◌, ◌+◌, pos, get_or, drop, sym, ap, ◌∙◌, w64, to_z, arith}
 use Rattle.std.proofs.lemmas.Int.{ints}
 use Rattle.spare_capacity.proofs.Steps.{no_row}
-use Rattle.spare_capacity.proofs.Free.{free, free-small, StartBy-rest, StartBy-turn, StartBy-first, part-small, free-turn, free-last, free-all, available-free}
+use Rattle.spare_capacity.proofs.Free.{free, free-small, StartBy-rest, StartBy-turn, StartBy-first, start-early, part-small, free-turn, free-last, free-all, available-free}
 use Rattle.spare_capacity.proofs.deadlines.available.Goals as goal
 use Rattle.spare_capacity.proofs.deadlines.available.Goals.{else-loop-row-test, then-loop-row-test+then-dl-row}
 
@@ -12,6 +12,10 @@ loop-row-init c =
       small = omega arith;
       rest = StartBy-first c.args.dl c.args.rows.now c.requires.consecutive c.requires.filled c.requires.after;
     }
+
+pub free_until-free-requires : goal.free_until-free-requires
+free_until-free-requires c =
+    start-early c.args.dl _ _ (StartBy-turn c.args.dl c.loop-row.row-index c.args.rows.now c.loop-row-test.true c.loop-row.invariant.rest)
 
 pub overflow_add-free : goal.overflow_add-free
 overflow_add-free c =

@@ -1,6 +1,7 @@
 use Rattle.std.proofs.Common.{◌≡◌, ◌*◌, ◌≤◌, ◌^◌, arith, get_or}
 use Rattle.std.proofs.Math.Nat.{mul-le-mul}
 use Rattle.std.proofs.lemmas.List.Sums.{sum_by_more}
+use Rattle.slot_core.specs.declared.TheConstants.{SLOT_LIMIT}
 use Rattle.sporadic_reserve.proofs.Demands.{demand-all, no_row, IsRow-at, row_demand, RisesAt-all, RisesAt-more}
 use Rattle.sporadic_reserve.proofs.rows.demand_and_rise.Goals as goal
 
@@ -11,7 +12,7 @@ loop-row-preserved c =
     let row = get_or rows i no_row in
     let is = IsRow-at rows i c.requires.rows c.loop-row-test.true in
     let product : c.from.result * c.arrivals_due.result ≡ row_demand c.args.r c.args.x row = cc (c.from.ensures, c.arrivals_due.ensures.due) in
-    let few : c.from.result * c.arrivals_due.result ≤ 2 ^ 12 * 2 ^ 41 = mul-le-mul {n₂ = 2 ^ 12} {m₂ = 2 ^ 41} (omega (arith, is.short, c.from.ensures)) (omega (arith, c.arrivals_due.ensures.few)) in
+    let few : c.from.result * c.arrivals_due.result ≤ SLOT_LIMIT * 2 ^ 41 = mul-le-mul {n₂ = SLOT_LIMIT} {m₂ = 2 ^ 41} (omega (arith, is.short, c.from.ensures)) (omega (arith, c.arrivals_due.ensures.few)) in
     record {
       sum = omega (arith, c.loop-row.invariant.sum, product, sum_by_more (row_demand c.args.r c.args.x) rows i no_row c.loop-row-test.true);
       small = omega (arith, c.loop-row.invariant.small, few);

@@ -1,5 +1,5 @@
 use Rattle.std.proofs.Common.{◌≡◌, ℕ, ◌+◌, ◌*◌, max, subst}
-use Rattle.slot_core.specs.Sporadics.{arrivals_due}
+use Rattle.slot_core.specs.Feasibility.Sporadics.{arrivals_due}
 use Rattle.sporadic_reserve.specs.Rows.{task_of}
 use Rattle.sporadic_reserve.specs.Reserves.{IsNextRise}
 use Rattle.sporadic_reserve.proofs.Counts.{next_arrival_due}

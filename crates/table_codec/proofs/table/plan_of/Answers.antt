@@ -5,8 +5,8 @@ use Rattle.table_codec.specs.Readers.{settled}
 use Rattle.table_codec.proofs.Planned.{plan_of-plan}
 use Rattle.table_codec.proofs.table.plan_of.Goals as goal
 
-pub returns-clause-reading : goal.returns-clause-reading
-returns-clause-reading c = λ input.
-    let plan = c.in_ok-plan.plan in
-    let own = ap (λ r. settled r input) (plan_of-plan plan c.in_ok-plan.ensures.plan) in
-    subst (λ (set : TaskSet). settled (plan_of set) input ≡ Ok (plan, input)) c.in_ok-plan.ensures.tasks own
+pub returns-in-Ok-clause-reading : goal.returns-in-Ok-clause-reading
+returns-in-Ok-clause-reading c = λ input.
+    let plan = c.in-Ok.plan in
+    let own = ap (λ r. settled r input) (plan_of-plan plan c.in-Ok.ensures.plan) in
+    subst (λ (set : TaskSet). settled (plan_of set) input ≡ Ok (plan, input)) c.in-Ok.ensures.tasks own

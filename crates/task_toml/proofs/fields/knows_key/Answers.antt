@@ -7,7 +7,7 @@ use Rattle.slot_core.specs.declared.faults.Part.{Part}
 use Rattle.slot_core.specs.declared.faults.Part.TheVariants.{Top, Graph as GraphPart, Task as TaskPart, Sporadic as SporadicPart}
 use Rattle.slot_core.specs.declared.faults.Field.{Field}
 use Rattle.slot_core.specs.declared.faults.Field.TheVariants.{Soft, Graph, Sporadic, Name, Period, Offset, Deadline, Task, Wcet, After, Separation}
-use Rattle.slot_core.specs.FaultTexts.{field_word}
+use Rattle.slot_core.specs.Output.FaultTexts.{field_word}
 use Rattle.task_toml.specs.TomlFields.{knows_key}
 use Rattle.task_toml.proofs.fields.knows_key.Goals as goal
 

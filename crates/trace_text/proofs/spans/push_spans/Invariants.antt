@@ -1,6 +1,6 @@
 use Rattle.std.proofs.Common.{◌≡◌, ◌≤◌, ◌+◌, ◌*◌, ◌∷◌, ◌++◌, length, take}
 use Rattle.std.specs.List.{flat_map}
-use Rattle.slot_core.specs.Texts.{span_text}
+use Rattle.slot_core.specs.Output.Texts.{span_text}
 use Rattle.trace_text.proofs.spans.push_spans.Given as goal
 
 abbrev pub invariant-loop-span : goal.invariant-loop-span

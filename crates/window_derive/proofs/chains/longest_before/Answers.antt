@@ -1,7 +1,7 @@
 -- The entries of the task.
 use Rattle.std.proofs.Common.{◌≡◌, ℕ, ◌+◌, ◌<◌, max, fold, map, length, sym, ap, ◌∙◌, arith}
 use Rattle.std.specs.Prelude.{slice_index}
-use Rattle.slot_core.specs.Precedence.{after_of, wcet_of}
+use Rattle.slot_core.specs.Offline.Precedence.{after_of, wcet_of}
 use Rattle.window_derive.proofs.LoopLemmas.{after_of-at, entries_below}
 use Rattle.window_derive.proofs.chains.longest_before.Goals as goal
 

@@ -2,7 +2,7 @@
 use Rattle.std.proofs.Common.{ℕ, ◌+◌, ◌<◌, length, get_or, arith}
 use Rattle.std.specs.Prelude.{slice_index}
 use Rattle.std.proofs.lemmas.Grind.{common_steps}
-use Rattle.slot_core.specs.Precedence.{wcet_of}
+use Rattle.slot_core.specs.Offline.Precedence.{wcet_of}
 use Rattle.window_derive.proofs.ChainSteps.{longest-push}
 use Rattle.window_derive.proofs.LoopLemmas.{wcet_of-at}
 use Rattle.window_derive.proofs.chains.longest_of.Goals as goal

@@ -1,7 +1,7 @@
 -- The longest of the entries so far.
 use Rattle.std.proofs.Common.{◌≡◌, ◌+◌, max, fold, map, take}
 use Rattle.std.specs.Prelude.{slice_index}
-use Rattle.slot_core.specs.Precedence.{wcet_of}
+use Rattle.slot_core.specs.Offline.Precedence.{wcet_of}
 use Rattle.window_derive.proofs.chains.longest_of.Given as goal
 
 abbrev pub invariant-loop-entry : goal.invariant-loop-entry

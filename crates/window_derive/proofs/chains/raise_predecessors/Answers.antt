@@ -4,7 +4,7 @@ use Rattle.std.specs.Prelude.{slice_index}
 use Rattle.std.specs.List.{list_any}
 use Rattle.slot_core.specs.declared.TheConstants.{TASK_LIMIT}
 use Rattle.slot_core.specs.declared.tasks.Task.{Task}
-use Rattle.slot_core.specs.Precedence.{after_of, wcet_of, comes_after}
+use Rattle.slot_core.specs.Offline.Precedence.{after_of, wcet_of, comes_after}
 use Rattle.window_derive.proofs.LoopLemmas.{after_of-at, wcet_of-at, entries_below}
 use Rattle.window_derive.proofs.chains.raise_predecessors.Goals as goal
 

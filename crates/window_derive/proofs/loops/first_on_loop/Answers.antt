@@ -1,6 +1,6 @@
 -- This task is not on a loop.
 use Rattle.std.proofs.Common.{◌+◌, ◌-◌, length, sym, ◌∙◌, arith}
-use Rattle.slot_core.specs.Precedence.{is_on_loop}
+use Rattle.slot_core.specs.Offline.Precedence.{is_on_loop}
 use Rattle.window_derive.specs.Orders.{first_on_loop}
 use Rattle.window_derive.proofs.LoopLemmas.{find_later}
 use Rattle.window_derive.proofs.loops.first_on_loop.Goals as goal

@@ -2,7 +2,7 @@
 use Rattle.std.proofs.Common.{◌≡◌, ◌-◌, length}
 use Rattle.std.specs.Prelude.{find}
 use Rattle.std.specs.List.{range_with_len}
-use Rattle.slot_core.specs.Precedence.{is_on_loop}
+use Rattle.slot_core.specs.Offline.Precedence.{is_on_loop}
 use Rattle.window_derive.specs.Orders.{first_on_loop}
 use Rattle.window_derive.proofs.loops.first_on_loop.Given as goal
 

@@ -2,7 +2,7 @@
 use Rattle.std.proofs.Common.{◌≡◌, ℕ, ◌+◌, ◌-◌, length}
 use Rattle.std.specs.List.{list_any, range_with_len}
 use Rattle.slot_core.specs.declared.TheConstants.{TASK_LIMIT}
-use Rattle.slot_core.specs.Precedence.{leads_to, is_on_loop}
+use Rattle.slot_core.specs.Offline.Precedence.{leads_to, is_on_loop}
 use Rattle.window_derive.specs.Marks.{is_marked}
 use Rattle.window_derive.proofs.loops.is_on_loop.Given as goal
 

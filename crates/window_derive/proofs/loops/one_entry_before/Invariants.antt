@@ -2,7 +2,7 @@
 use Rattle.std.proofs.Common.{◌≡◌, ℕ, ◌<◌, ◌≤◌, false, length}
 use Rattle.std.specs.List.{list_any}
 use Rattle.slot_core.specs.declared.TheConstants.{TASK_LIMIT}
-use Rattle.slot_core.specs.Precedence.{after_of}
+use Rattle.slot_core.specs.Offline.Precedence.{after_of}
 use Rattle.window_derive.specs.Marks.{is_marked}
 use Rattle.window_derive.proofs.loops.one_entry_before.Given as goal
 

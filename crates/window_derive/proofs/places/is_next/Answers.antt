@@ -2,7 +2,7 @@
 use Rattle.std.proofs.Common.{◌≡◌, ◌&&◌, true, not, sym, ap, ◌∙◌}
 use Rattle.std.specs.List.{list_all}
 use Rattle.slot_core.specs.declared.TheConstants.{TASK_LIMIT}
-use Rattle.slot_core.specs.Precedence.{predecessors}
+use Rattle.slot_core.specs.Offline.Precedence.{predecessors}
 use Rattle.window_derive.specs.Marks.{is_marked}
 use Rattle.window_derive.proofs.LoopLemmas.{after_of-at, entries_below}
 use Rattle.window_derive.proofs.OrderLemmas.{list_all-predecessors}

@@ -4,8 +4,8 @@ use Rattle.std.specs.Prelude.{slice_get, IfSome}
 use Rattle.std.proofs.lemmas.List.Elements.{All-get_or}
 use Rattle.std.proofs.lemmas.Option.{slice_get_read}
 use Rattle.slot_core.specs.declared.jobs.Job.{Job}
-use Rattle.slot_core.specs.OfflineJobs.{later_job}
-use Rattle.slot_core.specs.Plans.{PlanParts, IsPlan}
+use Rattle.slot_core.specs.Offline.OfflineJobs.{later_job}
+use Rattle.slot_core.specs.Keeping.Plans.{PlanParts, IsPlan}
 use Rattle.slot_facts.proofs.Offline.Jobs.{cycle-at_most}
 use Rattle.cycle_plan.specs.NearJobs.{IsNear}
 use Rattle.cycle_plan.proofs.NearJobFacts.{all_near}

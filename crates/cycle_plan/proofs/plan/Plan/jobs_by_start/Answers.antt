@@ -1,7 +1,7 @@
 use Rattle.std.proofs.Common.{sym, subst}
 use Rattle.std.specs.Prelude.{All}
 use Rattle.std.proofs.lemmas.List.Sorted.{All-permutation}
-use Rattle.slot_core.specs.Plans.{PlanParts}
+use Rattle.slot_core.specs.Keeping.Plans.{PlanParts}
 use Rattle.cycle_plan.specs.NearJobs.{IsNear}
 use Rattle.cycle_plan.specs.StartOrder.{StartsRise}
 use Rattle.cycle_plan.proofs.NearJobFacts.{all_near}

@@ -1,6 +1,6 @@
 -- The spans of a plan are plan spans, and fill its cycle.
 use Rattle.std.proofs.Common.{◌≡◌, subst}
-use Rattle.slot_core.specs.Plans.{PlanParts}
+use Rattle.slot_core.specs.Keeping.Plans.{PlanParts}
 use Rattle.spare_capacity.specs.PlanSpans.{ArePlanSpans}
 use Rattle.spare_capacity.specs.Recurrence.{last_end}
 use Rattle.interval_build.proofs.SpansOfCycle.{ArePlanSpans-from_plan}

@@ -6,8 +6,8 @@ use Rattle.std.proofs.lemmas.List.{map-append}
 use Rattle.std.proofs.lemmas.List.Elements.{All-weaker}
 use Rattle.slot_core.specs.declared.TheConstants.{TASK_LIMIT}
 use Rattle.slot_core.specs.declared.tasks.Graph.{Graph}
-use Rattle.slot_core.specs.Charts.{chart_rows}
-use Rattle.slot_core.specs.Ranges.{graph_in_range}
+use Rattle.slot_core.specs.Output.Charts.{chart_rows}
+use Rattle.slot_core.specs.Sets.Ranges.{graph_in_range}
 use Rattle.slot_facts.proofs.Sets.Ranges.{few_tasks}
 use Rattle.slot_facts.proofs.Sets.Sizes.{graphs-from_sound}
 use Rattle.gantt_print.specs.Drawings.{HasMarks, unmarked}

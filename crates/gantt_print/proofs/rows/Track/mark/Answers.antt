@@ -1,6 +1,6 @@
 -- The slot is marked where the row has it and holds the key.
 use Rattle.std.proofs.Common.{◌∷◌, [], length, sym, ap, ◌∙◌, arith}
-use Rattle.slot_core.specs.Charts.{is_in_row}
+use Rattle.slot_core.specs.Output.Charts.{is_in_row}
 use Rattle.gantt_print.specs.Drawings.{MarkedRow, with_runs}
 use Rattle.gantt_print.specs.Rows.{row_of}
 use Rattle.gantt_print.proofs.MarkLemmas.{with_runs-marks, with_runs-outside, with_runs-past}

@@ -4,7 +4,7 @@ use Rattle.std.proofs.lemmas.List.{length-append}
 use Rattle.std.proofs.lemmas.List.Elements.{filter-append}
 use Rattle.std.proofs.lemmas.List.Sums.{fold-append}
 use Rattle.slot_core.specs.declared.jobs.Job.{Job}
-use Rattle.slot_core.specs.Choice.{earlier_of, earliest, ready}
+use Rattle.slot_core.specs.Runs.Choice.{earlier_of, earliest, ready}
 use Rattle.job_queue.specs.Queues.{QueueParts}
 use Rattle.job_queue.proofs.ReadyJobs.{ready-le-length}
 use Rattle.job_queue.proofs.queue.JobQueue.earliest.Goals as goal

@@ -1,6 +1,6 @@
 use Rattle.std.proofs.Common.{◌≡◌, ℕ, ◌+◌, ◌<◌, false, get_or}
 use Rattle.slot_core.specs.declared.jobs.Job.{Job}
-use Rattle.slot_core.specs.Keys.{same_key}
+use Rattle.slot_core.specs.Offline.Keys.{same_key}
 use Rattle.job_queue.proofs.queue.JobQueue.place_of.Given as goal
 
 abbrev pub invariant-loop-place : goal.invariant-loop-place

@@ -1,8 +1,8 @@
 use Rattle.std.proofs.Common.{◌≡◌, ◌+◌, None, take}
 use Rattle.std.specs.Prelude.{find}
 use Rattle.slot_core.specs.declared.jobs.Job.{Job}
-use Rattle.slot_core.specs.Keys.{same_key}
-use Rattle.slot_core.specs.Choice.{ready}
+use Rattle.slot_core.specs.Offline.Keys.{same_key}
+use Rattle.slot_core.specs.Runs.Choice.{ready}
 use Rattle.job_queue.proofs.queue.JobQueue.place_ready.Given as goal
 
 abbrev pub invariant-loop-place : goal.invariant-loop-place

@@ -1,6 +1,6 @@
 -- The line of the counts is the text of the trace.
 use Rattle.std.proofs.Common.{◌≡◌, ◌∙◌, rules}
-use Rattle.slot_core.specs.Charts.{tally_line}
+use Rattle.slot_core.specs.Output.Charts.{tally_line}
 use Rattle.load_gen.specs.Tallies.{count_of}
 use Rattle.load_gen.proofs.TallyLemmas.{tally_line-trace}
 use Rattle.load_gen.proofs.tally.Tally.line.Goals as goal

@@ -1,5 +1,6 @@
 use Rattle.std.proofs.Common.{◌≡◌, ◌+◌, ap, arith, length, refl, slice_get, Some, subst, sym, ◌∙◌}
 use Rattle.std.specs.Prelude.{insert}
+use Rattle.std.proofs.lemmas.Option.{slice_get_within}
 use Rattle.node_chain.specs.Links.{joined, order, IsLinked}
 use Rattle.node_chain.specs.Chains.{id_at, Chained, pairs_of, IsListed}
 use Rattle.node_chain.specs.Orders.{ids_of}
@@ -7,6 +8,16 @@ use Rattle.node_chain.proofs.Orders.{ids_of-insert}
 use Rattle.node_chain.proofs.Pairs.{named}
 use Rattle.node_chain.proofs.Kept.{before-inside, free-fresh, free-inside, has_room, insert-Changed, listed-place, order-inside}
 use Rattle.node_chain.proofs.chain.Chain.insert_before.Goals as goal
+
+pub index_of-index-requires : goal.index_of-index-requires
+index_of-index-requires g c =
+    let i = c.requires.listed.0 in
+    (i, ap (λ ns. slice_get ns i) c.self.invariant.1.ids ∙ ap (λ ps. id_at ps i) (ap (λ (v : Chained). v.pairs) c.self.view_is) ∙ c.requires.listed.1)
+
+pub insert-requires-clause-within : goal.insert-requires-clause-within
+insert-requires-clause-within g c =
+    let within = slice_get_within _ c.index_of-index.result c.args.id c.index_of-index.ensures in
+    omega (arith, within)
 
 pub join-self-inside-requires-clause-place : goal.join-self-inside-requires-clause-place
 join-self-inside-requires-clause-place g c =

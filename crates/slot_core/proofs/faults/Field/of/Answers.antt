@@ -4,7 +4,7 @@ use Rattle.std.specs.Prelude.{find}
 use Rattle.std.specs.Str.{bytes_eq}
 use Rattle.slot_core.specs.declared.faults.Field.{Field}
 use Rattle.slot_core.specs.declared.faults.Field.TheVariants.{Soft, Graph, Sporadic, Name, Period, Offset, Deadline, Task, Wcet, After, Separation}
-use Rattle.slot_core.specs.FaultTexts.{field_word}
+use Rattle.slot_core.specs.Output.FaultTexts.{field_word}
 use Rattle.slot_core.proofs.faults.Field.of.Goals as goal
 
 abbrev fields : List Field

@@ -1,7 +1,7 @@
 use Rattle.std.proofs.Common.{◌*◌, ◌≤◌, length, subst}
 use Rattle.std.specs.Prelude.{pos, ◌≤ℤ◌}
-use Rattle.slot_core.specs.Executives.{Executive, IsKept}
-use Rattle.slot_core.specs.Spans.{spans_of}
+use Rattle.slot_core.specs.Keeping.Executives.{Executive, IsKept}
+use Rattle.slot_core.specs.Runs.Spans.{spans_of}
 use Rattle.slot_facts.proofs.Legal.Executives.{every_executive_is_kept}
 use Rattle.spare_capacity.specs.Recurrence.{first_spare}
 use Rattle.scene_steps.proofs.Spans.Executives.{first_spare-positive}

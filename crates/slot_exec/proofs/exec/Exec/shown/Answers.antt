@@ -1,5 +1,5 @@
 use Rattle.std.proofs.Common.{subst}
-use Rattle.slot_core.specs.Executives.{Executive, Shows}
+use Rattle.slot_core.specs.Keeping.Executives.{Executive, Shows}
 use Rattle.slot_exec.proofs.ShownExecutives.{Shows-parts}
 use Rattle.slot_exec.proofs.exec.Exec.shown.Goals as goal
 

@@ -1,6 +1,6 @@
 -- A slot: what is chosen may run, the next cycle finds room, and the parts become those of the step.
 use Rattle.std.proofs.Common.{◌<◌, ◌^◌, ap, ◌∙◌, arith}
-use Rattle.slot_core.specs.Executives.{Executive}
+use Rattle.slot_core.specs.Keeping.Executives.{Executive}
 use Rattle.slot_exec.proofs.SlotChoice.{choice_of}
 use Rattle.slot_exec.proofs.SlotParts.{Does-seen, end-near, HasPlaces-parts, IsExecutive-parts, MayRun-parts, next_slot-before_end, ran_of-parts, RemembersSpans-parts, slot-before_end}
 use Rattle.slot_exec.proofs.exec.Exec.slot.Goals as goal

@@ -1,6 +1,6 @@
 use Rattle.std.proofs.Common.{rules, ◌≡◌}
 use Rattle.std.specs.Prelude.{slice_get, Some}
-use Rattle.slot_core.specs.Spans.{spans_of}
+use Rattle.slot_core.specs.Runs.Spans.{spans_of}
 use Rattle.slot_exec.proofs.ShownExecutives.{span-of_history}
 use Rattle.slot_exec.proofs.exec.Exec.span.Goals as goal
 

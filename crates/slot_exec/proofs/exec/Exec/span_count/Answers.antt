@@ -1,7 +1,7 @@
 use Rattle.std.proofs.Common.{◌≡◌, ◌*◌, ◌≤◌, length, map, ap, ◌∙◌, arith}
 use Rattle.std.proofs.lemmas.List.{length-map}
 use Rattle.slot_core.specs.declared.jobs.Span.{Span}
-use Rattle.slot_core.specs.Executives.{Executive}
+use Rattle.slot_core.specs.Keeping.Executives.{Executive}
 use Rattle.guarantee.proofs.Tables.{length-spans_of_pairs}
 use Rattle.interval_row.specs.Tables.{spans_of_pairs}
 use Rattle.slot_exec.proofs.ShownExecutives.{few_points-stands}

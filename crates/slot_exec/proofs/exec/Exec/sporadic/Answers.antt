@@ -1,5 +1,5 @@
 use Rattle.std.proofs.Common.{◌∙◌, ap₂}
-use Rattle.slot_core.specs.Histories.{sporadic_job}
+use Rattle.slot_core.specs.Runs.Histories.{sporadic_job}
 use Rattle.slot_exec.proofs.TakenArrivals.{answer-arrived, due-arrival, next-arrived, parts-arrived, place-arrival}
 use Rattle.slot_exec.proofs.exec.Exec.sporadic.Goals as goal
 

@@ -4,7 +4,7 @@ use Rattle.std.specs.Prelude.{Ok, Err, OnErr, Result, take}
 use Rattle.std.specs.Io.KnownBytes.{Appends}
 use Rattle.slot_core.specs.declared.events.Entry.{Entry}
 use Rattle.slot_core.specs.declared.tasks.TaskSet.{TaskSet}
-use Rattle.slot_core.specs.Texts.{entry_line}
+use Rattle.slot_core.specs.Output.Texts.{entry_line}
 use Rattle.slot_io.specs.Sinks.{AppendsPart}
 use Rattle.trace_text.specs.Takers.{AppendsBroken}
 use Rattle.trace_text.proofs.taker.TextTakerTaker.take.Goals as goal

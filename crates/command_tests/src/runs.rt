@@ -1,0 +1,795 @@
+//! Runs over files and sinks in memory.
+
+use crate::arrival_lines::{ARRIVAL_LINES, SPELLINGS};
+use crate::fault_lines::FAULT_LINES;
+use crate::sample_texts::*;
+use slot_cli::{Status, run};
+use slot_core::{ARRIVAL_LIMIT, ARRIVALS_FILE_LIMIT, TABLE_FILE_LIMIT, TASK_FILE_LIMIT, Words};
+use slot_io::{Files, MemoryFiles, MemorySink, ReadFault};
+use std::alloc::Global;
+use std::process::Abort;
+use std::test::Fail;
+
+const CHECK: &str = "check a.toml";
+
+const SHOW: &str = "show a.toml";
+
+const MIGRATE: &str = "migrate a.toml";
+
+const TABLE: &str = "table a.toml";
+
+const MARGIN: &str = "margin a.toml";
+
+const VERIFY: &str = "verify a.toml none.csv run.trace 1";
+
+const VERIFY_2: &str = "verify a.toml none.csv run.trace 2";
+
+const REPLAY: &str = "replay a.toml none.csv 1";
+
+const REPLAY_2: &str = "replay a.toml none.csv 2";
+
+const REPLAY_4: &str = "replay a.toml none.csv 4";
+
+const CHART_4: &str = "gantt a.toml none.csv 4";
+
+const TABLE_REPLAY: &str = "replay-table a.toml none.csv 1";
+
+const TABLE_REPLAY_2: &str = "replay-table a.toml none.csv 2";
+
+/// Two soft jobs in the first slot.
+const TWO_SOFT: &str = "0,soft,3/0,soft,1/";
+
+/// A run of a table: its words, the bytes of its first file, its arrivals, and its output or its
+/// line on standard error. In arrivals `/` ends a line, and `~` is a byte of no UTF-8.
+type Row = (&'static str, &'static str, &'static str, &'static str);
+
+/// Runs that are done.
+const DONE: [Row; 24] = [
+    (CHECK, OFFSET, "", "feasible cycle 6 jobs 1 spans 3\n"),
+    (CHECK, BORROWING, "", "feasible cycle 10 jobs 2 spans 2\n"),
+    (CHECK, LONGEST, "", "feasible cycle 8192 jobs 1 spans 1\n"),
+    (CHECK, PAIR, "", "feasible cycle 8 jobs 2 spans 2\n"),
+    (CHECK, FLIGHT, "", "feasible cycle 40 jobs 21 spans 15\n"),
+    (TABLE, PAIR, "", SECOND_TABLE),
+    (SHOW, PAIR_TABLE, "", PAIR_PLAN),
+    (SHOW, SECOND_TABLE, "", PAIR_PLAN),
+    (MIGRATE, PAIR_TABLE, "", SECOND_TABLE),
+    (MIGRATE, SECOND_TABLE, "", SECOND_TABLE),
+    (MARGIN, ALARM, "", ALARM_MARGINS),
+    (MARGIN, LONGEST, "", "margin g.a 0 0 8192 8193\n"),
+    (REPLAY, OFFSET, "", OFFSET_1),
+    (REPLAY, OFFSET, "/", OFFSET_1),
+    (REPLAY_2, BORROWING, "", BORROWING_2),
+    ("replay a.toml none.csv 17", PAIR, "", PAIR_17),
+    (REPLAY_2, PAIR, KINDS, KINDS_2),
+    (
+        "replay a.toml none.csv 3",
+        PAIR,
+        "1,done,g.a#0/",
+        EARLY_END_3,
+    ),
+    (REPLAY_4, NARROW, TWO_SOFT, SOFT_4),
+    (
+        REPLAY,
+        PAIR,
+        "0,firm,5,7/0,withdraw,1/0,withdraw,1/",
+        WITHDRAWN_1,
+    ),
+    (
+        "replay a.toml none.csv 5",
+        PAIR,
+        "0,firm,5,8/4,withdraw,1/4,firm,4,5/",
+        OFFERED_AGAIN_5,
+    ),
+    (TABLE_REPLAY_2, PAIR_TABLE, KINDS, KINDS_2),
+    (CHART_4, PAIR, "", PAIR_CHART),
+    (CHART_4, NARROW, TWO_SOFT, SOFT_CHART),
+];
+
+/// Sets that do not fit.
+const INFEASIBLE: [Row; 8] = [
+    (CHECK, SPLIT, "", "infeasible 5 7 3\n"),
+    (CHECK, CAMERA, "", "infeasible 5 9 5\n"),
+    (CHECK, CHAIN, "", "infeasible 0 1 4\n"),
+    (CHECK, OVERLOAD, "", "infeasible 0 2 3\n"),
+    (TABLE, OVERLOAD, "", "infeasible 0 2 3\n"),
+    (MARGIN, OVERLOAD, "", "infeasible 0 2 3\n"),
+    (REPLAY, OVERLOAD, "", "infeasible 0 2 3\n"),
+    (CHART_4, OVERLOAD, "", "infeasible 0 2 3\n"),
+];
+
+/// Recorded traces that are lawful, of a run of these words, and the line on the output.
+const LAWFUL: [(&str, &str, &str, &str); 2] = [
+    (VERIFY, PAIR, PAIR_1, "verified lines 3\n"),
+    (VERIFY, PAIR, IDLE_1, "verified lines 3\n"),
+];
+
+/// Recorded traces that are not, and the line on standard error.
+const UNLAWFUL: [(&str, &str, &str, &str); 6] = [
+    (VERIFY, PAIR, UNCOUNTED_1, "trace differs 2\n"),
+    (VERIFY, PAIR, UNREADY_1, "trace not ready 2 g.b#0\n"),
+    (VERIFY, PAIR, PAIR_START, "trace short 2\n"),
+    (VERIFY, PAIR, PAIR_17, "trace differs 3\n"),
+    (VERIFY_2, PAIR, PAIR_1, "trace no run 3\n"),
+    (VERIFY_2, UNIT, LATE_2, "trace late 3 u.w#0\n"),
+];
+
+/// Names of files that are not there, and how many reads are made.
+const UNREADABLE: [(&str, u32, &str); 5] = [
+    ("check b.toml", 1, "cannot read b.toml\n"),
+    ("replay b.toml b.csv 1", 1, "cannot read b.toml\n"),
+    ("replay a.toml b.csv 1", 2, "cannot read b.csv\n"),
+    ("gantt a.toml b.csv 1", 2, "cannot read b.csv\n"),
+    (
+        "verify a.toml none.csv b.trace 1",
+        3,
+        "cannot read b.trace\n",
+    ),
+];
+
+/// Runs that are refused where the output takes no put, and their statuses.
+const REFUSED: [(&str, &str, &str, Status); 7] = [
+    ("check", PAIR, "", Status::Usage),
+    ("check b.toml", PAIR, "", Status::FileFault),
+    (CHECK, "graph = 1", "", Status::BadTasks),
+    (CHECK, OVERLOAD, "", Status::Infeasible),
+    (SHOW, PAIR, "", Status::BadTable),
+    (REPLAY, PAIR, "0,soft/", Status::BadArrivals),
+    (REPLAY, PAIR, "", Status::WriteFault),
+];
+
+/// Files of so many equal bytes, and the line on standard error.
+const LARGE: [(&str, u8, usize, &str); 7] = [
+    (CHECK, b'#', TASK_FILE_LIMIT, "tasks missing top graph\n"),
+    (CHECK, b'[', TASK_FILE_LIMIT, "tasks not toml\n"),
+    (
+        CHECK,
+        b'#',
+        TASK_FILE_LIMIT + 1,
+        "too large a.toml 1048576\n",
+    ),
+    (SHOW, b'#', TABLE_FILE_LIMIT, "table bad magic\n"),
+    (
+        SHOW,
+        b'#',
+        TABLE_FILE_LIMIT + 1,
+        "too large a.toml 4194304\n",
+    ),
+    (REPLAY, b'#', ARRIVALS_FILE_LIMIT, "arrivals bad row 1\n"),
+    (
+        REPLAY,
+        b'#',
+        ARRIVALS_FILE_LIMIT + 1,
+        "too large none.csv 4194304\n",
+    ),
+];
+
+/// Bytes of the pair's table that are others, and the line on standard error.
+const CHANGED: [(usize, u8, &str); 7] = [
+    (0, 0, "table bad magic\n"),
+    (4, 3, "table bad version 3\n"),
+    (4, 2, "table source out of range top soft 65600\n"),
+    (6, 0, "table source out of range top soft 0\n"),
+    (22, 9, "table infeasible 0 8 10\n"),
+    (36, 3, "table wrong job count 3 2\n"),
+    (74, 6, "table wrong span 0 0 7 2 6 0 7 2 5\n"),
+];
+
+const USAGE: &str = "usage: slotshift check T, table T, show B, replay T A N, \
+    replay-table B A N, gantt T A N, selfrun N, migrate B, verify T A X N, margin T\n";
+
+/// Words that are no command, a line each; the first has no word.
+const NO_COMMANDS: &str = "
+check
+check a.toml none.csv
+Check a.toml
+show a.toml none.csv
+migrate
+migrate a.toml none.csv
+margin
+margin a.toml none.csv
+selfrun 33
+selfrun 0
+gantt a.toml none.csv 201
+replay-table a.toml none.csv 100001
+replay a.toml none.csv
+replay a.toml none.csv 0
+replay a.toml none.csv 07
+replay a.toml none.csv +7
+replay a.toml none.csv 100001
+replay a.toml none.csv 1000000
+replay a.toml none.csv run.trace 1
+verify a.toml none.csv 1
+verify a.toml none.csv run.trace 0";
+
+/// Names of 32 graphs.
+const NAMES: &str = "a b c d e f g h i j k l m n o p q r s t u v w x y z A B C D E F";
+
+/// What fails in a run.
+#[derive(Clone, Copy)]
+struct Limits {
+    /// The read that fails, counted from 1; none where it is 0.
+    read: u32,
+    /// The put on the output that fails, and the one on standard error, counted in the same way.
+    put: u32,
+    line: u32,
+    /// Bytes for which the output has room.
+    room: usize,
+}
+
+/// Standard error takes one put, and nothing else fails.
+const ROOMY: Limits = Limits {
+    read: 0,
+    put: 0,
+    line: 2,
+    room: 4096,
+};
+
+/// A run over `a.toml`, `none.csv` and `run.trace`, and what comes of it.
+#[derive(Clone, Copy)]
+struct Case<'t> {
+    /// The words, with a space between each two.
+    words: &'t str,
+    /// The bytes of `a.toml`.
+    first: &'t [u8],
+    arrivals: &'t [u8],
+    /// The bytes of `run.trace`.
+    trace: &'t str,
+    limits: Limits,
+    status: Status,
+    /// How many reads are made.
+    reads: u32,
+    out: &'t str,
+    err: &'t str,
+}
+
+/// How a run went.
+#[derive(Drop)]
+struct Ran {
+    status: Status,
+    files: MemoryFiles,
+    out: MemorySink,
+    err: MemorySink,
+}
+
+/// How many files a command of these words reads.
+fn reads_of(words: &str) -> u32 {
+    if words.starts_with("verify") {
+        3
+    } else if words.starts_with("replay") || words.starts_with("gantt") {
+        2
+    } else {
+        1
+    }
+}
+
+/// A run of these words that is done.
+fn done<'t>(words: &'t str, first: &'t str, arrivals: &'t [u8], out: &'t str) -> Case<'t> {
+    Case {
+        words,
+        first: first.as_bytes(),
+        arrivals,
+        trace: "",
+        limits: ROOMY,
+        status: Status::Done,
+        reads: reads_of(words),
+        out,
+        err: "",
+    }
+}
+
+/// A run of these words that is refused after so many reads.
+fn refused<'t>(
+    words: &'t str,
+    first: &'t str,
+    status: Status,
+    reads: u32,
+    err: &'t str,
+) -> Case<'t> {
+    Case {
+        status,
+        reads,
+        err,
+        ..done(words, first, b"", "")
+    }
+}
+
+/// The bytes that the text writes, in which `/` ends a line and `~` is a byte of no UTF-8.
+fn bytes_of(alloc: Global, text: &str) -> Result<Vec<u8>, Fail> {
+    let mut bytes = Vec::new(alloc);
+    for byte in text.bytes() {
+        bytes.push(match byte {
+            b'/' => b'\n',
+            b'~' => 0xff,
+            other => other,
+        })?;
+    }
+    Ok(bytes)
+}
+
+/// Appends the words of the line.
+fn push_words(words: &mut Words, line: &str) -> Result<(), Fail> {
+    if !line.is_empty() {
+        for word in line.split(' ') {
+            words.push(word)?;
+        }
+    }
+    Ok(())
+}
+
+/// Adds the files of the case.
+fn add_files(files: &mut MemoryFiles, case: &Case) -> Result<(), Fail> {
+    files.add("a.toml", case.first)?;
+    files.add("none.csv", case.arrivals)?;
+    files.add("run.trace", case.trace.as_bytes())?;
+    files.fail_read(case.limits.read)?;
+    Ok(())
+}
+
+/// A sink with so much room, of which this put fails.
+fn sink_of(alloc: Global, room: usize, put: u32) -> Result<MemorySink, Fail> {
+    let mut sink = MemorySink::with_room(alloc, room)?;
+    sink.fail_put(put)?;
+    Ok(sink)
+}
+
+/// What the case runs over, before it.
+fn before(alloc: Global, case: &Case) -> Result<Ran, Fail> {
+    let out = sink_of(alloc, case.limits.room, case.limits.put)?;
+    let err = sink_of(alloc, 256, case.limits.line)?;
+    Ok(Ran {
+        status: Status::Done,
+        files: MemoryFiles::empty(alloc),
+        out,
+        err,
+    })
+}
+
+/// Runs the words of the line.
+fn run_line(alloc: Global, line: &str, ran: &mut Ran) -> Result<(), Fail> {
+    let mut words = Words::new(alloc);
+    push_words(&mut words, line)?;
+    ran.status = run(alloc, &words, &mut ran.files, &mut ran.out, &mut ran.err);
+    Ok(())
+}
+
+/// Runs the case over these.
+fn run_case(alloc: Global, case: &Case, ran: &mut Ran) -> Result<(), Fail> {
+    add_files(&mut ran.files, case)?;
+    run_line(alloc, case.words, ran)
+}
+
+/// Runs the case.
+fn run_of(alloc: Global, case: &Case) -> Result<Ran, Fail> {
+    let mut ran = before(alloc, case)?;
+    run_case(alloc, case, &mut ran)?;
+    Ok(ran)
+}
+
+/// Runs the case and compares what comes of it.
+fn expect(rt: &impl Abort, alloc: Global, case: &Case) -> Result<(), Fail> {
+    let mut ran = run_of(alloc, case)?;
+    compare(rt, alloc, case, &mut ran)
+}
+
+/// Compares what came of the case. The read after those of the run is the one of the next number.
+fn compare(rt: &impl Abort, alloc: Global, case: &Case, ran: &mut Ran) -> Result<(), Fail> {
+    let told = std::str::from_utf8(ran.err.bytes())?;
+    assert_eq!(rt; told, case.err, "at {}", case.words);
+    let written = std::str::from_utf8(ran.out.bytes())?;
+    assert_eq!(rt; written, case.out, "at {}", case.words);
+    assert_eq!(rt; ran.status, case.status, "at {}", case.words);
+    ran.files.fail_read(case.reads.saturating_add(1))?;
+    let next = ran.files.read(alloc, "a.toml", 0);
+    assert!(rt;
+        matches!(next, Err(ReadFault::Failed)),
+        "at {}: reads",
+        case.words
+    );
+    Ok(())
+}
+
+#[test]
+fn writes_what_the_files_call_for(rt: HostRuntime) -> Result<(), Fail> {
+    for (words, first, rows, out) in DONE {
+        let arrivals = bytes_of(rt.alloc(), rows)?;
+        let case = done(words, first, arrivals.as_slice(), out);
+        expect(&rt, rt.alloc(), &case)?;
+    }
+    Ok(())
+}
+
+#[test]
+fn tells_which_window_fails(rt: HostRuntime) -> Result<(), Fail> {
+    for (words, first, _, err) in INFEASIBLE {
+        let case = refused(words, first, Status::Infeasible, 1, err);
+        expect(&rt, rt.alloc(), &case)?;
+    }
+    Ok(())
+}
+
+#[test]
+fn tells_which_file_cannot_be_read(rt: HostRuntime) -> Result<(), Fail> {
+    for (words, reads, err) in UNREADABLE {
+        let case = refused(words, PAIR, Status::FileFault, reads, err);
+        expect(&rt, rt.alloc(), &case)?;
+    }
+    Ok(())
+}
+
+#[test]
+fn refuses_other_words(rt: HostRuntime) -> Result<(), Fail> {
+    for words in NO_COMMANDS.lines() {
+        let case = refused(words, PAIR, Status::Usage, 0, USAGE);
+        expect(&rt, rt.alloc(), &case)?;
+    }
+    Ok(())
+}
+
+#[test]
+fn verifies_recorded_traces(rt: HostRuntime) -> Result<(), Fail> {
+    for (words, first, trace, out) in LAWFUL {
+        let case = done(words, first, b"", out);
+        expect(&rt, rt.alloc(), &Case { trace, ..case })?;
+    }
+    for (words, first, trace, err) in UNLAWFUL {
+        let case = refused(words, first, Status::NotVerified, 3, err);
+        expect(&rt, rt.alloc(), &Case { trace, ..case })?;
+    }
+    Ok(())
+}
+
+/// Each read of the case fails in turn, and then none of its own.
+fn expect_failing_reads(rt: &impl Abort, alloc: Global, case: &Case) -> Result<(), Fail> {
+    let lines = [(1, "cannot read a.toml\n"), (2, "cannot read none.csv\n")];
+    for (read, err) in lines {
+        if case.reads < read {
+            break;
+        }
+        let failing = Case {
+            limits: Limits { read, ..ROOMY },
+            status: Status::FileFault,
+            reads: read,
+            out: "",
+            err,
+            ..*case
+        };
+        expect(rt, alloc, &failing)?;
+    }
+    let read = case.reads.saturating_add(1);
+    let whole = Case {
+        limits: Limits { read, ..ROOMY },
+        ..*case
+    };
+    expect(rt, alloc, &whole)
+}
+
+#[test]
+fn tells_each_failing_read(rt: HostRuntime) -> Result<(), Fail> {
+    for (words, first, rows, out) in DONE {
+        let arrivals = bytes_of(rt.alloc(), rows)?;
+        let case = done(words, first, arrivals.as_slice(), out);
+        expect_failing_reads(&rt, rt.alloc(), &case)?;
+    }
+    Ok(())
+}
+
+/// The case, where the output takes only this front of the text.
+fn cut<'t>(case: Case<'t>, limits: Limits, out: &'t str) -> Case<'t> {
+    Case {
+        limits,
+        status: Status::WriteFault,
+        out,
+        err: "cannot write\n",
+        ..case
+    }
+}
+
+/// Each put of the case fails in turn, one a line, and then none of its own. `told` is empty.
+fn expect_failing_puts(
+    rt: &impl Abort,
+    alloc: Global,
+    case: &Case,
+    told: &mut String,
+) -> Result<(), Fail> {
+    let mut put = 1u32;
+    for line in case.out.split_inclusive('\n') {
+        let limits = Limits { put, ..ROOMY };
+        expect(rt, alloc, &cut(*case, limits, told.as_str()))?;
+        told.push_str(line)?;
+        put = put.saturating_add(1);
+    }
+    let whole = Case {
+        limits: Limits { put, ..ROOMY },
+        ..*case
+    };
+    expect(rt, alloc, &whole)
+}
+
+/// The same, from a text that is empty.
+fn expect_each_put(rt: &impl Abort, alloc: Global, case: &Case) -> Result<(), Fail> {
+    let mut told = String::from_str(alloc, "")?;
+    expect_failing_puts(rt, alloc, case, &mut told)
+}
+
+#[test]
+fn tells_each_failing_put(rt: HostRuntime) -> Result<(), Fail> {
+    for (words, first, rows, out) in DONE {
+        let arrivals = bytes_of(rt.alloc(), rows)?;
+        let case = done(words, first, arrivals.as_slice(), out);
+        expect_each_put(&rt, rt.alloc(), &case)?;
+    }
+    Ok(())
+}
+
+#[test]
+fn fills_the_room_of_the_output(rt: HostRuntime) -> Result<(), Fail> {
+    let alloc = rt.alloc();
+    let arrivals = bytes_of(alloc, KINDS)?;
+    let case = done(REPLAY_2, PAIR, arrivals.as_slice(), KINDS_2);
+    let mut front = Vec::new(alloc);
+    for (room, byte) in KINDS_2.bytes().enumerate() {
+        let told = std::str::from_utf8(front.as_slice())?;
+        expect(&rt, alloc, &cut(case, Limits { room, ..ROOMY }, told))?;
+        front.push(byte)?;
+    }
+    Ok(())
+}
+
+/// The run has this status, and nothing is told of it.
+fn compare_untold(rt: &impl Abort, words: &str, status: Status, ran: &Ran) {
+    assert_eq!(rt; ran.status, status, "at {words}");
+    assert!(rt; ran.err.bytes().is_empty(), "at {words}");
+    assert!(rt; ran.out.bytes().is_empty(), "at {words}");
+}
+
+/// Runs the case over an output and a standard error that take no put.
+fn expect_untold(rt: &impl Abort, alloc: Global, case: Case, status: Status) -> Result<(), Fail> {
+    let limits = Limits {
+        put: 1,
+        line: 1,
+        ..ROOMY
+    };
+    let ran = run_of(alloc, &Case { limits, ..case })?;
+    compare_untold(rt, case.words, status, &ran);
+    Ok(())
+}
+
+#[test]
+fn keeps_the_status_where_it_cannot_be_told(rt: HostRuntime) -> Result<(), Fail> {
+    for (words, first, rows, status) in REFUSED {
+        let arrivals = bytes_of(rt.alloc(), rows)?;
+        let case = done(words, first, arrivals.as_slice(), "");
+        expect_untold(&rt, rt.alloc(), case, status)?;
+    }
+    Ok(())
+}
+
+#[test]
+fn takes_as_many_graphs_as_may_be(rt: HostRuntime) -> Result<(), Fail> {
+    let mut tasks = String::from_str(rt.alloc(), "graph = [")?;
+    for name in NAMES.split(' ') {
+        tasks.push_str("{ name = '")?;
+        tasks.push_str(name)?;
+        tasks.push_str("', period = 64, task = [{ name = 'w', wcet = 2 }] },")?;
+    }
+    tasks.push_str("]")?;
+    let out = "feasible cycle 64 jobs 32 spans 1\n";
+    expect(&rt, rt.alloc(), &done(CHECK, tasks.as_str(), b"", out))
+}
+
+#[test]
+fn tells_the_first_fault(rt: HostRuntime) -> Result<(), Fail> {
+    for row in FAULT_LINES.lines() {
+        let (tasks, line) = row.split_once(" => ").ok_or("no arrow")?;
+        let mut err = String::from_str(rt.alloc(), line)?;
+        err.push_str("\n")?;
+        let case = refused(CHECK, tasks, Status::BadTasks, 1, err.as_str());
+        expect(&rt, rt.alloc(), &case)?;
+    }
+    Ok(())
+}
+
+/// The bytes of the pair's table, of which one is another.
+fn table_with(alloc: Global, place: usize, byte: u8) -> Result<Vec<u8>, Fail> {
+    let mut bytes = Vec::new(alloc);
+    for (at, old) in PAIR_TABLE.bytes().enumerate() {
+        bytes.push(if at == place { byte } else { old })?;
+    }
+    Ok(bytes)
+}
+
+/// Each form that reads a table tells this fault of it.
+fn expect_bad_table(rt: &impl Abort, alloc: Global, table: &[u8], err: &str) -> Result<(), Fail> {
+    for words in [SHOW, MIGRATE, TABLE_REPLAY] {
+        let case = Case {
+            first: table,
+            ..refused(words, "", Status::BadTable, 1, err)
+        };
+        expect(rt, alloc, &case)?;
+    }
+    Ok(())
+}
+
+#[test]
+fn tells_the_first_fault_of_a_table(rt: HostRuntime) -> Result<(), Fail> {
+    let alloc = rt.alloc();
+    for (place, byte, err) in CHANGED {
+        let table = table_with(alloc, place, byte)?;
+        expect_bad_table(&rt, alloc, table.as_slice(), err)?;
+    }
+    let mut longer = Vec::from_slice(alloc, PAIR_TABLE.as_bytes())?;
+    longer.push(0)?;
+    expect_bad_table(&rt, alloc, longer.as_slice(), "table trailing 88\n")
+}
+
+#[test]
+fn tells_where_a_table_is_cut(rt: HostRuntime) -> Result<(), Fail> {
+    let alloc = rt.alloc();
+    let mut front = Vec::new(alloc);
+    for (length, byte) in PAIR_TABLE.bytes().enumerate() {
+        let err = format!(in alloc; "table short {length}\n")?;
+        expect_bad_table(&rt, alloc, front.as_slice(), err.as_str())?;
+        front.push(byte)?;
+    }
+    Ok(())
+}
+
+/// Whether the table is shown. If not, it is told in one line.
+fn is_shown(rt: &impl Abort, alloc: Global, table: &[u8]) -> Result<bool, Fail> {
+    let case = Case {
+        first: table,
+        ..done(SHOW, "", b"", "")
+    };
+    let ran = run_of(alloc, &case)?;
+    is_done(rt, &ran)
+}
+
+/// Whether the run is done. If not, a bad table is told in one line.
+fn is_done(rt: &impl Abort, ran: &Ran) -> Result<bool, Fail> {
+    if ran.status == Status::Done {
+        assert!(rt; ran.err.bytes().is_empty());
+        return Ok(true);
+    }
+    assert_eq!(rt; ran.status, Status::BadTable);
+    assert!(rt; ran.out.bytes().is_empty());
+    let line = std::str::from_utf8(ran.err.bytes())?;
+    assert!(rt; line.starts_with("table "), "{line}");
+    assert!(rt; matches!(line.split_once('\n'), Some((_, ""))), "{line}");
+    Ok(false)
+}
+
+// Of the set only the soft limit (bytes 6 and 7, four times) and the names (bytes 11 and 27, once
+// each) may be others: the stored jobs and spans follow from everything else.
+#[test]
+fn tells_each_changed_byte_of_a_table(rt: HostRuntime) -> Result<(), Fail> {
+    let alloc = rt.alloc();
+    let mut shown = 0u32;
+    for (place, byte) in PAIR_TABLE.bytes().enumerate() {
+        for mask in [0x01, 0x80, 0xff] {
+            let table = table_with(alloc, place, byte ^ mask)?;
+            if is_shown(&rt, alloc, table.as_slice())? {
+                assert!(rt; matches!(place, 6 | 7 | 11 | 27), "at {place}");
+                shown = shown.saturating_add(1);
+            }
+        }
+    }
+    assert_eq!(rt; shown, 6);
+    Ok(())
+}
+
+/// The sum of the counts in the line of a load from the runs on: those of each kind, and the idle
+/// slots.
+fn slots_told(line: &str) -> Result<u64, Fail> {
+    let (_, counts) = line.split_once(" run ").ok_or("no runs")?;
+    let mut sum = 0u64;
+    for word in counts.split_ascii_whitespace() {
+        if word != "idle" {
+            sum = sum.saturating_add(word.parse::<u64>()?);
+        }
+    }
+    Ok(sum)
+}
+
+#[test]
+fn tells_the_entries_of_a_load(rt: HostRuntime) -> Result<(), Fail> {
+    let rows = [
+        ("selfrun 1", "selfrun 1 slots 1024 soft ", " run 48 "),
+        ("selfrun 32", "selfrun 32 slots 1024 soft ", " run 912 "),
+    ];
+    for (words, front, runs) in rows {
+        let ran = run_of(rt.alloc(), &done(words, "", b"", ""))?;
+        assert_eq!(rt; ran.status, Status::Done);
+        let line = std::str::from_utf8(ran.out.bytes())?;
+        assert!(rt; line.starts_with(front) && line.contains(runs), "{line}");
+        assert_eq!(rt; slots_told(line)?, 1024, "{line}");
+    }
+    Ok(())
+}
+
+#[test]
+fn tells_the_first_fault_of_arrivals(rt: HostRuntime) -> Result<(), Fail> {
+    for row in ARRIVAL_LINES.lines() {
+        let (file, line) = row.split_once(" => ").ok_or("no arrow")?;
+        let arrivals = bytes_of(rt.alloc(), file)?;
+        let mut err = String::from_str(rt.alloc(), line)?;
+        err.push_str("\n")?;
+        let case = Case {
+            arrivals: arrivals.as_slice(),
+            ..refused(REPLAY_4, PAIR, Status::BadArrivals, 2, err.as_str())
+        };
+        expect(&rt, rt.alloc(), &case)?;
+    }
+    Ok(())
+}
+
+#[test]
+fn reads_each_spelling_of_rows(rt: HostRuntime) -> Result<(), Fail> {
+    for file in SPELLINGS.lines() {
+        let arrivals = bytes_of(rt.alloc(), file)?;
+        let case = done(REPLAY_4, NARROW, arrivals.as_slice(), SOFT_4);
+        expect(&rt, rt.alloc(), &case)?;
+    }
+    Ok(())
+}
+
+#[test]
+fn refuses_more_rows_than_may_be(rt: HostRuntime) -> Result<(), Fail> {
+    let alloc = rt.alloc();
+    let ends = [
+        ("x", "arrivals bad row 65535\n"),
+        ("0,soft,1\n0,soft,1\n", "arrivals too many\n"),
+        ("0,soft,1\nx", "arrivals too many\n"),
+    ];
+    for (end, err) in ends {
+        let mut arrivals = Vec::new(alloc);
+        for _ in 1..ARRIVAL_LIMIT {
+            arrivals.extend_from_slice(b"0,soft,1\n")?;
+        }
+        arrivals.extend_from_slice(end.as_bytes())?;
+        let case = Case {
+            arrivals: arrivals.as_slice(),
+            ..refused(REPLAY_4, PAIR, Status::BadArrivals, 2, err)
+        };
+        expect(&rt, alloc, &case)?;
+    }
+    Ok(())
+}
+
+/// The run wrote nothing, and told this line.
+fn compare_told(rt: &impl Abort, err: &str, ran: &Ran) {
+    assert_eq!(rt; ran.err.bytes(), err.as_bytes());
+    assert!(rt; ran.out.bytes().is_empty());
+}
+
+/// A run of these words over large files tells this line.
+fn expect_large(
+    rt: &impl Abort,
+    alloc: Global,
+    words: &str,
+    large: &[u8],
+    err: &str,
+) -> Result<(), Fail> {
+    let first = if words == REPLAY {
+        OFFSET.as_bytes()
+    } else {
+        large
+    };
+    let case = Case {
+        first,
+        ..done(words, "", large, "")
+    };
+    let ran = run_of(alloc, &case)?;
+    compare_told(rt, err, &ran);
+    expect_untold(rt, alloc, case, ran.status)
+}
+
+#[test]
+fn refuses_large_files(rt: HostRuntime) -> Result<(), Fail> {
+    let alloc = rt.alloc();
+    for (words, byte, size, err) in LARGE {
+        let large = vec![in alloc; byte; size]?;
+        expect_large(&rt, alloc, words, large.as_slice(), err)?;
+    }
+    Ok(())
+}

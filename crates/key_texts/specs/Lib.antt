@@ -1,0 +1,3 @@
+pub mod KeyTexts
+pub mod Numbers
+pub mod Options

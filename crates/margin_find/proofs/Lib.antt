@@ -1,0 +1,8 @@
+pub mod Growths
+pub mod LongerChains
+pub mod LongerSets
+pub mod MarginLists
+pub mod Pairs
+pub mod SoundGrowths
+pub mod WholeCycle
+pub mod MarginTexts

@@ -1,0 +1,65 @@
+-- The margins that were found write the text of their set.
+use Rattle.std.proofs.Common.{◌≡◌, ℕ, suc, ◌+◌, ◌-◌, ◌*◌, ◌≤◌, ◌<◌, true, List, [], ◌∷◌, ◌++◌, map, Option, None, Some, refl, sym, subst, ap, ◌∙◌, arith}
+use Rattle.std.specs.Prelude.{All, flat_map, option_map}
+use Rattle.std.specs.List.{range_with_len}
+use Rattle.std.specs.Option.{option_map_or}
+use Rattle.std.proofs.Math.Nat.{mul-le-mul}
+use Rattle.std.proofs.lemmas.List.Elements.{All-head, All-tail}
+use Rattle.slot_core.specs.declared.faults.Part.{Part}
+use Rattle.slot_core.specs.declared.jobs.Window.{Window}
+use Rattle.slot_core.specs.declared.tasks.TaskSet.{TaskSet}
+use Rattle.slot_core.specs.Claims.Growth.{IsMargin, StillFits, grown}
+use Rattle.slot_core.specs.Feasibility.Feasible.{IsFeasible, counterexample, demand, first_some}
+use Rattle.slot_core.specs.Sets.Cycles.{cycle_of}
+use Rattle.slot_core.specs.Sets.Ranges.{is_sound}
+use Rattle.slot_facts.proofs.Demand.Feasible.{none-from_feasible}
+use Rattle.slot_facts.proofs.Lists.FirstSome.{first_some-found}
+use Rattle.slot_facts.proofs.Offline.Jobs.{cycle-positive}
+use Rattle.margin_find.specs.declared.margin.TaskMargin.{TaskMargin}
+use Rattle.margin_find.specs.Parts.{IsTaskOf, jobs_in_cycle}
+use Rattle.margin_find.specs.Texts.{AreMargins, margin_line, margin_lines, margin_of, margin_text, parts_of}
+use Rattle.margin_find.proofs.Growths.{cycle_stays}
+use Rattle.margin_find.proofs.MarginLists.{parts-of}
+use Rattle.margin_find.proofs.WholeCycle.{jobs_in_cycle-positive, whole-grows}
+
+module _ (set : TaskSet) (sound : is_sound set ≡ true) where
+  -- a growth with which the set still fits is at most the cycle
+  growth-at_most : (part : Part) (growth : ℕ) → IsTaskOf set part → StillFits set part growth → growth ≤ cycle_of set
+  growth-at_most part growth of fits =
+      let cycle = cycle_of set in
+      let stays : cycle_of (grown set part growth) ≡ cycle = cycle_stays set part growth in
+      let some = cycle-positive set sound in
+      let feasible : IsFeasible (grown set part growth) cycle = subst (λ c. IsFeasible (grown set part growth) c) stays fits in
+      let whole : demand (grown set part growth) cycle 0 cycle ≤ cycle - 0 = feasible 0 cycle (omega (arith, some)) (omega (arith, some)) (omega arith) in
+      let grows = whole-grows set part growth sound of in
+      let each : 1 * growth ≤ jobs_in_cycle set cycle part * growth = mul-le-mul {n₂ = jobs_in_cycle set cycle part} {m₂ = growth} (jobs_in_cycle-positive set part sound of) (omega arith) in
+      omega (arith, whole, grows, each)
+
+  -- with a growth that still fits nothing is found
+  none-from_fits : (part : Part) (growth : ℕ) → StillFits set part growth → counterexample (grown set part growth) (cycle_of (grown set part growth)) ≡ None
+  none-from_fits part growth fits =
+      let positive : 0 < cycle_of (grown set part growth) = omega (arith, cycle_stays set part growth, cycle-positive set sound) in
+      none-from_feasible (grown set part growth) (cycle_of (grown set part growth)) positive fits
+
+  -- a margin is the one of the definition
+  margin_of-from_IsMargin : (m : TaskMargin) → IsTaskOf set m.at → IsMargin set m.at m.margin.growth m.margin.window → margin_of set m.at ≡ Some m
+  margin_of-from_IsMargin m of is =
+      let low : m.margin.growth < 0 + (cycle_of set + 1) = omega (arith, growth-at_most m.at m.margin.growth of (is.fits m.margin.growth (omega arith))) in
+      let found = λ (g : ℕ). option_map (λ (w : Window). let r : TaskMargin = record { at = m.at; margin = record { growth = g; window = w } } in r) (counterexample (grown set m.at (g + 1)) (cycle_of (grown set m.at (g + 1)))) in
+      let before = λ (g : ℕ) (from : 0 ≤ g) (less : g < m.margin.growth). ap (option_map (λ (w : Window). let r : TaskMargin = record { at = m.at; margin = record { growth = g; window = w } } in r)) (none-from_fits m.at (g + 1) (is.fits (g + 1) (omega (arith, less)))) in
+      first_some-found found m 0 (cycle_of set + 1) m.margin.growth (omega arith) low before (ap (option_map (λ (w : Window). let r : TaskMargin = record { at = m.at; margin = record { growth = m.margin.growth; window = w } } in r)) is.first)
+
+  -- the lines of margins are those of their tasks
+  lines-from_margins : (found : List TaskMargin) → All (λ (m : TaskMargin). IsTaskOf set m.at) found → All (λ (m : TaskMargin). IsMargin set m.at m.margin.growth m.margin.window) found → margin_lines set found ≡ flat_map (λ part. option_map_or (margin_line set) (margin_of set part) []) (map (λ (m : TaskMargin). m.at) found)
+  lines-from_margins [] of are = refl
+  lines-from_margins (m ∷ found) of are =
+      let here = margin_of-from_IsMargin m (All-head (λ (m : TaskMargin). IsTaskOf set m.at) m found of) (All-head (λ (m : TaskMargin). IsMargin set m.at m.margin.growth m.margin.window) m found are) in
+      let later = lines-from_margins found (All-tail (λ (m : TaskMargin). IsTaskOf set m.at) m found of) (All-tail (λ (m : TaskMargin). IsMargin set m.at m.margin.growth m.margin.window) m found are) in
+      ap (λ text. margin_line set m ++ text) later
+      ∙ ap (λ o. option_map_or (margin_line set) o [] ++ flat_map (λ part. option_map_or (margin_line set) (margin_of set part) []) (map (λ (m : TaskMargin). m.at) found)) (sym here)
+
+  -- so the margins of all tasks have the text of the set
+  pub text-from_margins : (found : List TaskMargin) → All (λ (m : TaskMargin). IsTaskOf set m.at) found → AreMargins set (parts_of set) found → margin_lines set found ≡ margin_text set
+  text-from_margins found of are =
+      lines-from_margins found of are.margins
+      ∙ ap (flat_map (λ part. option_map_or (margin_line set) (margin_of set part) [])) are.places

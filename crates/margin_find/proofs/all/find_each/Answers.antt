@@ -1,0 +1,6 @@
+use Rattle.margin_find.proofs.MarginLists.{AreMargins-more}
+use Rattle.margin_find.proofs.all.find_each.Goals as goal
+
+pub loop-part-preserved : goal.loop-part-preserved
+loop-part-preserved c =
+    AreMargins-more c.args.plan.now.tasks c.args.parts.now c.loop-part.part-index _ c.loop-part.found c.push.new.self c.in_ok-margin.margin c.loop-part-test.true c.loop-part.invariant c.in_ok-push.ensures.ok c.in_ok-margin.ensures

@@ -1,0 +1,25 @@
+//! What growth does to demand and to feasibility.
+//!
+//! Each law is the contract of a public function with no parameters and an empty body.
+
+ghost use Rattle.margin_find.specs.Laws.{DemandOnlyRises, CycleStays, LessGrowthFits, MarginsAreUnique};
+
+/// With more growth no window needs less.
+pub fn demand_only_rises()
+    ensures { DemandOnlyRises }
+{}
+
+/// With any growth the cycle stays.
+pub fn cycle_stays()
+    ensures { CycleStays }
+{}
+
+/// A set that fits with more growth fits with less.
+pub fn less_growth_fits()
+    ensures { LessGrowthFits }
+{}
+
+/// A task has at most one margin.
+pub fn margins_are_unique()
+    ensures { MarginsAreUnique }
+{}

@@ -1,5 +1,0 @@
-use Rattle.node_chain.proofs.tests.agrees_with_a_list.Given as goal
-
--- the steps are counted in the ledger of the blank
-abbrev pub ghosts-drawn_calls : goal.ghosts-drawn_calls
-ghosts-drawn_calls g a = record { name = a.blank.name; parts = a.blank.parts }

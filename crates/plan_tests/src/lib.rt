@@ -1,0 +1,13 @@
+//! Tests of the crates that make the plan of a set.
+#![tactic(auto)]
+
+#[cfg(test)]
+mod capacities;
+#[cfg(test)]
+mod margins;
+#[cfg(test)]
+mod plans;
+#[cfg(test)]
+mod spans;
+#[cfg(test)]
+mod tables;

@@ -1,0 +1,187 @@
+//! Calls that a generator draws, each time against capacities from nothing.
+
+ghost use Rattle.std.specs.Prelude.{◌≡◌, ◌<◌, [], ◌∷◌, IsTrue};
+ghost use Rattle.spare_capacity.specs.Recurrence.{FollowOn};
+ghost use Rattle.interval_row.specs.Tables.{IsLive};
+
+use interval_row::{ChainTable, RowTable, SpareTable, Spot};
+use slot_core::{Memory, Span, Steps};
+use spare_capacity::fill;
+use std::alloc::Global;
+use std::marker::Brand;
+use std::process::Abort;
+use std::sync::ledger::{Blank, Ledger};
+use std::test::Fail;
+
+/// How many spans the table has room for.
+const ROOM: u32 = 24;
+
+#[test]
+fn drawn_calls_keep_capacities(rt: HostRuntime) -> Result<(), Fail> {
+    drawn_calls::<HostRuntime, Brand>(&rt, rt.alloc(), Blank::new(1))
+}
+
+fn drawn_calls<R: Abort, L: Ledger>(rt: &R, alloc: Global, blank: Blank) -> Result<(), Fail>
+    requires name { blank.name ≡ L.name }
+    requires parts { blank.parts ≡ L.parts }
+    requires some { 0 < L.parts }
+{
+    let cycle = [span(0, 4, 1, 1), span(4, 10, 8, -2)];
+    let mut steps: Steps<L> = Steps::new(blank);
+    let mut table = RowTable::with_room(alloc, &cycle, 3, ROOM)?;
+    let mut chain = ChainTable::with_room(alloc, &cycle, 3, ROOM)?;
+    let mut word: u64 = 1;
+    for _call in 0..3000 {
+        word = word.wrapping_mul(6_364_136_223_846_793_005).wrapping_add(1);
+        call(&mut table, word >> 32, &mut steps);
+        call(&mut chain, word >> 32, &mut steps);
+        expect_alike(rt, alloc, &table, &chain, &mut steps)?;
+    }
+    Ok(())
+}
+
+/// The tables have the same spans, and those are filled.
+fn expect_alike<R: Abort, L: Ledger>(
+    rt: &R,
+    alloc: Global,
+    table: &RowTable,
+    chain: &ChainTable,
+    steps: &mut Steps<L>,
+) -> Result<(), Fail> {
+    expect_filled(rt, alloc, table, steps)?;
+    assert!(rt; (chain.time(), chain.last_end()) == (table.time(), table.last_end()));
+    let rows = spans(alloc, table, steps)?;
+    let others = spans(alloc, chain, steps)?;
+    assert!(rt; rows.as_slice() == others.as_slice());
+    Ok(())
+}
+
+/// The call that this word names, where its conditions hold.
+fn call<T: SpareTable, L: Ledger>(table: &mut T, word: u64, steps: &mut Steps<L>)
+    requires { T.limit table.old ≡ 24 }
+    ensures { T.limit table.new ≡ 24 }
+{
+    let time = table.time();
+    let end = table.last_end();
+    let free = table.count() <= ROOM - 2;
+    let amount = (word / 8 % 64) as u32;
+    match word % 8 {
+        0 => change_work(table, amount, true, steps),
+        1 => change_work(table, amount, false, steps),
+        2 | 3 => {
+            let at = time.saturating_add(u64::from(amount));
+            if free && time < at && at <= end {
+                table.split(at, steps);
+            }
+        }
+        4 => {
+            if free && end <= 1_000_000 {
+                table.append_cycle(&[span(0, 4, 1, 1), span(4, 10, 8, -2)], steps);
+            }
+        }
+        _ => {
+            if time < end && 1 < end - time {
+                table.pass_slot(steps);
+            }
+        }
+    }
+}
+
+/// More or fewer slots of work for the span at a place, where it can have them.
+fn change_work<T: SpareTable, L: Ledger>(
+    table: &mut T,
+    amount: u32,
+    more: bool,
+    steps: &mut Steps<L>,
+)
+    ensures { T.limit table.new ≡ T.limit table.old }
+{
+    let spot = spot_near(table, amount % table.count());
+    let row = table.read(spot, steps);
+    let slots = amount % 8;
+    if more && row.work <= 1_000_000 {
+        table.charge(row.end, slots, steps);
+    } else if !more && u64::from(slots) <= row.work {
+        table.give_back(row.end, slots, steps);
+    }
+}
+
+/// The spot of the span at this place, or of the last one.
+fn spot_near<T: SpareTable>(table: &T, place: u32) -> Spot
+    ensures { IsLive (T.pairs table.now) result }
+{
+    let mut spot = table.first();
+    for _place in 0..place {
+        if let Some(next) = table.next(spot) {
+            spot = next;
+        }
+    }
+    spot
+}
+
+/// The spans of a table.
+fn spans<T: SpareTable, L: Ledger>(
+    alloc: Global,
+    table: &T,
+    steps: &mut Steps<L>,
+) -> Result<Vec<Span>, Memory> {
+    let mut rows = Vec::new(alloc);
+    let mut spot = table.first();
+    for _place in 0..table.count() {
+        rows.push(table.read(spot, steps))?;
+        if let Some(next) = table.next(spot) {
+            spot = next;
+        }
+    }
+    Ok(rows)
+}
+
+/// The table's spans are those that `fill` makes of them without their capacities.
+fn expect_filled<R: Abort, L: Ledger>(
+    rt: &R,
+    alloc: Global,
+    table: &RowTable,
+    steps: &mut Steps<L>,
+) -> Result<(), Fail> {
+    let start = table.time();
+    let count = table.count();
+    let mut rows = Vec::new(alloc);
+    let mut filled = Vec::new(alloc);
+    let mut end = start;
+    let mut next = Some(table.first());
+    for _place in 0..count {
+        if let Some(spot) = next {
+            let row = table.read(spot, steps);
+            let bare = Span { spare: 0, ..row };
+            if !goes_on(bare, end) {
+                return Err("a span does not follow on".into());
+            }
+            rows.push(row)?;
+            filled.push(bare)?;
+            end = row.end;
+            next = table.next(spot);
+        }
+    }
+    assert!(rt; rows.len() == count as usize);
+    fill(&mut filled);
+    assert!(rt; rows == filled);
+    Ok(())
+}
+
+/// Whether the row starts there, and is no longer and has no more work than a table allows.
+fn goes_on(row: Span, start: u64) -> bool
+    ensures { IsTrue result → FollowOn start (row ∷ []) }
+{
+    row.start == start && start <= row.end && row.end - start <= 1 << 40 && row.work <= 1 << 40
+}
+
+fn span(start: u64, end: u64, work: u64, spare: i64) -> Span
+    ensures { result ≡ record { start = start; end = end; work = work; spare = spare } }
+{
+    Span {
+        start,
+        end,
+        work,
+        spare,
+    }
+}

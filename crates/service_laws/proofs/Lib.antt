@@ -1,0 +1,4 @@
+mod LineCuts
+mod LineEntries
+mod LineSpans
+mod LineWords

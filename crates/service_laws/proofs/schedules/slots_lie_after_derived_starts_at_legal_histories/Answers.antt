@@ -1,0 +1,5 @@
+use Rattle.slot_facts.proofs.Scheduling.LegalStarts.{slots_lie_after_derived_starts_at_legal_histories}
+use Rattle.service_laws.proofs.schedules.slots_lie_after_derived_starts_at_legal_histories.Goals as goal
+
+pub returns : goal.returns
+returns c = slots_lie_after_derived_starts_at_legal_histories

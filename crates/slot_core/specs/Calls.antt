@@ -1,0 +1,3 @@
+-- How calls answer and count.
+pub mod Counts
+pub mod Results

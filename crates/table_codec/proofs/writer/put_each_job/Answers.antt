@@ -1,0 +1,7 @@
+use Rattle.table_codec.specs.Grammar.{job_form}
+use Rattle.table_codec.proofs.WrittenSteps.{writes_at}
+use Rattle.table_codec.proofs.writer.put_each_job.Goals as goal
+
+pub loop-job-preserved : goal.loop-job-preserved
+loop-job-preserved c =
+    writes_at (job_form c.args.layout).written c.args.jobs.now c.loop-job.job-index _ c.args.out.now.items c.loop-job.out.items c.put_job.new.out.items c.loop-job-test.true c.loop-job.invariant c.in_ok-put_job.ensures

@@ -1,0 +1,7 @@
+use Rattle.table_codec.specs.Grammar.{sporadic_form}
+use Rattle.table_codec.proofs.WrittenSteps.{writes_on}
+use Rattle.table_codec.proofs.writer.put_sporadics.Goals as goal
+
+pub loop-sporadic-preserved : goal.loop-sporadic-preserved
+loop-sporadic-preserved c =
+    writes_on (sporadic_form c.args.layout 0).written c.args.sporadics.now c.loop-sporadic.sporadic-index c.sporadic-item.result c.args.out.now.items c.loop-sporadic.out.items c.put_sporadic.new.out.items c.loop-sporadic-test.true c.sporadic-item.is c.loop-sporadic.invariant c.in_ok-put_sporadic.ensures

@@ -1,0 +1,3 @@
+pub mod FaultNumbers
+pub mod FaultTexts
+pub mod Sources

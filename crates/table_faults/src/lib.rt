@@ -1,0 +1,6 @@
+//! Why a binary table is refused, with the numbers and texts of the faults.
+#![tactic(auto)]
+
+pub mod faults;
+
+pub use faults::TableFault;

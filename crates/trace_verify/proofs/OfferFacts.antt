@@ -1,0 +1,91 @@
+-- The need of an offer grows at the deadlines of jobs and where sporadic demand rises alone.
+use Rattle.std.proofs.Common.{◌≡◌, ℕ, zero, suc, ◌+◌, ◌-◌, ◌<◌, ◌≤◌, Bool, true, false, cond, ltb, leb, List, filter, get_or, sum_by, Option, Some, None, refl, sym, ap, ◌∙◌, ⊎_elim, arith}
+use Rattle.std.specs.Prelude.{find, nat_le, All}
+use Rattle.std.specs.List.{range_with_len}
+use Rattle.std.specs.Option.{option_map}
+use Rattle.std.proofs.lemmas.Bool.{cases_lt, lt-ltb, le-ltb, ltb-true}
+use Rattle.std.proofs.lemmas.Bool.Decides.{nat_tests}
+use Rattle.slot_core.specs.declared.jobs.Job.{Job}
+use Rattle.slot_core.specs.declared.jobs.Evidence.{Evidence}
+use Rattle.slot_core.specs.declared.tasks.Sporadic.{Sporadic}
+use Rattle.slot_core.specs.Feasibility.Sporadics.{sporadic_demand}
+use Rattle.slot_core.specs.Runs.Answers.{evidence_at}
+use Rattle.slot_core.specs.Runs.Demand.{is_overloaded, work_by}
+use Rattle.std.proofs.lemmas.List.Elements.{Contains-get_or}
+use Rattle.slot_facts.proofs.Lists.Members.{Has-filter_passes, Has-from_Contains}
+use Rattle.slot_facts.proofs.Lists.Sums.{sum_by-filter, sum_by-plus}
+use Rattle.interval_build.proofs.Due.{is_due_after}
+use Rattle.trace_verify.specs.Offers.{offer_scene}
+
+due_in_parts : (left dl x y : ℕ) → x ≤ y → cond (leb dl x) left 0 + cond (ltb x dl) (cond (leb dl y) left 0) 0 ≡ cond (leb dl y) left 0
+due_in_parts left dl x y le = grind (arith, nat_tests)
+
+left_in_parts : (left dl x : ℕ) → cond (leb dl x) left 0 + cond (ltb x dl) left 0 ≡ left
+left_in_parts left dl x = grind (arith, nat_tests)
+
+-- the work due by a later time is that due by a time and that of the jobs due after it
+pub work_by-parts : (x y : ℕ) (jobs : List Job) → x ≤ y → work_by jobs y ≡ work_by jobs x + work_by (filter (is_due_after x) jobs) y
+work_by-parts x y jobs le =
+    let rest = sum_by-filter (λ (j : Job). cond (nat_le j.dl y) j.left 0) (is_due_after x) jobs in
+    let both = sum_by-plus (λ (j : Job). cond (nat_le j.dl x) j.left 0) (λ (j : Job). cond (is_due_after x j) (cond (nat_le j.dl y) j.left 0) 0) (λ (j : Job). cond (nat_le j.dl y) j.left 0) jobs (λ j. due_in_parts j.left j.dl x y le) in
+    omega (arith, rest, both)
+
+-- and so is all that is left
+pub left-parts : (x : ℕ) (jobs : List Job) → work_by jobs x + sum_by (λ (j : Job). j.left) (filter (is_due_after x) jobs) ≡ sum_by (λ (j : Job). j.left) jobs
+left-parts x jobs =
+    let rest = sum_by-filter (λ (j : Job). j.left) (is_due_after x) jobs in
+    let both = sum_by-plus (λ (j : Job). cond (nat_le j.dl x) j.left 0) (λ (j : Job). cond (is_due_after x j) j.left 0) (λ (j : Job). j.left) jobs (λ j. left_in_parts j.left j.dl x) in
+    omega (arith, rest, both)
+
+-- the jobs due after a time are due later
+pub all_after : (x : ℕ) (jobs : List Job) → All (λ (j : Job). x < j.dl) (filter (is_due_after x) jobs)
+all_after x jobs k d inside =
+    let rest = filter (is_due_after x) jobs in
+    let at = Has-from_Contains rest (get_or rest k d) (Contains-get_or rest k d inside) in
+    ltb-true x (get_or rest k d).dl (Has-filter_passes (is_due_after x) jobs (get_or rest k d) at).1
+
+-- a search over a range finds nothing where nothing passes
+pub find-none : (p : ℕ → Bool) (a n : ℕ) → ((y : ℕ) → a ≤ y → y < a + n → p y ≡ false) → find p (range_with_len a n) ≡ None
+find-none p a zero none = refl
+find-none p a (suc n) none =
+    rw (none a (omega arith) (omega arith)) (find-none p (a + 1) n (λ y from below. none y (omega arith) (omega arith)))
+
+-- and what passes first
+pub find-first : (p : ℕ → Bool) (a n x : ℕ) → a ≤ x → x < a + n → ((y : ℕ) → a ≤ y → y < x → p y ≡ false) → p x ≡ true → find p (range_with_len a n) ≡ Some x
+find-first p a zero x from below before passes = absurd (omega arith)
+find-first p a (suc n) x from below before passes =
+    ⊎_elim
+    (λ (less : a < x). rw (before a (omega arith) less) (find-first p (a + 1) n x (omega arith) (omega arith) (λ y low high. before y (omega arith) high) passes))
+    (λ (same : x ≤ a).
+    let is : a ≡ x = omega arith in
+    let here : p a ≡ true = ap p is ∙ passes in
+    rw here (ap Some is))
+    (cases_lt a x)
+
+module _ (sporadics : List Sporadic) (nexts : List ℕ) (now slots : ℕ) (jobs : List Job) where
+  -- more is needed by the time than there are slots
+  abbrev short : ℕ → Bool
+  short = is_overloaded sporadics (offer_scene now jobs nexts) slots now
+
+  -- what sporadic arrivals need
+  abbrev demand : ℕ → ℕ
+  demand y = sporadic_demand sporadics nexts now y
+
+  -- a time is not short where the need fits the slots up to an earlier one
+  pub not_short : (y x need : ℕ) → slots + (work_by jobs y + demand y) ≤ need → need ≤ x - now → x ≤ y → short y ≡ false
+  not_short y x need is fits later = le-ltb (y - now) (slots + (work_by jobs y + demand y)) (omega arith)
+
+  -- a time is short where the need is above the slots
+  pub is_short : (x need : ℕ) → slots + (work_by jobs x + demand x) ≡ need → x - now < need → short x ≡ true
+  is_short x need is above = lt-ltb (x - now) (slots + (work_by jobs x + demand x)) (omega arith)
+
+  -- the evidence at the first short time
+  pub evidence-found : (from end x need : ℕ) → from ≤ x → x ≤ end → ((y : ℕ) → from ≤ y → y < x → short y ≡ false) → slots + (work_by jobs x + demand x) ≡ need → x - now < need → ◌≡◌ {A = Option Evidence} (Some (record { until = x; need = need; room = x - now })) (option_map (evidence_at sporadics (offer_scene now jobs nexts) slots) (find short (range_with_len from (end + 1 - from))))
+  evidence-found from end x need low within before is above =
+      let found = find-first short from (end + 1 - from) x low (omega arith) before (is_short x need is above) in
+      rw found (ap (λ n. Some (record { until = x; need = n; room = x - now })) (sym is))
+
+  -- and none where none is
+  pub evidence-none : (from end x : ℕ) → end < x → ((y : ℕ) → from ≤ y → y < x → short y ≡ false) → ◌≡◌ {A = Option Evidence} None (option_map (evidence_at sporadics (offer_scene now jobs nexts) slots) (find short (range_with_len from (end + 1 - from))))
+  evidence-none from end x past before =
+      rw (find-none short from (end + 1 - from) (λ y low high. before y low (omega arith))) refl

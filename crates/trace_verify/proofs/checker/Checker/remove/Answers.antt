@@ -1,0 +1,10 @@
+use Rattle.std.proofs.Common.{not, sym, subst}
+use Rattle.slot_core.specs.declared.jobs.Job.{Job}
+use Rattle.slot_core.specs.Keeping.Plans.{AreInDeadlineOrder}
+use Rattle.slot_core.specs.Offline.Keys.{same_key}
+use Rattle.trace_verify.proofs.OrderEdits.{AreInDeadlineOrder-filter}
+use Rattle.trace_verify.proofs.checker.Checker.remove.Goals as goal
+
+pub invariant_of-self : goal.invariant_of-self
+invariant_of-self c =
+    subst AreInDeadlineOrder (sym c.remove_job.ensures) (AreInDeadlineOrder-filter (λ (j : Job). not (same_key j.key c.args.key)) c.self.inside.jobs.items c.self.invariant)

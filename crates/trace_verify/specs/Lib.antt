@@ -1,0 +1,7 @@
+pub mod Checked
+pub mod Lacks
+pub mod Laws
+pub mod Offers
+pub mod SceneLines
+pub mod SoftSlots
+pub mod Verdicts

@@ -1,0 +1,81 @@
+//! The verdict on a recorded trace.
+
+ghost use Rattle.std.specs.Prelude.{◌≡◌, ◌≤◌, map, true};
+ghost use Rattle.slot_core.specs.declared.TheConstants.{REPLAY_LIMIT};
+ghost use Rattle.slot_core.specs.Runs.Arrivals.{are_fitting};
+ghost use Rattle.slot_core.specs.Runs.Matches.{IsSameScene};
+ghost use Rattle.scene_steps.specs.Steps.{first_scene};
+ghost use Rattle.sporadic_reserve.specs.Reserves.{without_name};
+ghost use Rattle.trace_verify.specs.SceneLines.{first_due};
+ghost use Rattle.trace_verify.specs.Verdicts.{AnswersAs, verdict};
+
+use crate::checker::Checker;
+use crate::lines::{first_line, last_line, pass_line};
+use cycle_plan::Plan;
+use slot_core::Arrival;
+use std::alloc::Global;
+use verify_faults::VerifyFault;
+
+/// Whether the text is that of a lawful trace of the plan's set, these arrivals and so many slots;
+/// else the first fault of its lines. Want of memory may come at any place.
+pub fn verify(
+    alloc: Global,
+    plan: &Plan,
+    arrivals: &[Arrival],
+    slots: u64,
+    text: &[u8],
+) -> Result<(), VerifyFault>
+    requires some { 1 ≤ slots }
+    requires few { slots ≤ REPLAY_LIMIT }
+    requires fitting { are_fitting plan.now.tasks slots arrivals.now ≡ true }
+    ensures { AnswersAs
+        (λ _. tt)
+        result
+        (verdict plan.now.tasks plan.now.cycle arrivals.now slots text.now) }
+{
+    let mut checker = Checker::start(alloc, plan)?;
+    walk(&mut checker, plan, arrivals, slots, text)
+}
+
+/// The same with a checker that has just started: the line of the start, for each slot those of its
+/// arrivals and then that of the slot, and the line of the end.
+fn walk(
+    checker: &mut Checker,
+    plan: &Plan,
+    arrivals: &[Arrival],
+    slots: u64,
+    text: &[u8],
+) -> Result<(), VerifyFault>
+    requires scene { IsSameScene
+        checker.old.scene
+        (first_scene plan.now.tasks plan.now.cycle) }
+    requires tasks { checker.old.sporadics ≡ map without_name plan.now.tasks.sporadics }
+    requires few { slots ≤ REPLAY_LIMIT }
+    requires fitting { are_fitting plan.now.tasks slots arrivals.now ≡ true }
+    ensures { AnswersAs
+        (λ _. tt)
+        result
+        (verdict plan.now.tasks plan.now.cycle arrivals.now slots text.now) }
+{
+    let tasks = plan.tasks();
+    let mut rest = first_line(checker, plan, text)?;
+    let mut left = arrivals;
+    let mut n = 2;
+    while checker.time() < slots {
+        let (due, later) = split_due(left, checker.time());
+        rest = pass_line(checker, plan, n, due, rest)?;
+        left = later;
+        n += 1;
+    }
+    last_line(tasks, slots, n, rest)
+}
+
+/// The first arrival, where it is due at this time, and the others.
+fn split_due(left: &[Arrival], time: u64) -> (Option<Arrival>, &[Arrival])
+    ensures { (result.0, result.1.now) ≡ first_due time left.now }
+{
+    match left {
+        [first, rest @ ..] if first.slot == time => (Some(*first), rest),
+        _ => (None, left),
+    }
+}
