@@ -45,7 +45,7 @@ TABLE_FAULT = (
 # The one line of standard error of each status.
 LINES = {
     1: "usage: slotshift check T, table T, show B, replay T A N, replay-table B A N, gantt T A N, "
-    "selfrun N, migrate B, verify T A X N, margin T",
+    "selfrun N, migrate B, verify T A X N, explain T A N R, switch T U A N C, margin T",
     2: "cannot read .*",
     3: f"too large .* {NUMBER}",
     4: f"tasks {TASK_FAULT}",
@@ -55,6 +55,8 @@ LINES = {
     8: "out of memory",
     9: f"table {TABLE_FAULT}",
     10: f"trace (?:(?:short|no run|differs|trailing) {NUMBER}|(?:not ready|late) {NUMBER} \\S+)",
+    11: f"no row {NUMBER}",
+    12: f"switch (?:not at cycle end {NUMBER}|noroom {NUMBER} {NUMBER} {NUMBER})",
 }
 LINES = {status: re.compile((line + "\n").encode()) for status, line in LINES.items()}
 
@@ -72,7 +74,8 @@ def wrong_in(ran, statuses):
         return f"status {ran.status}"
     if ran.status == 0:
         return f"standard error on status 0: {ran.err!r}" if ran.err or not ran.out else None
-    if ran.out:
+    # (where there is no room for a change the trace before it has been written)
+    if ran.out and ran.status != 12:
         return f"{len(ran.out)} bytes of output on status {ran.status}"
     return None if LINES[ran.status].fullmatch(ran.err) else f"line {ran.err!r}"
 
@@ -137,12 +140,32 @@ def commands(runner):
         chart = str(min(slots, 200))
         found += [("check", tasks), ("table", tasks), ("margin", tasks)]
         found += [("replay", tasks, arrivals, str(slots))]
+        replayed = runner.run("replay", tasks, arrivals, str(slots))
+        if replayed.status == 0:
+            trace = runner.write(replayed.out, f"{os.path.basename(tasks)}.trace")
+            found += [("verify", tasks, arrivals, trace, str(slots))]
         found += [("gantt", tasks, arrivals, chart), ("gantt", tasks, example("none.csv"), chart)]
         made = runner.run("table", tasks)
         if made.status == 0:
             table = runner.write(made.out, f"{os.path.basename(tasks)}.bin")
             found += [("show", table), ("migrate", table), ("replay-table", table, arrivals, str(slots))]
+    flight, borrowing, none = map(example, ("flight.toml", "borrowing.toml", "none.csv"))
+    found += [("explain", flight, example("flight.csv"), "80", "1")]
+    found += [("explain", example("engine.toml"), example("engine.csv"), "400", "8")]
+    found += [("switch", borrowing, flight, none, "30", "10")]
+    found += [("switch", flight, borrowing, example("flight.csv"), "120", "80")]
     return [*dict.fromkeys(found), ("selfrun", "1")]
+
+
+def front(words, whole):
+    """What a command writes before it takes the memory for the rest, or None where it takes all first."""
+    lines = whole.out.splitlines(keepends=True)
+    if words[0] == "explain":
+        return lines[0] if lines else b""
+    if words[0] == "switch":
+        granted = [n for n, line in enumerate(lines) if line.endswith(b" switch granted\n")]
+        return b"".join(lines[: granted[0]] if granted else lines)
+    return None
 
 
 def told(words):

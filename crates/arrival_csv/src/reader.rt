@@ -10,7 +10,7 @@ use slot_core::Memory;
 use std::alloc::Global;
 
 /// A reader of rows of any length, none of them a header.
-pub fn reader_of(alloc: Global, bytes: &[u8]) -> Reader<&[u8]>
+pub(crate) fn reader_of(alloc: Global, bytes: &[u8]) -> Reader<&[u8]>
     ensures { HasRows result (records default_config (strip_bom bytes.now)) }
 {
     ReaderBuilder::new()
@@ -20,7 +20,7 @@ pub fn reader_of(alloc: Global, bytes: &[u8]) -> Reader<&[u8]>
 }
 
 /// Takes the next row, if there is one.
-pub fn next_row(reader: &mut Reader<&[u8]>, fields: &mut ByteRecord) -> Result<bool, Memory>
+pub(crate) fn next_row(reader: &mut Reader<&[u8]>, fields: &mut ByteRecord) -> Result<bool, Memory>
     ensures { IfOk result (λ found. (rows : List (List (List ℕ))) → HasRows reader.old rows
         → TakesRow reader.new found (fields_of fields.new) rows) }
 {

@@ -12,7 +12,7 @@ use key_texts::{key_of, number_between, number_of, row_number, sporadic_named};
 use slot_core::{ARRIVAL_LIMIT, Arrival, Event, OFFER_LIMIT, TaskSet};
 
 /// The arrival of a row of these fields, where the row before has this slot.
-pub fn arrival_of(
+pub(crate) fn arrival_of(
     tasks: &TaskSet,
     slots: u64,
     row: u32,

@@ -1,4 +1,6 @@
+pub mod Always
 pub mod BrokenTexts
 pub mod EndTimes
 pub mod Happenings
+pub mod Stops
 pub mod UnderWay

@@ -11,9 +11,9 @@ use Rattle.slot_core.specs.Sets.Cycles.{cycle_of}
 use Rattle.slot_core.specs.Keeping.Executives.{Executive, StandsFor, Does}
 use Rattle.slot_core.specs.Runs.Histories.{History, time_of}
 use Rattle.slot_core.specs.Keeping.Plans.{PlanParts}
-use Rattle.slot_core.specs.Runs.Traces.{Occurrence, told_of, shown_entry, end_entry, trace_in, trace, history_of}
-use Rattle.slot_facts.proofs.Replays.Entries.{AreLeft, entries_left, entry_after, entries_left-start, entries_left-end, AreLeft-start}
-use Rattle.slot_facts.proofs.Replays.Told.{history_of-more, StandsFor-started, StandsFor-end}
+use Rattle.slot_core.specs.Runs.Traces.{Occurrence, told_of, shown_entry, trace_in, trace, history_of}
+use Rattle.slot_facts.proofs.Replays.Entries.{AreLeft, entries_left, entry_after, entries_left-start, AreLeft-start}
+use Rattle.slot_facts.proofs.Replays.Told.{history_of-more, StandsFor-started}
 use Rattle.arrival_replay.specs.Replays.{BreaksOff}
 
 -- entries were told and taken, the executive of this plan stands for their history, and with what
@@ -27,6 +27,7 @@ pub record IsUnderWay
   pub stands : StandsFor exec (history_of told)
   pub left : AreLeft plan.tasks n (history_of told) arrivals
   pub early : exec.scene.time ≤ n
+  pub count : length told ≡ 1 + exec.scene.time + exec.last_row
   pub whole : told ++ entries_left plan.tasks plan.cycle n (history_of told) arrivals ≡ trace
 
 -- so it is but for one entry, which is to be told now
@@ -39,6 +40,7 @@ pub record IsToTell
   pub stands : StandsFor exec (what ∷ history_of told)
   pub left : AreLeft plan.tasks n (what ∷ history_of told) arrivals
   pub early : exec.scene.time ≤ n
+  pub count : length told ≡ exec.scene.time + exec.last_row
   pub whole :
       told
       ++ (shown_entry plan.tasks plan.cycle time what (what ∷ history_of told)
@@ -64,6 +66,7 @@ IsUnderWay-told Took Longer plan exec trace n arrivals time what t took =
       stands = subst (StandsFor exec) (sym h) t.stands;
       left = subst (λ h. AreLeft plan.tasks n h arrivals) (sym h) t.left;
       early = t.early;
+      count = omega (arith, length-append t.told (e ∷ []), t.count);
       whole =
           subst
           (λ h. (t.told ++ e ∷ []) ++ entries_left plan.tasks plan.cycle n h arrivals ≡ trace)
@@ -72,7 +75,7 @@ IsUnderWay-told Took Longer plan exec trace n arrivals time what t took =
     }
 
 -- a trace breaks off at an entry where it and those before it do
-BreaksOff-after : (Broke : List Entry → Type 0) (exec : Executive) (told later trace : List Entry) (e : Entry) → told ++ (e ∷ later) ≡ trace → Broke (told ++ e ∷ []) → StandsFor exec (e.what ∷ history_of told) → BreaksOff Broke exec trace
+pub BreaksOff-after : (Broke : List Entry → Type 0) (exec : Executive) (told later trace : List Entry) (e : Entry) → told ++ (e ∷ later) ≡ trace → Broke (told ++ e ∷ []) → StandsFor exec (e.what ∷ history_of told) → BreaksOff Broke exec trace
 BreaksOff-after Broke exec told later trace e whole broke stands =
     let front : take (length told + 1) trace ≡ told ++ e ∷ [] = ap (take (length told + 1)) (sym whole) ∙ take-append-add told (e ∷ later) 1 in
     record {
@@ -88,29 +91,6 @@ BreaksOff-told Took Broke plan exec trace n arrivals time what t broke =
     let e = shown_entry plan.tasks plan.cycle time what (what ∷ history_of t.told) in
     BreaksOff-after Broke exec t.told (entries_left plan.tasks plan.cycle n (what ∷ history_of t.told) arrivals) trace e t.whole broke t.stands
 
--- after the last slot the end is left
-module _ (Took : List Entry → Type 0) (plan : PlanParts) (exec : Executive) (trace : List Entry) (n : ℕ) (arrivals : List Arrival) (u : IsUnderWay Took plan exec trace n arrivals) (over : n ≤ exec.scene.time) where
-  -- what was told and the end are the trace
-  whole-end : u.told ++ (end_entry n ∷ []) ≡ trace
-  whole-end =
-      let all : time_of (history_of u.told) ≡ n = omega (arith, u.stands.same.time, u.early) in
-      ap (λ es. u.told ++ es) (sym (entries_left-end plan.tasks plan.cycle n (history_of u.told) arrivals all)) ∙ u.whole
-
-  -- where the end is taken all is
-  pub all-taken : (Longer : List Entry → Type 0) → Longer (u.told ++ end_entry n ∷ []) → Longer trace
-  all-taken Longer took = subst Longer whole-end took
-
-  -- the executive stands for the history of all
-  pub all-stands : StandsFor exec (history_of trace)
-  all-stands =
-      let longer = StandsFor-end exec (history_of u.told) u.stands in
-      subst (λ es. StandsFor exec (history_of es)) whole-end (subst (StandsFor exec) (sym (history_of-more u.told (end_entry n))) longer)
-
-  -- and where the end is not taken, the trace breaks off at it
-  pub BreaksOff-end : (Broke : List Entry → Type 0) → Broke (u.told ++ end_entry n ∷ []) → BreaksOff Broke exec trace
-  BreaksOff-end Broke broke =
-      BreaksOff-after Broke exec u.told [] trace (end_entry n) whole-end broke (StandsFor-end exec (history_of u.told) u.stands)
-
 -- before the start entry is told all of the trace is left
 pub IsToTell-start : (Took : List Entry → Type 0) (exec : Executive) (n : ℕ) (arrivals : List Arrival) → exec.plan.cycle ≡ cycle_of exec.plan.tasks → StandsFor exec [] → are_fitting exec.plan.tasks n arrivals ≡ true → Took [] → IsToTell Took exec.plan exec (trace exec.plan.tasks arrivals n) n arrivals 0 Start
 IsToTell-start Took exec n arrivals cycle stands fits took =
@@ -121,14 +101,15 @@ IsToTell-start Took exec n arrivals cycle stands fits took =
       stands = StandsFor-started exec stands;
       left = AreLeft-start exec.plan.tasks n arrivals fits;
       early = omega (arith, stands.same.time);
+      count = omega (arith, stands.same.time, stands.last);
       whole =
           sym (entries_left-start exec.plan.tasks exec.plan.cycle n arrivals)
           ∙ ap (λ c. trace_in exec.plan.tasks c arrivals n) cycle;
     }
 
--- what happens next is to be told after it
-pub IsToTell-next : (Took : List Entry → Type 0) (plan : PlanParts) (before after : Executive) (trace : List Entry) (n : ℕ) (arrivals rest : List Arrival) (next : Occurrence) (time : ℕ) (what : What) (u : IsUnderWay Took plan before trace n arrivals) → time ≡ before.scene.time → Does before after next what → entries_left plan.tasks plan.cycle n (history_of u.told) arrivals ≡ entry_after plan.tasks plan.cycle (history_of u.told) next ∷ entries_left plan.tasks plan.cycle n (told_of plan.tasks plan.cycle (history_of u.told) next ∷ history_of u.told) rest → AreLeft plan.tasks n (told_of plan.tasks plan.cycle (history_of u.told) next ∷ history_of u.told) rest → time_of (told_of plan.tasks plan.cycle (history_of u.told) next ∷ history_of u.told) ≤ n → IsToTell Took plan after trace n rest time what
-IsToTell-next Took plan before after trace n arrivals rest next time what u now does step left early =
+-- what happens next, which is a slot or the next row, is to be told after it
+pub IsToTell-next : (Took : List Entry → Type 0) (plan : PlanParts) (before after : Executive) (trace : List Entry) (n : ℕ) (arrivals rest : List Arrival) (next : Occurrence) (time : ℕ) (what : What) (u : IsUnderWay Took plan before trace n arrivals) → time ≡ before.scene.time → Does before after next what → entries_left plan.tasks plan.cycle n (history_of u.told) arrivals ≡ entry_after plan.tasks plan.cycle (history_of u.told) next ∷ entries_left plan.tasks plan.cycle n (told_of plan.tasks plan.cycle (history_of u.told) next ∷ history_of u.told) rest → AreLeft plan.tasks n (told_of plan.tasks plan.cycle (history_of u.told) next ∷ history_of u.told) rest → time_of (told_of plan.tasks plan.cycle (history_of u.told) next ∷ history_of u.told) ≤ n → after.scene.time + after.last_row ≡ 1 + before.scene.time + before.last_row → IsToTell Took plan after trace n rest time what
+IsToTell-next Took plan before after trace n arrivals rest next time what u now does step left early more =
     let set = plan.tasks in
     let h = history_of u.told in
     let stands = does.stands h u.stands in
@@ -142,6 +123,7 @@ IsToTell-next Took plan before after trace n arrivals rest next time what u now 
       stands = stands;
       left = subst (λ w. AreLeft set n (w ∷ h) rest) (sym told) left;
       early = subst (λ t. t ≤ n) (sym stands.same.time) (subst (λ w. time_of (w ∷ h) ≤ n) (sym told) early);
+      count = omega (arith, u.count, more);
       whole =
           subst
           (λ t. u.told ++ (shown_entry set plan.cycle t what (what ∷ h) ∷ entries_left set plan.cycle n (what ∷ h) rest) ≡ trace)

@@ -2,27 +2,31 @@
 //! entry of the trace is handed to a taker.
 #![tactic(auto)]
 
-ghost use Rattle.std.specs.Prelude.{◌≡◌, ◌≤◌, ◌<◌, ◌^◌, [], ◌∷◌, true, OnErr, OnOk, IfSome};
+ghost use Rattle.std.specs.Prelude.{◌≡◌, ◌≤◌, ◌<◌, ◌+◌, ◌^◌, ◌-◌, [], ◌∷◌, true, length, slice_get, OnErr, OnOk, IfOk, IfSome, Some};
 ghost use Rattle.std.specs.Io.KnownBytes.{Appends};
 ghost use Rattle.slot_core.specs.declared.TheConstants.{REPLAY_LIMIT};
-ghost use Rattle.slot_core.specs.Runs.Arrivals.{are_fitting, event_may_come, what_in_set};
+ghost use Rattle.slot_core.specs.declared.events.Arrival.{Arrival};
+ghost use Rattle.slot_core.specs.Runs.Arrivals.{are_fitting, event_may_come, event_names_known, what_in_set};
 ghost use Rattle.slot_core.specs.Calls.Counts.{Rose};
 ghost use Rattle.slot_core.specs.Keeping.Executives.{Does, StandsFor};
 ghost use Rattle.slot_core.specs.Runs.Histories.{History};
 ghost use Rattle.slot_core.specs.Keeping.Plans.{IsPlan};
-ghost use Rattle.slot_core.specs.Output.Texts.{trace_text};
+ghost use Rattle.slot_core.specs.Output.Texts.{entry_line, trace_text};
 ghost use Rattle.slot_core.specs.Runs.Traces.{arrive, end_entry, history_of, shown_entry, slot, trace};
 ghost use Rattle.slot_io.specs.Sinks.{AppendsPart};
 ghost use Rattle.trace_text.specs.Takers.{AppendsBroken};
-ghost use Rattle.arrival_replay.specs.Replays.{due_arrival, next_occurrence, BreaksOff};
+ghost use Rattle.arrival_replay.specs.Replays.{due_arrival, entry_of, is_on_the_way, next_occurrence, BreaksOff, IsStopped, StandsBefore};
 
+mod silent;
+
+use crate::silent::Silent;
 use interval_row::SpareTable;
 use slot_core::{Arrival, Entry, Event, Failed, Ran, Shown, Steps, Taker, What};
 use slot_exec::Exec;
 use slot_io::Sink;
 use std::marker::Brand;
 use std::sync::ledger::{Blank, Ledger};
-use trace_text::TextTaker;
+use trace_text::{TextTaker, entry_line};
 
 /// Drives an executive that has just started through so many slots with these arrivals, and hands
 /// the taker each entry of the trace: the start, for each slot its arrivals in order and what ran,
@@ -58,7 +62,32 @@ pub fn drive<T: SpareTable, W: Taker>(
     ensures counted { W.faults taker.old ≤ W.faults taker.new }
     ensures failed { OnErr result (Rose (W.faults taker.old) (W.faults taker.new)) }
 {
-    drive_counted::<T, W, Brand>(exec, arrivals, slots, taker, Blank::new(1))
+    let place = arrivals.len();
+    go_to::<T, W, Brand>(exec, arrivals, slots, place, taker, Blank::new(1))?;
+    end(exec, slots, taker)
+}
+
+/// Brings an executive that has just started to where the arrival of this row, counted from 1,
+/// comes next: all slots before its own have passed, and all arrivals before it were answered. It
+/// tells nobody, refuses nothing and takes no memory.
+pub fn advance<T: SpareTable>(exec: &mut Exec<T>, arrivals: &[Arrival], slots: u64, row: u32)
+    requires started { StandsFor exec.old [] }
+    requires some { 1 ≤ slots }
+    requires few { slots ≤ REPLAY_LIMIT }
+    requires fitting { are_fitting exec.old.plan.tasks slots arrivals.now ≡ true }
+    requires first { 1 ≤ row }
+    requires there { row ≤ length arrivals.now }
+
+    // The executive stands for the history before the entry of that arrival in the trace.
+    ensures before { (a : Arrival) → slice_get arrivals.now (row - 1) ≡ Some a → StandsBefore
+        exec.new
+        (trace exec.old.plan.tasks arrivals.now slots)
+        a }
+    ensures last_row { exec.new.last_row ≡ row - 1 }
+    ensures plan { exec.new.plan ≡ exec.old.plan }
+{
+    let place = row as usize - 1;
+    go_to::<T, Silent, Brand>(exec, arrivals, slots, place, &mut Silent, Blank::new(1)).unwrap();
 }
 
 /// Writes the text of the same trace to a sink, one put a line.
@@ -99,11 +128,107 @@ pub fn replay<T: SpareTable, K: Sink>(
     drive(exec, arrivals, slots, &mut TextTaker::over(out))
 }
 
-/// `drive`, with steps that nobody asks for.
-fn drive_counted<T: SpareTable, W: Taker, L: Ledger>(
+/// Answers this arrival now, whatever slot it names, and writes the line of its entry to a sink, in
+/// one put.
+/// Ok is what the entry tells. It takes no memory.
+pub fn tell_arrival<T: SpareTable, K: Sink>(
+    exec: &mut Exec<T>,
+    arrival: Arrival,
+    out: &mut K,
+) -> Result<What, Failed>
+    requires later { exec.old.last_row < arrival.row }
+    requires may_come { event_may_come exec.old.plan.tasks arrival.event ≡ true }
+    requires named { event_names_known exec.old.plan.tasks arrival.event ≡ true }
+    ensures entry { (h : History) → StandsFor exec.old h → OnOk result (Appends
+        (K.written out.old)
+        (K.written out.new)
+        (entry_line exec.old.plan.tasks (entry_of exec.old.plan h arrival))) }
+    ensures part { (h : History) → StandsFor exec.old h → OnErr result (AppendsPart
+        (K.written out.old)
+        (K.written out.new)
+        (entry_line exec.old.plan.tasks (entry_of exec.old.plan h arrival))) }
+    ensures what { (h : History) → StandsFor exec.old h
+        → IfOk result (λ what. what ≡ (entry_of exec.old.plan h arrival).what) }
+    ensures stands { (h : History) → StandsFor exec.old h
+        → StandsFor exec.new ((entry_of exec.old.plan h arrival).what ∷ h) }
+    ensures plan { exec.new.plan ≡ exec.old.plan }
+    ensures counted { K.faults out.old ≤ K.faults out.new }
+    ensures failed { OnErr result (Rose (K.faults out.old) (K.faults out.new)) }
+{
+    tell_answer::<T, K, Brand>(exec, arrival, out, Blank::new(1))
+}
+
+/// `tell_arrival`, with steps that nobody asks for.
+fn tell_answer<T: SpareTable, K: Sink, L: Ledger>(
+    exec: &mut Exec<T>,
+    arrival: Arrival,
+    out: &mut K,
+    blank: Blank,
+) -> Result<What, Failed>
+    requires name { blank.name ≡ L.name }
+    requires parts { blank.parts ≡ L.parts }
+    requires ledger { 0 < L.parts }
+    requires later { exec.old.last_row < arrival.row }
+    requires may_come { event_may_come exec.old.plan.tasks arrival.event ≡ true }
+    requires named { event_names_known exec.old.plan.tasks arrival.event ≡ true }
+    ensures entry { (h : History) → StandsFor exec.old h → OnOk result (Appends
+        (K.written out.old)
+        (K.written out.new)
+        (entry_line exec.old.plan.tasks (entry_of exec.old.plan h arrival))) }
+    ensures part { (h : History) → StandsFor exec.old h → OnErr result (AppendsPart
+        (K.written out.old)
+        (K.written out.new)
+        (entry_line exec.old.plan.tasks (entry_of exec.old.plan h arrival))) }
+    ensures what { (h : History) → StandsFor exec.old h
+        → IfOk result (λ what. what ≡ (entry_of exec.old.plan h arrival).what) }
+    ensures stands { (h : History) → StandsFor exec.old h
+        → StandsFor exec.new ((entry_of exec.old.plan h arrival).what ∷ h) }
+    ensures plan { exec.new.plan ≡ exec.old.plan }
+    ensures counted { K.faults out.old ≤ K.faults out.new }
+    ensures failed { OnErr result (Rose (K.faults out.old) (K.faults out.new)) }
+{
+    let mut steps: Steps<L> = Steps::new(blank);
+    let time = exec.now();
+    let what = answer(exec, arrival, &mut steps);
+    tell_line(exec, time, what, out, &mut steps)?;
+    Ok(what)
+}
+
+/// Writes the line of what happened at this time, with the first spans after it, in one put.
+fn tell_line<T: SpareTable, K: Sink, L: Ledger>(
+    exec: &Exec<T>,
+    time: u64,
+    what: What,
+    out: &mut K,
+    steps: &mut Steps<L>,
+) -> Result<(), Failed>
+    requires named { what_in_set exec.now.plan.tasks what ≡ true }
+    ensures line { (h : History) → StandsFor exec.now h → OnOk result (Appends
+        (K.written out.old)
+        (K.written out.new)
+        (entry_line
+        exec.now.plan.tasks
+        (shown_entry exec.now.plan.tasks exec.now.plan.cycle time what h))) }
+    ensures part { (h : History) → StandsFor exec.now h → OnErr result (AppendsPart
+        (K.written out.old)
+        (K.written out.new)
+        (entry_line
+        exec.now.plan.tasks
+        (shown_entry exec.now.plan.tasks exec.now.plan.cycle time what h))) }
+    ensures counted { K.faults out.old ≤ K.faults out.new }
+    ensures failed { OnErr result (Rose (K.faults out.old) (K.faults out.new)) }
+{
+    let entry = entry_at(exec, time, what, steps);
+    out.put(entry_line(&entry, exec.tasks()).bytes())
+}
+
+/// Drives an executive that has just started up to where the arrival at this place comes next, or
+/// where there is none, up to the end. Nobody asks for the steps.
+fn go_to<T: SpareTable, W: Taker, L: Ledger>(
     exec: &mut Exec<T>,
     arrivals: &[Arrival],
     slots: u64,
+    place: usize,
     taker: &mut W,
     blank: Blank,
 ) -> Result<(), Failed>
@@ -114,14 +239,14 @@ fn drive_counted<T: SpareTable, W: Taker, L: Ledger>(
     requires some { 1 ≤ slots }
     requires few { slots ≤ REPLAY_LIMIT }
     requires fitting { are_fitting exec.old.plan.tasks slots arrivals.now ≡ true }
-    ensures took { OnOk result (W.took
-        exec.old.plan.tasks
-        taker.old
-        taker.new
-        (trace exec.old.plan.tasks arrivals.now slots)) }
-    ensures stands { OnOk result (StandsFor
+    requires place { place ≤ length arrivals.now }
+    ensures stopped { OnOk result (IsStopped
+        (W.took exec.old.plan.tasks taker.old taker.new)
         exec.new
-        (history_of (trace exec.old.plan.tasks arrivals.now slots))) }
+        (trace exec.old.plan.tasks arrivals.now slots)
+        slots
+        (slice_get arrivals.now place)) }
+    ensures last_row { OnOk result (exec.new.last_row ≡ place) }
     ensures broke { OnErr result (BreaksOff
         (W.broke exec.old.plan.tasks taker.old taker.new)
         exec.new
@@ -133,7 +258,7 @@ fn drive_counted<T: SpareTable, W: Taker, L: Ledger>(
     let mut steps: Steps<L> = Steps::new(blank);
     tell(exec, 0, What::Start, taker, &mut steps)?;
     let mut next = 0;
-    while exec.now() < slots {
+    while is_on_the_way(exec.now(), arrivals, slots, place, next) {
         let time = exec.now();
         let due = due_arrival(arrivals, next, time);
         if due.is_some() {
@@ -142,7 +267,15 @@ fn drive_counted<T: SpareTable, W: Taker, L: Ledger>(
         let what = happen(exec, due, &mut steps);
         tell(exec, time, what, taker, &mut steps)?;
     }
-    end(exec, slots, taker)
+    Ok(())
+}
+
+/// Whether at this time slots are left, and the next arrival is not yet that of the place, or not
+/// due.
+fn is_on_the_way(time: u64, arrivals: &[Arrival], slots: u64, place: usize, next: usize) -> bool
+    ensures { result ≡ is_on_the_way arrivals.now slots place next time }
+{
+    time < slots && (next < place || due_arrival(arrivals, next, time).is_none())
 }
 
 /// The arrival at this place, where it is due at this time.
@@ -230,12 +363,26 @@ fn tell<T: SpareTable, W: Taker, L: Ledger>(
     ensures counted { W.faults taker.old ≤ W.faults taker.new }
     ensures failed { OnErr result (Rose (W.faults taker.old) (W.faults taker.new)) }
 {
-    let entry = Entry {
+    let entry = entry_at(exec, time, what, steps);
+    taker.take(&entry, exec.tasks())
+}
+
+/// The entry of what happened at this time, with the first spans after it.
+fn entry_at<T: SpareTable, L: Ledger>(
+    exec: &Exec<T>,
+    time: u64,
+    what: What,
+    steps: &mut Steps<L>,
+) -> Entry
+    ensures what { result.what ≡ what }
+    ensures entry { (h : History) → StandsFor exec.now h
+        → result ≡ shown_entry exec.now.plan.tasks exec.now.plan.cycle time what h }
+{
+    Entry {
         time,
         what,
         shown: exec.shown(steps),
-    };
-    taker.take(&entry, exec.tasks())
+    }
 }
 
 /// Hands over the end.

@@ -36,6 +36,10 @@ const TABLE_REPLAY: &str = "replay-table a.toml none.csv 1";
 
 const TABLE_REPLAY_2: &str = "replay-table a.toml none.csv 2";
 
+const EXPLAIN: &str = "explain a.toml none.csv 1 1";
+
+const SWITCH: &str = "switch a.toml u.toml none.csv 12 8";
+
 /// Two soft jobs in the first slot.
 const TWO_SOFT: &str = "0,soft,3/0,soft,1/";
 
@@ -44,7 +48,7 @@ const TWO_SOFT: &str = "0,soft,3/0,soft,1/";
 type Row = (&'static str, &'static str, &'static str, &'static str);
 
 /// Runs that are done.
-const DONE: [Row; 24] = [
+const DONE: [Row; 26] = [
     (CHECK, OFFSET, "", "feasible cycle 6 jobs 1 spans 3\n"),
     (CHECK, BORROWING, "", "feasible cycle 10 jobs 2 spans 2\n"),
     (CHECK, LONGEST, "", "feasible cycle 8192 jobs 1 spans 1\n"),
@@ -84,6 +88,55 @@ const DONE: [Row; 24] = [
     (TABLE_REPLAY_2, PAIR_TABLE, KINDS, KINDS_2),
     (CHART_4, PAIR, "", PAIR_CHART),
     (CHART_4, NARROW, TWO_SOFT, SOFT_CHART),
+    (EXPLAIN, ALARM, "0,firm,5,7/", ALARM_WHY),
+    (
+        "explain a.toml none.csv 3 1",
+        PAIR,
+        "1,done,g.a#0/",
+        "1 done 1 g.a#0 freed 1 | 1-7:6 7-8:0 8-15:5 15-16:0 16-23:5 23-24:0\n",
+    ),
+];
+
+/// Changes to a second plan: the second task file, the arrivals, the status, and what is written.
+const CHANGES: [(&str, &str, Status, &str, &str); 4] = [
+    (BORROWING, "7,firm,2,3/", Status::Done, CHANGED_12, ""),
+    (
+        BORROWING,
+        "7,firm,3,3/",
+        Status::SwitchRefused,
+        UNCHANGED_8,
+        "switch noroom 18 11 10\n",
+    ),
+    (OVERLOAD, "", Status::Infeasible, "", "infeasible 0 2 3\n"),
+    (
+        "graph = 1",
+        "",
+        Status::BadTasks,
+        "",
+        "tasks wrong kind top graph\n",
+    ),
+];
+
+/// Rows and changes that are refused before anything is written, and how many reads are made.
+const NOT_THERE: [(&str, Status, u32, &str); 3] = [
+    (
+        "explain a.toml none.csv 1 1",
+        Status::NoRow,
+        2,
+        "no row 1\n",
+    ),
+    (
+        "explain a.toml none.csv 1 65535",
+        Status::NoRow,
+        2,
+        "no row 65535\n",
+    ),
+    (
+        "switch a.toml u.toml none.csv 12 9",
+        Status::SwitchRefused,
+        3,
+        "switch not at cycle end 8\n",
+    ),
 ];
 
 /// Sets that do not fit.
@@ -115,7 +168,7 @@ const UNLAWFUL: [(&str, &str, &str, &str); 6] = [
 ];
 
 /// Names of files that are not there, and how many reads are made.
-const UNREADABLE: [(&str, u32, &str); 5] = [
+const UNREADABLE: [(&str, u32, &str); 7] = [
     ("check b.toml", 1, "cannot read b.toml\n"),
     ("replay b.toml b.csv 1", 1, "cannot read b.toml\n"),
     ("replay a.toml b.csv 1", 2, "cannot read b.csv\n"),
@@ -125,6 +178,8 @@ const UNREADABLE: [(&str, u32, &str); 5] = [
         3,
         "cannot read b.trace\n",
     ),
+    ("switch a.toml b.toml b.csv 12 8", 2, "cannot read b.toml\n"),
+    ("switch a.toml u.toml b.csv 12 8", 3, "cannot read b.csv\n"),
 ];
 
 /// Runs that are refused where the output takes no put, and their statuses.
@@ -176,7 +231,8 @@ const CHANGED: [(usize, u8, &str); 7] = [
 ];
 
 const USAGE: &str = "usage: slotshift check T, table T, show B, replay T A N, \
-    replay-table B A N, gantt T A N, selfrun N, migrate B, verify T A X N, margin T\n";
+    replay-table B A N, gantt T A N, selfrun N, migrate B, verify T A X N, explain T A N R, \
+    switch T U A N C, margin T\n";
 
 /// Words that are no command, a line each; the first has no word.
 const NO_COMMANDS: &str = "
@@ -200,7 +256,16 @@ replay a.toml none.csv 100001
 replay a.toml none.csv 1000000
 replay a.toml none.csv run.trace 1
 verify a.toml none.csv 1
-verify a.toml none.csv run.trace 0";
+verify a.toml none.csv run.trace 0
+explain a.toml none.csv 1
+explain a.toml none.csv 1 0
+explain a.toml none.csv 0 1
+explain a.toml none.csv 1 65536
+explain a.toml none.csv 100001 1
+switch a.toml u.toml none.csv 12
+switch a.toml u.toml none.csv 8 8
+switch a.toml u.toml none.csv 12 0
+switch a.toml u.toml none.csv 100001 8";
 
 /// Names of 32 graphs.
 const NAMES: &str = "a b c d e f g h i j k l m n o p q r s t u v w x y z A B C D E F";
@@ -225,13 +290,15 @@ const ROOMY: Limits = Limits {
     room: 4096,
 };
 
-/// A run over `a.toml`, `none.csv` and `run.trace`, and what comes of it.
+/// A run over `a.toml`, `u.toml`, `none.csv` and `run.trace`, and what comes of it.
 #[derive(Clone, Copy)]
 struct Case<'t> {
     /// The words, with a space between each two.
     words: &'t str,
     /// The bytes of `a.toml`.
     first: &'t [u8],
+    /// The bytes of `u.toml`.
+    second: &'t str,
     arrivals: &'t [u8],
     /// The bytes of `run.trace`.
     trace: &'t str,
@@ -254,9 +321,12 @@ struct Ran {
 
 /// How many files a command of these words reads.
 fn reads_of(words: &str) -> u32 {
-    if words.starts_with("verify") {
+    if words.starts_with("verify") || words.starts_with("switch") {
         3
-    } else if words.starts_with("replay") || words.starts_with("gantt") {
+    } else if words.starts_with("replay")
+        || words.starts_with("gantt")
+        || words.starts_with("explain")
+    {
         2
     } else {
         1
@@ -268,6 +338,7 @@ fn done<'t>(words: &'t str, first: &'t str, arrivals: &'t [u8], out: &'t str) ->
     Case {
         words,
         first: first.as_bytes(),
+        second: BORROWING,
         arrivals,
         trace: "",
         limits: ROOMY,
@@ -320,6 +391,7 @@ fn push_words(words: &mut Words, line: &str) -> Result<(), Fail> {
 /// Adds the files of the case.
 fn add_files(files: &mut MemoryFiles, case: &Case) -> Result<(), Fail> {
     files.add("a.toml", case.first)?;
+    files.add("u.toml", case.second.as_bytes())?;
     files.add("none.csv", case.arrivals)?;
     files.add("run.trace", case.trace.as_bytes())?;
     files.fail_read(case.limits.read)?;
@@ -435,6 +507,47 @@ fn verifies_recorded_traces(rt: HostRuntime) -> Result<(), Fail> {
     for (words, first, trace, err) in UNLAWFUL {
         let case = refused(words, first, Status::NotVerified, 3, err);
         expect(&rt, rt.alloc(), &Case { trace, ..case })?;
+    }
+    Ok(())
+}
+
+/// A change to this second plan, with these arrivals.
+fn change<'t>(second: &'t str, arrivals: &'t [u8], status: Status, out: &'t str) -> Case<'t> {
+    let reads = if status == Status::Infeasible || status == Status::BadTasks {
+        2
+    } else {
+        3
+    };
+    Case {
+        second,
+        status,
+        reads,
+        ..done(SWITCH, PAIR, arrivals, out)
+    }
+}
+
+#[test]
+fn changes_the_plan(rt: HostRuntime) -> Result<(), Fail> {
+    for (second, rows, status, out, err) in CHANGES {
+        let arrivals = bytes_of(rt.alloc(), rows)?;
+        let case = change(second, arrivals.as_slice(), status, out);
+        expect(&rt, rt.alloc(), &Case { err, ..case })?;
+    }
+    Ok(())
+}
+
+#[test]
+fn tells_each_failing_put_of_a_change(rt: HostRuntime) -> Result<(), Fail> {
+    let arrivals = bytes_of(rt.alloc(), "7,firm,2,3/")?;
+    let case = change(BORROWING, arrivals.as_slice(), Status::Done, CHANGED_12);
+    expect_each_put(&rt, rt.alloc(), &case)
+}
+
+#[test]
+fn refuses_before_it_writes(rt: HostRuntime) -> Result<(), Fail> {
+    for (words, status, reads, err) in NOT_THERE {
+        let case = refused(words, PAIR, status, reads, err);
+        expect(&rt, rt.alloc(), &case)?;
     }
     Ok(())
 }

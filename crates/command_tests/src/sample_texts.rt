@@ -249,3 +249,45 @@ pub const OFFERED_AGAIN_5: &str = "0 start | 0-7:5 7-8:0 8-15:5 15-16:0 16-23:5 
 4 run firm:3 | 5-7:1 7-8:-1 8-9:-2 9-15:4 15-16:0 16-23:5 23-24:0
 5 end
 ";
+
+/// What stands against five slots within seven, beside the pair and the alarm.
+pub const ALARM_WHY: &str = "0 firm 1 5 7 noroom 7 8 7 | 0-7:5 7-8:0 8-15:5 15-16:0 16-23:5 23-24:0
+job g.a#0 2 7
+arrival alarm 0
+offer 5 7
+";
+
+/// A cycle of the pair with two slots that are due a cycle later, and the change to the borrowing
+/// graphs after it.
+pub const CHANGED_12: &str = "0 start | 0-7:5 7-8:0 8-15:5 15-16:0 16-23:5 23-24:0
+0 run g.a#0 | 1-7:5 7-8:0 8-15:5 15-16:0 16-23:5 23-24:0
+1 run g.a#0 | 2-7:5 7-8:0 8-15:5 15-16:0 16-23:5 23-24:0
+2 run g.b#0 | 3-7:4 7-8:1 8-15:5 15-16:0 16-23:5 23-24:0
+3 idle | 4-7:3 7-8:1 8-15:5 15-16:0 16-23:5 23-24:0
+4 idle | 5-7:2 7-8:1 8-15:5 15-16:0 16-23:5 23-24:0
+5 idle | 6-7:1 7-8:1 8-15:5 15-16:0 16-23:5 23-24:0
+6 idle | 7-8:1 8-15:5 15-16:0 16-23:5 23-24:0
+7 firm 1 2 3 accepted | 7-8:1 8-10:0 10-15:3 15-16:0 16-23:5 23-24:0
+7 run firm:1 | 8-10:1 10-15:3 15-16:0 16-23:5 23-24:0 24-31:5 31-32:0
+8 end
+8 switch granted
+8 old firm:1
+9 new p.w#0
+10 new q.w#0
+11 new q.w#0
+12 end
+";
+
+/// The same cycle with three such slots, of which two are left.
+pub const UNCHANGED_8: &str = "0 start | 0-7:5 7-8:0 8-15:5 15-16:0 16-23:5 23-24:0
+0 run g.a#0 | 1-7:5 7-8:0 8-15:5 15-16:0 16-23:5 23-24:0
+1 run g.a#0 | 2-7:5 7-8:0 8-15:5 15-16:0 16-23:5 23-24:0
+2 run g.b#0 | 3-7:4 7-8:1 8-15:5 15-16:0 16-23:5 23-24:0
+3 idle | 4-7:3 7-8:1 8-15:5 15-16:0 16-23:5 23-24:0
+4 idle | 5-7:2 7-8:1 8-15:5 15-16:0 16-23:5 23-24:0
+5 idle | 6-7:1 7-8:1 8-15:5 15-16:0 16-23:5 23-24:0
+6 idle | 7-8:1 8-15:5 15-16:0 16-23:5 23-24:0
+7 firm 1 3 3 accepted | 7-8:0 8-10:-1 10-15:3 15-16:0 16-23:5 23-24:0
+7 run firm:1 | 8-10:0 10-15:3 15-16:0 16-23:5 23-24:0 24-31:5 31-32:0
+8 end
+";

@@ -11,7 +11,7 @@ ghost use Rattle.cycle_plan.specs.NearJobs.{IsNear, instance_of};
 use slot_core::{Job, Key, TaskSet};
 
 /// The job of the same task so many cycles later.
-pub fn later_job(tasks: &TaskSet, cycle: u32, cycles: u64, job: Job) -> Job
+pub(crate) fn later_job(tasks: &TaskSet, cycle: u32, cycles: u64, job: Job) -> Job
     requires sound { is_sound tasks.now ≡ true }
     requires cycle { cycle ≤ SLOT_LIMIT }
     requires cycles { cycles ≤ CYCLES_LIMIT }

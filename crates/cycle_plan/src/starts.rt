@@ -10,7 +10,7 @@ use std::alloc::Global;
 use std::cmp::Ordering;
 
 /// The jobs by start, then by deadline and key.
-pub fn sorted_by_start(alloc: Global, jobs: &[Job]) -> Result<Vec<Job>, Memory>
+pub(crate) fn sorted_by_start(alloc: Global, jobs: &[Job]) -> Result<Vec<Job>, Memory>
     ensures listed { IfOk result (λ sorted. IsPermutation jobs.now sorted.items) }
     ensures ordered { IfOk result (λ sorted. AreInStartOrder sorted.items) }
 {

@@ -24,7 +24,7 @@ pub fn arrivals_by(task: &Sporadic, end: u32) -> u64
 }
 
 /// The slots that the densest arrivals from slot 0 on need by `end`, or none from the limit on.
-pub fn needed_by(sporadics: &[Sporadic], end: u32) -> Option<u64>
+pub(crate) fn needed_by(sporadics: &[Sporadic], end: u32) -> Option<u64>
     ensures { MatchOption result
         (2 ^ 63 ≤ sporadic_demand sporadics.now [] 0 end)
         (λ n. (n ≡ sporadic_demand sporadics.now [] 0 end) × (n < 2 ^ 63)) }
@@ -41,7 +41,11 @@ pub fn needed_by(sporadics: &[Sporadic], end: u32) -> Option<u64>
 }
 
 /// The slots that the densest arrivals from slot 0 on need by each end from 0 to `last`.
-pub fn needed_table(alloc: Global, sporadics: &[Sporadic], last: u32) -> Result<List<u64>, Memory>
+pub(crate) fn needed_table(
+    alloc: Global,
+    sporadics: &[Sporadic],
+    last: u32,
+) -> Result<List<u64>, Memory>
     requires { last < 2 ^ 32 - 1 }
     ensures values { IfOk result (λ table. table
         ≡ map (λ x. sporadic_demand sporadics.now [] 0 x) (range_with_len 0 (last + 1))) }

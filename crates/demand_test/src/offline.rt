@@ -17,7 +17,7 @@ fn declared_slots(tasks: &[Task]) -> u64
 }
 
 /// The declared slots of all jobs that the graphs release in one cycle.
-pub fn offline_slots(graphs: &[Graph], cycle: u32) -> u64
+pub(crate) fn offline_slots(graphs: &[Graph], cycle: u32) -> u64
     requires few { length graphs.now ≤ GRAPH_LIMIT }
     requires in_range { All (λ graph. graph_in_range graph ≡ true) graphs.now }
     ensures value { result ≡ sum_by (graph_work cycle) graphs.now }

@@ -80,8 +80,8 @@ fn first_by_ends(ends: &Ends, arrivals: &[u64], from: usize) -> Option<Window>
     None
 }
 
-/// The failing window of least end from `from`, or none, where no window from `from` that ends after
-/// `last` fails.
+/// The failing window of least end from `from`, or none, where no window from `from` that ends
+/// after `last` fails.
 fn failing_from(ends: &Ends, arrivals: &[u64], from: usize, last: usize) -> Option<Window>
     requires from { from < length ends.now.sums.items }
     requires last { last < length ends.now.sums.items }
@@ -175,7 +175,7 @@ fn next_known(known: Known, from: usize, last: usize, started: &[Job]) -> Known
 
 /// The failing window of least start, and then of least end, or none: every start is tried. The
 /// jobs are in the order of their starts.
-pub fn first_failing(
+pub(crate) fn first_failing(
     alloc: Global,
     jobs: &[Job],
     sporadics: &[Sporadic],

@@ -49,7 +49,7 @@ fn push_name(line: &mut Line, name: &Name)
 }
 
 /// The length of the longest label of these rows of the task set, at most 49.
-pub fn label_width(tracks: &[Track], tasks: &TaskSet) -> usize
+pub(crate) fn label_width(tracks: &[Track], tasks: &TaskSet) -> usize
     requires { list_all (λ (t : MarkedRow). is_row_of tasks.now t.row) tracks.now ≡ true }
     ensures width { result ≡ rows_width tasks.now tracks.now }
     ensures short { result ≤ 49 }

@@ -3,7 +3,7 @@ use Rattle.std.specs.Prelude.{◌≡◌, ℕ, ◌<◌, List, length, take, Some,
 use Rattle.slot_core.specs.declared.jobs.Span.{Span}
 use Rattle.interval_row.specs.declared.table.Spot.{Spot}
 use Rattle.interval_row.specs.Tables.{span_at, spans_of_pairs, spot_at}
-use Rattle.guarantee.specs.declared.walk.Place.{Place}
+use Rattle.guarantee.specs.declared.walk.SpanPlace.{SpanPlace}
 
 -- the works of spans
 abbrev pub works : List Span → ℕ
@@ -11,7 +11,7 @@ works spans = sum_by (λ (s : Span). s.work) spans
 
 -- a place in a table: its spot and its span are those at its index, and the works of the spans
 -- before it are due
-pub record IsPlace (pairs : List (Spot × Span)) (place : Place) : Type 0 where
+pub record IsPlace (pairs : List (Spot × Span)) (place : SpanPlace) : Type 0 where
   pub within : place.index < length pairs
   pub spot : spot_at pairs place.index ≡ Some place.at
   pub span : span_at pairs place.index ≡ Some place.span

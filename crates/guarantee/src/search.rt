@@ -13,7 +13,7 @@ ghost use Rattle.guarantee.specs.Offers.{evidence_at, first_short};
 ghost use Rattle.guarantee.specs.Places.{IsPlace};
 ghost use Rattle.guarantee.specs.Stretches.{exceeds, evidence_of, IsLevelFrom, LeavesBetween, LeavesFrom, NeedsNone};
 
-use crate::walk::{Place, after, place_of};
+use crate::walk::{SpanPlace, after, place_of};
 use interval_row::SpareTable;
 use slot_core::{Evidence, Span, Steps};
 use sporadic_reserve::Reserve;
@@ -49,7 +49,7 @@ struct Tried {
 /// Where no time is too short, Ok tells how many slots are left beside those at each such time by
 /// which something is needed.
 #[inline(always)]
-pub fn first_short<T: SpareTable, L: Ledger>(
+pub(crate) fn first_short<T: SpareTable, L: Ledger>(
     table: &T,
     reserve: &Reserve,
     arrivals: u64,
@@ -95,7 +95,7 @@ fn first_short_on<T: SpareTable, L: Ledger>(
     reserve: &Reserve,
     ask: Ask,
     from: u64,
-    place: Place,
+    place: SpanPlace,
     steps: &mut Steps<L>,
 ) -> Result<u64, Evidence>
     requires table { IsTable (T.time table.now) (T.pairs table.now) (T.limit table.now) }
@@ -155,7 +155,7 @@ fn first_short_on<T: SpareTable, L: Ledger>(
 fn first_short_start<T: SpareTable, L: Ledger>(
     table: &T,
     ask: Ask,
-    place: Place,
+    place: SpanPlace,
     steps: &mut Steps<L>,
 ) -> Evidence
     requires table { IsTable (T.time table.now) (T.pairs table.now) (T.limit table.now) }

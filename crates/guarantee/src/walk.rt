@@ -11,7 +11,7 @@ use std::sync::ledger::Ledger;
 
 /// A place in a table: a span, and what is due before it.
 #[derive(Clone, Copy, PartialEq, Eq)]
-pub struct Place {
+pub struct SpanPlace {
     /// The spot of the span.
     pub at: Spot,
     /// How many spans are before it.
@@ -25,7 +25,11 @@ pub struct Place {
 /// The place of the first span that ends at a time or later. Each span up to there is read once,
 /// and only ends are compared.
 #[inline(always)]
-pub fn place_of<T: SpareTable, L: Ledger>(table: &T, time: u64, steps: &mut Steps<L>) -> Place
+pub(crate) fn place_of<T: SpareTable, L: Ledger>(
+    table: &T,
+    time: u64,
+    steps: &mut Steps<L>,
+) -> SpanPlace
     requires after { T.time table.now < time }
     requires within { time ≤ last_end (T.time table.now) (spans_of_pairs (T.pairs table.now)) }
     ensures table { IsTable (T.time table.now) (T.pairs table.now) (T.limit table.now) }
@@ -46,7 +50,7 @@ pub fn place_of<T: SpareTable, L: Ledger>(table: &T, time: u64, steps: &mut Step
 
 /// The place of the first span.
 #[inline(always)]
-fn front<T: SpareTable, L: Ledger>(table: &T, steps: &mut Steps<L>) -> Place
+fn front<T: SpareTable, L: Ledger>(table: &T, steps: &mut Steps<L>) -> SpanPlace
     ensures table { IsTable (T.time table.now) (T.pairs table.now) (T.limit table.now) }
     ensures place { IsPlace (T.pairs table.now) result }
     ensures first { result.index ≡ 0 }
@@ -54,7 +58,7 @@ fn front<T: SpareTable, L: Ledger>(table: &T, steps: &mut Steps<L>) -> Place
 {
     let _count = table.count();
     let at = table.first();
-    Place {
+    SpanPlace {
         at,
         index: 0,
         span: table.read(at, steps),
@@ -64,11 +68,11 @@ fn front<T: SpareTable, L: Ledger>(table: &T, steps: &mut Steps<L>) -> Place
 
 /// The place of the span after one. None exactly after the last.
 #[inline(always)]
-pub fn after<T: SpareTable, L: Ledger>(
+pub(crate) fn after<T: SpareTable, L: Ledger>(
     table: &T,
-    place: Place,
+    place: SpanPlace,
     steps: &mut Steps<L>,
-) -> Option<Place>
+) -> Option<SpanPlace>
     requires place { IsPlace (T.pairs table.now) place }
     ensures last { MatchOption result
         (place.index + 1 ≡ length (T.pairs table.now))
@@ -80,7 +84,7 @@ pub fn after<T: SpareTable, L: Ledger>(
 {
     let _count = table.count();
     let at = table.next(place.at)?;
-    Some(Place {
+    Some(SpanPlace {
         at,
         index: place.index + 1,
         span: table.read(at, steps),

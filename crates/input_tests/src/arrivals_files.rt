@@ -1,4 +1,5 @@
-//! Arrivals files for four slots of a pair of tasks beside an alarm: the arrivals of each, or its first fault.
+//! Arrivals files for four slots of a pair of tasks beside an alarm: the arrivals of each, or its
+//! first fault.
 
 ghost use Rattle.std.specs.Prelude.{◌≡◌, true};
 ghost use Rattle.slot_core.specs.Sets.Ranges.{is_sound};

@@ -10,7 +10,7 @@ use std::alloc::Global;
 
 /// The points of the first cycle, rising, of its jobs: the ends of their intervals, the starts of
 /// these above 0, and the cycle. One pass over the jobs, and one over the slots.
-pub fn cycle_points(alloc: Global, jobs: &[Job], cycle: u32) -> Result<Vec<u64>, Memory>
+pub(crate) fn cycle_points(alloc: Global, jobs: &[Job], cycle: u32) -> Result<Vec<u64>, Memory>
     requires some { 1 ≤ cycle }
     requires started { All (λ (j : Job). j.est < j.dl) jobs.now }
     requires due { All (λ (j : Job). j.dl ≤ cycle) jobs.now }

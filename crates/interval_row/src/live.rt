@@ -11,7 +11,7 @@ use slot_core::Span;
 
 /// Takes the first slot from the first row, and returns where the rows begin afterwards: a row that
 /// had no other slot is left behind.
-pub fn pass(rows: &mut Vec<Span>, head: usize) -> usize
+pub(crate) fn pass(rows: &mut Vec<Span>, head: usize) -> usize
     requires within { head ≤ vec_len rows.old }
     requires rows { AreRows (drop head rows.old.items) }
     requires goes_on { first_start (drop head rows.old.items) + 1
@@ -24,7 +24,7 @@ pub fn pass(rows: &mut Vec<Span>, head: usize) -> usize
 }
 
 /// More slots of work for the row that ends there.
-pub fn charge(rows: &mut Vec<Span>, head: usize, deadline: u64, slots: u32)
+pub(crate) fn charge(rows: &mut Vec<Span>, head: usize, deadline: u64, slots: u32)
     requires within { head ≤ vec_len rows.old }
     requires rows { AreRows (drop head rows.old.items) }
     requires due { IsSomeAnd (span_ending deadline (drop head rows.old.items))
@@ -37,7 +37,7 @@ pub fn charge(rows: &mut Vec<Span>, head: usize, deadline: u64, slots: u32)
 }
 
 /// Fewer slots of work for the row that ends there.
-pub fn give_back(rows: &mut Vec<Span>, head: usize, deadline: u64, slots: u32)
+pub(crate) fn give_back(rows: &mut Vec<Span>, head: usize, deadline: u64, slots: u32)
     requires within { head ≤ vec_len rows.old }
     requires rows { AreRows (drop head rows.old.items) }
     requires due { IsSomeAnd (span_ending deadline (drop head rows.old.items))
@@ -50,7 +50,7 @@ pub fn give_back(rows: &mut Vec<Span>, head: usize, deadline: u64, slots: u32)
 }
 
 /// Makes `at` the end of a row, and returns where the rows begin afterwards.
-pub fn split(rows: &mut Vec<Span>, head: usize, at: u64) -> usize
+pub(crate) fn split(rows: &mut Vec<Span>, head: usize, at: u64) -> usize
     requires within { head ≤ vec_len rows.old }
     requires rows { AreRows (drop head rows.old.items) }
     requires free { length (drop head rows.old.items) < vec_capacity rows.old }
@@ -72,7 +72,7 @@ pub fn split(rows: &mut Vec<Span>, head: usize, at: u64) -> usize
 
 /// Appends the spans to the rows from `head` on, shifted to the last end, and returns where the
 /// rows begin afterwards. Where the list has no places left at its end, the rows move to its front.
-pub fn extend(rows: &mut Vec<Span>, head: usize, spans: &[Span]) -> usize
+pub(crate) fn extend(rows: &mut Vec<Span>, head: usize, spans: &[Span]) -> usize
     requires within { head ≤ vec_len rows.old }
     requires rows { AreRows (drop head rows.old.items) }
     requires spans { AreRows spans.now }
@@ -92,7 +92,7 @@ pub fn extend(rows: &mut Vec<Span>, head: usize, spans: &[Span]) -> usize
 }
 
 /// Appends the spans, shifted to the last end.
-pub fn append(rows: &mut Vec<Span>, spans: &[Span])
+pub(crate) fn append(rows: &mut Vec<Span>, spans: &[Span])
     requires free { vec_len rows.old + length spans.now ≤ vec_capacity rows.old }
     requires spans { AreRows spans.now }
     requires near { last_end 0 rows.old.items + last_end 0 spans.now < 2 ^ 64 }
@@ -106,7 +106,7 @@ pub fn append(rows: &mut Vec<Span>, spans: &[Span])
 }
 
 /// The span, so many slots later.
-pub fn shifted(span: Span, by: u64) -> Span
+pub(crate) fn shifted(span: Span, by: u64) -> Span
     requires start { span.start + by < 2 ^ 64 }
     requires end { span.end + by < 2 ^ 64 }
     ensures { result ≡ shifted by span }

@@ -7,7 +7,7 @@ ghost use Rattle.interval_row.specs.ChainTables.{spans_of};
 ghost use Rattle.interval_row.specs.Changes.{after_pass, appended, cut, ends_before, span_ending, with_less, with_more};
 ghost use Rattle.interval_row.specs.Rows.{place_of, AreRows, HoldsInside};
 
-use crate::walk::{Place, find, find_hinted, set_work};
+use crate::walk::{FoundSpan, find, find_hinted, set_work};
 use crate::{live, rows, spares};
 use node_chain::Chain;
 use slot_core::{Span, Steps};
@@ -15,7 +15,7 @@ use std::sync::ledger::Ledger;
 
 /// Takes the first slot from the first span, which goes where that was its last. Returns the hint,
 /// and one less where the span went. At most three steps.
-pub fn pass<L: Ledger>(chain: &mut Chain, hint: u32, steps: &mut Steps<L>) -> u32
+pub(crate) fn pass<L: Ledger>(chain: &mut Chain, hint: u32, steps: &mut Steps<L>) -> u32
     requires rows { AreRows (spans_of chain.old.pairs) }
     requires goes_on { first_start (spans_of chain.old.pairs) + 1
         < last_end 0 (spans_of chain.old.pairs) }
@@ -49,7 +49,7 @@ fn later_start(row: Span) -> Span
 
 /// More slots of work for the span that ends there, which is looked for at the hint first. Returns
 /// how many spans stand before it.
-pub fn charge<L: Ledger>(
+pub(crate) fn charge<L: Ledger>(
     chain: &mut Chain,
     hint: u32,
     deadline: u64,
@@ -75,7 +75,7 @@ pub fn charge<L: Ledger>(
 
 /// Fewer slots of work for the span that ends there, which is looked for at the hint first. Returns
 /// how many spans stand before it.
-pub fn give_back<L: Ledger>(
+pub(crate) fn give_back<L: Ledger>(
     chain: &mut Chain,
     hint: u32,
     deadline: u64,
@@ -126,7 +126,7 @@ fn relieved(row: Span, slots: u32) -> Span
 }
 
 /// Makes `at` the end of a span. Returns how many spans stand before it.
-pub fn split<L: Ledger>(chain: &mut Chain, at: u64, steps: &mut Steps<L>) -> u32
+pub(crate) fn split<L: Ledger>(chain: &mut Chain, at: u64, steps: &mut Steps<L>) -> u32
     requires rows { AreRows (spans_of chain.old.pairs) }
     requires free { length chain.old.pairs < chain.old.capacity }
     requires after { first_start (spans_of chain.old.pairs) < at }
@@ -148,7 +148,7 @@ pub fn split<L: Ledger>(chain: &mut Chain, at: u64, steps: &mut Steps<L>) -> u32
 }
 
 /// The span at a place becomes two at `at`, with their capacities. Four steps.
-fn halve<L: Ledger>(chain: &mut Chain, place: Place, at: u64, steps: &mut Steps<L>)
+fn halve<L: Ledger>(chain: &mut Chain, place: FoundSpan, at: u64, steps: &mut Steps<L>)
     requires rows { AreRows (spans_of chain.old.pairs) }
     requires free { length chain.old.pairs < chain.old.capacity }
     requires found { place.index ≡ place_of at (spans_of chain.old.pairs) }
@@ -167,7 +167,7 @@ fn halve<L: Ledger>(chain: &mut Chain, place: Place, at: u64, steps: &mut Steps<
 }
 
 /// Appends the spans, so many slots later. Two steps each.
-pub fn append<L: Ledger>(chain: &mut Chain, spans: &[Span], by: u64, steps: &mut Steps<L>)
+pub(crate) fn append<L: Ledger>(chain: &mut Chain, spans: &[Span], by: u64, steps: &mut Steps<L>)
     requires free { length chain.old.pairs + length spans.now ≤ chain.old.capacity }
     requires spans { AreRows spans.now }
     requires end { by ≡ last_end 0 (spans_of chain.old.pairs) }

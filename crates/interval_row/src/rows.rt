@@ -9,7 +9,7 @@ use slot_core::Span;
 use spare_capacity::{fill_front, refill_back};
 
 /// The place of the first row that ends at `x` or later, or the number of rows where there is none.
-pub fn place_of(rows: &[Span], x: u64) -> usize
+pub(crate) fn place_of(rows: &[Span], x: u64) -> usize
     requires { AreRows rows.now }
     ensures { result ≡ place_of x rows.now }
 {
@@ -17,7 +17,7 @@ pub fn place_of(rows: &[Span], x: u64) -> usize
 }
 
 /// The last end, or 0 where there is no row.
-pub fn last_end(rows: &[Span]) -> u64
+pub(crate) fn last_end(rows: &[Span]) -> u64
     ensures { result ≡ last_end 0 rows.now }
 {
     match rows {
@@ -27,7 +27,7 @@ pub fn last_end(rows: &[Span]) -> u64
 }
 
 /// Takes the first slot from the first row, and tells whether that was its last.
-pub fn pass(rows: &mut [Span]) -> bool
+pub(crate) fn pass(rows: &mut [Span]) -> bool
     requires rows { AreRows rows.old }
     requires goes_on { first_start rows.old + 1 < last_end 0 rows.old }
     ensures { (if result then drop 1 rows.new else rows.new) ≡ filled (after_pass rows.old) }
@@ -43,7 +43,7 @@ pub fn pass(rows: &mut [Span]) -> bool
 }
 
 /// More slots of work for the row that ends there.
-pub fn charge(rows: &mut [Span], deadline: u64, slots: u32)
+pub(crate) fn charge(rows: &mut [Span], deadline: u64, slots: u32)
     requires rows { AreRows rows.old }
     requires due { IsSomeAnd (span_ending deadline rows.old) (λ s. s.work + slots ≤ 2 ^ 40) }
     ensures { rows.new ≡ filled (with_more deadline slots rows.old) }
@@ -54,7 +54,7 @@ pub fn charge(rows: &mut [Span], deadline: u64, slots: u32)
 }
 
 /// Fewer slots of work for the row that ends there.
-pub fn give_back(rows: &mut [Span], deadline: u64, slots: u32)
+pub(crate) fn give_back(rows: &mut [Span], deadline: u64, slots: u32)
     requires rows { AreRows rows.old }
     requires due { IsSomeAnd (span_ending deadline rows.old) (λ s. slots ≤ s.work) }
     ensures { rows.new ≡ filled (with_less deadline slots rows.old) }
@@ -77,7 +77,7 @@ fn set_work(rows: &mut [Span], place: usize, work: u64)
 
 /// The row after this place becomes two at `at`, and the capacities follow. What stands at this
 /// place is lost.
-pub fn halve(rows: &mut [Span], place: usize, at: u64)
+pub(crate) fn halve(rows: &mut [Span], place: usize, at: u64)
     requires within { place + 1 < length rows.old }
     requires few { length rows.old ≤ 2 ^ 20 }
     requires rows { AreRows (remove rows.old place) }
@@ -92,7 +92,7 @@ pub fn halve(rows: &mut [Span], place: usize, at: u64)
 }
 
 /// The part of the row before `at`, without work.
-pub fn part_before(row: Span, at: u64) -> Span
+pub(crate) fn part_before(row: Span, at: u64) -> Span
     ensures { result ≡ part_before at row }
 {
     Span {
@@ -103,7 +103,7 @@ pub fn part_before(row: Span, at: u64) -> Span
 }
 
 /// The part of the row from `at` on, with all its work.
-pub fn part_from(row: Span, at: u64) -> Span
+pub(crate) fn part_from(row: Span, at: u64) -> Span
     ensures { result ≡ part_from at row }
 {
     Span { start: at, ..row }

@@ -8,7 +8,7 @@ use slot_core::Span;
 use spare_capacity::with_spare;
 
 /// The span with its capacity, where this is the span after it.
-pub fn refilled(row: Span, after: Span) -> Span
+pub(crate) fn refilled(row: Span, after: Span) -> Span
     requires short { IsShort row }
     requires borrows_few { neg_ℤ (pos (2 ^ 61)) ≤ℤ after.spare }
     ensures { result ≡ with_spare row after.spare }
@@ -17,7 +17,7 @@ pub fn refilled(row: Span, after: Span) -> Span
 }
 
 /// The span with so many slots less to spare.
-pub fn lowered(row: Span, slots: u64) -> Span
+pub(crate) fn lowered(row: Span, slots: u64) -> Span
     requires low { neg_ℤ (pos (2 ^ 60)) ≤ℤ row.spare }
     requires few { slots ≤ 2 ^ 40 }
     ensures { result ≡ record row { spare = row.spare -ℤ pos slots } }
@@ -29,7 +29,7 @@ pub fn lowered(row: Span, slots: u64) -> Span
 }
 
 /// The span with so many slots more to spare.
-pub fn raised(row: Span, slots: u64) -> Span
+pub(crate) fn raised(row: Span, slots: u64) -> Span
     requires high { row.spare ≤ℤ pos (2 ^ 60) }
     requires few { slots ≤ 2 ^ 40 }
     ensures { result ≡ record row { spare = row.spare +ℤ pos slots } }
@@ -41,7 +41,7 @@ pub fn raised(row: Span, slots: u64) -> Span
 }
 
 /// Whether both spans have the same capacity.
-pub fn spare_alike(before: Span, after: Span) -> bool
+pub(crate) fn spare_alike(before: Span, after: Span) -> bool
     ensures { IsTrue result ↔ before.spare ≡ after.spare }
 {
     before.spare == after.spare

@@ -14,13 +14,13 @@ use std::sync::ledger::Ledger;
 
 /// A span of a chain: how many stand before it, and what it is.
 #[derive(Clone, Copy)]
-pub struct Place {
+pub struct FoundSpan {
     pub index: u32,
     pub row: Span,
 }
 
 /// The span with so many before it. One step.
-pub fn span<L: Ledger>(chain: &Chain, index: u32, steps: &mut Steps<L>) -> Span
+pub(crate) fn span<L: Ledger>(chain: &Chain, index: u32, steps: &mut Steps<L>) -> Span
     requires { index < length chain.now.pairs }
     ensures span { span_at chain.now.pairs index ≡ Some result }
     ensures one_step { steps.new ≡ steps.old + 1 }
@@ -29,7 +29,7 @@ pub fn span<L: Ledger>(chain: &Chain, index: u32, steps: &mut Steps<L>) -> Span
 }
 
 /// The first span that ends at `x` or later. One step for each that ends before, and one.
-pub fn find<L: Ledger>(chain: &Chain, x: u64, steps: &mut Steps<L>) -> Place
+pub(crate) fn find<L: Ledger>(chain: &Chain, x: u64, steps: &mut Steps<L>) -> FoundSpan
     requires { place_of x (spans_of chain.now.pairs) < length chain.now.pairs }
     ensures index { result.index ≡ place_of x (spans_of chain.now.pairs) }
     ensures row { span_at chain.now.pairs result.index ≡ Some result.row }
@@ -38,7 +38,7 @@ pub fn find<L: Ledger>(chain: &Chain, x: u64, steps: &mut Steps<L>) -> Place
     for index in 0..chain.len() {
         let row = span(chain, index, steps);
         if x <= row.end {
-            return Place { index, row };
+            return FoundSpan { index, row };
         }
     }
     unreachable!()
@@ -46,7 +46,12 @@ pub fn find<L: Ledger>(chain: &Chain, x: u64, steps: &mut Steps<L>) -> Place
 
 /// The same. The span at the hint is looked at first: where that is the one, and ends at `x`, one
 /// step. At most one step more than without a hint.
-pub fn find_hinted<L: Ledger>(chain: &Chain, hint: u32, x: u64, steps: &mut Steps<L>) -> Place
+pub(crate) fn find_hinted<L: Ledger>(
+    chain: &Chain,
+    hint: u32,
+    x: u64,
+    steps: &mut Steps<L>,
+) -> FoundSpan
     requires rows { AreRows (spans_of chain.now.pairs) }
     requires within { place_of x (spans_of chain.now.pairs) < length chain.now.pairs }
     ensures index { result.index ≡ place_of x (spans_of chain.now.pairs) }
@@ -59,7 +64,7 @@ pub fn find_hinted<L: Ledger>(chain: &Chain, hint: u32, x: u64, steps: &mut Step
     if hint < chain.len() {
         let row = span(chain, hint, steps);
         if row.end == x {
-            return Place { index: hint, row };
+            return FoundSpan { index: hint, row };
         }
     }
     find(chain, x, steps)
@@ -68,7 +73,12 @@ pub fn find_hinted<L: Ledger>(chain: &Chain, hint: u32, x: u64, steps: &mut Step
 /// The span at a place becomes this one, with another work and its capacity, and the capacities
 /// before follow, which ends at the first that stays. At most one step, and two for each span
 /// before.
-pub fn set_work<L: Ledger>(chain: &mut Chain, place: Place, row: Span, steps: &mut Steps<L>)
+pub(crate) fn set_work<L: Ledger>(
+    chain: &mut Chain,
+    place: FoundSpan,
+    row: Span,
+    steps: &mut Steps<L>,
+)
     requires rows { AreRows (spans_of chain.old.pairs) }
     requires row { span_at chain.old.pairs place.index ≡ Some place.row }
     requires few { row.work ≤ 2 ^ 40 }

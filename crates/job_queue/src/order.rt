@@ -8,14 +8,14 @@ ghost use Rattle.slot_core.specs.Offline.Keys.{is_earlier, same_key};
 use slot_core::{Job, Key};
 
 /// Whether the two keys are one.
-pub fn is_same_key(a: Key, b: Key) -> bool
+pub(crate) fn is_same_key(a: Key, b: Key) -> bool
     ensures { result ≡ same_key a b }
 {
     a == b
 }
 
 /// Of two candidates, the one that goes before the other; the first where they are level.
-pub fn earlier_of<'a>(best: Option<&'a Job>, job: &'a Job) -> Option<&'a Job>
+pub(crate) fn earlier_of<'a>(best: Option<&'a Job>, job: &'a Job) -> Option<&'a Job>
     ensures { option_copied result ≡ earlier_of (option_copied best.entry) job.now }
 {
     match best {

@@ -13,9 +13,9 @@ use Rattle.slot_core.specs.Offline.OfflineJobs.{cycle_jobs}
 use Rattle.slot_core.specs.Feasibility.Feasible.{IsFeasible, demand, counterexample}
 use Rattle.slot_core.specs.Claims.Growth.{longer_task, with_longer_task, longer_sporadic, grown, StillFits, IsMargin}
 use Rattle.slot_facts.proofs.Demand.Feasible.{counterexample-fails}
-use Rattle.margin_find.specs.Laws.{DemandOnlyRises, CycleStays, LessGrowthFits, MarginsAreUnique}
+use Rattle.margin_find.specs.Laws.{CycleStays, DemandOnlyRises, LessGrowthFits, MarginsAreUnique, WindowsOnlyShrink}
 use Rattle.margin_find.proofs.LongerChains.{IsNoLonger}
-use Rattle.margin_find.proofs.LongerSets.{GraphIsNoLonger, SporadicIsNoLonger, SetIsNoLonger, cycle_of-same, demand-rises}
+use Rattle.margin_find.proofs.LongerSets.{cycle_jobs-pairs, GraphIsNoLonger, SporadicIsNoLonger, SetIsNoLonger, cycle_of-same, demand-rises}
 use Rattle.margin_find.proofs.Pairs.{Pairwise-itself, Pairwise-changed_at, Pairwise-changed, Pairwise-unchanged}
 
 -- everything is no longer than itself
@@ -106,6 +106,11 @@ set-pairs set (SporadicPart index) growth =
 pub cycle_stays : CycleStays
 cycle_stays set part growth =
     sym (cycle_of-same set (grown set part growth) (set-pairs set part growth))
+
+-- with more growth windows only shrink
+pub windows_only_shrink : WindowsOnlyShrink
+windows_only_shrink set part less more low cycle n =
+    cycle_jobs-pairs (grown set part less) (grown set part more) cycle n (grown-pairs set part less more low)
 
 pub demand_only_rises : DemandOnlyRises
 demand_only_rises set part less more low cycle a b =

@@ -5,7 +5,8 @@ use Rattle.std.specs.List.{list_any, range_with_len}
 use Rattle.std.proofs.lemmas.List.Sums.{sum_by-le-sum_by}
 use Rattle.slot_core.specs.declared.tasks.Task.{Task}
 use Rattle.slot_core.specs.Offline.Precedence.{after_of, wcet_of, comes_after, predecessors, successors, chains, longest_before, longest_after}
-use Rattle.margin_find.proofs.Pairs.{Pairwise, Pairwise-at, Pairwise-length}
+use Rattle.margin_find.specs.Laws.{Pairwise}
+use Rattle.margin_find.proofs.Pairs.{Pairwise-at, Pairwise-length}
 
 -- the first task is the second, with no more slots in the worst case
 pub record IsNoLonger (task longer : Task) : Type 0 where

@@ -16,8 +16,9 @@ use Rattle.slot_core.specs.Sets.Cycles.{least_common_multiple, cycle_lengths, cy
 use Rattle.slot_core.specs.Offline.OfflineJobs.{tasks_of, release_of, raw_job, instance_jobs, graph_jobs, raw_jobs, chain_before, chain_after, derived_job, cycle_jobs}
 use Rattle.slot_core.specs.Feasibility.Sporadics.{arrivals_due, sporadic_demand}
 use Rattle.slot_core.specs.Feasibility.Feasible.{declared_within, demand}
+use Rattle.margin_find.specs.Laws.{HasNoMoreRoom, Pairwise}
 use Rattle.margin_find.proofs.LongerChains.{IsNoLonger, longest_before-rises, longest_after-rises}
-use Rattle.margin_find.proofs.Pairs.{Pairwise, AtPlace, Pairwise-same, Pairwise-map, Pairwise-flat_map, Pairwise-joined, Pairwise-enumerate, Pairwise-at, Pairwise-sum}
+use Rattle.margin_find.proofs.Pairs.{AtPlace, Pairwise-same, Pairwise-map, Pairwise-flat_map, Pairwise-joined, Pairwise-enumerate, Pairwise-at, Pairwise-sum}
 
 -- the first graph is the second, with tasks that are no longer
 pub record GraphIsNoLonger (graph longer : Graph) : Type 0 where
@@ -117,18 +118,14 @@ raw_jobs-pairs set longer cycle n h =
     (graph_jobs-pairs cycle n)
     (Pairwise-enumerate GraphIsNoLonger 0 set.graphs longer.graphs h.graphs)
 
--- the job of longer tasks starts no earlier, is due no later and has no fewer slots
-pub record JobIsNoLonger (job longer : Job) : Type 0 where
-  pub est : job.est ≤ longer.est
-  pub dl : longer.dl ≤ job.dl
-  pub declared : job.declared ≤ longer.declared
-
-pub cycle_jobs-pairs : (set longer : TaskSet) (cycle n : ℕ) → SetIsNoLonger set longer → Pairwise JobIsNoLonger (cycle_jobs set cycle n) (cycle_jobs longer cycle n)
+-- each job of longer tasks is no shorter
+pub cycle_jobs-pairs : (set longer : TaskSet) (cycle n : ℕ) → SetIsNoLonger set longer → Pairwise HasNoMoreRoom (cycle_jobs set cycle n) (cycle_jobs longer cycle n)
 cycle_jobs-pairs set longer cycle n h =
-    Pairwise-map RawIsNoLonger JobIsNoLonger (derived_job set) (derived_job longer) (raw_jobs set cycle n) (raw_jobs longer cycle n) (λ raw other r.
+    Pairwise-map RawIsNoLonger HasNoMoreRoom (derived_job set) (derived_job longer) (raw_jobs set cycle n) (raw_jobs longer cycle n) (λ raw other r.
     let before : chain_before set raw.key ≤ chain_before longer other.key = subst (λ key. chain_before set raw.key ≤ chain_before longer key) r.key (chain_before-rises set longer raw.key h) in
     let after : chain_after set raw.key ≤ chain_after longer other.key = subst (λ key. chain_after set raw.key ≤ chain_after longer key) r.key (chain_after-rises set longer raw.key h) in
     record {
+      key = r.key;
       est = omega (arith, r.release);
       dl = omega (arith, r.deadline);
       declared = r.wcet;
@@ -138,10 +135,10 @@ cycle_jobs-pairs set longer cycle n h =
 counts_for_no_more : (a b shift est later dl earlier d more : ℕ) → est ≤ later → earlier ≤ dl → d ≤ more → (if nat_le a (est + shift) && nat_le (dl + shift) b then d else 0) ≤ (if nat_le a (later + shift) && nat_le (earlier + shift) b then more else 0)
 counts_for_no_more a b shift est later dl earlier d more starts ends fewer = grind (arith, nat_tests)
 
-declared_within-rises : (jobs longer : List Job) (shift a b : ℕ) → Pairwise JobIsNoLonger jobs longer → declared_within jobs shift a b ≤ declared_within longer shift a b
+declared_within-rises : (jobs longer : List Job) (shift a b : ℕ) → Pairwise HasNoMoreRoom jobs longer → declared_within jobs shift a b ≤ declared_within longer shift a b
 declared_within-rises jobs longer shift a b h =
     Pairwise-sum
-    JobIsNoLonger
+    HasNoMoreRoom
     (λ (j : Job). if nat_le a (j.est + shift) && nat_le (j.dl + shift) b then j.declared else 0)
     (λ (j : Job). if nat_le a (j.est + shift) && nat_le (j.dl + shift) b then j.declared else 0)
     jobs

@@ -1,5 +1,5 @@
 -- The margins that were found write the text of their set.
-use Rattle.std.proofs.Common.{◌≡◌, ℕ, suc, ◌+◌, ◌-◌, ◌*◌, ◌≤◌, ◌<◌, true, List, [], ◌∷◌, ◌++◌, map, Option, None, Some, refl, sym, subst, ap, ◌∙◌, arith}
+use Rattle.std.proofs.Common.{◌≡◌, ℕ, zero, suc, ◌+◌, ◌-◌, ◌*◌, ◌≤◌, ◌<◌, true, List, [], ◌∷◌, ◌++◌, map, Option, None, Some, refl, sym, subst, ap, ◌∙◌, arith}
 use Rattle.std.specs.Prelude.{All, flat_map, option_map}
 use Rattle.std.specs.List.{range_with_len}
 use Rattle.std.specs.Option.{option_map_or}
@@ -12,13 +12,14 @@ use Rattle.slot_core.specs.Claims.Growth.{IsMargin, StillFits, grown}
 use Rattle.slot_core.specs.Feasibility.Feasible.{IsFeasible, counterexample, demand, first_some}
 use Rattle.slot_core.specs.Sets.Cycles.{cycle_of}
 use Rattle.slot_core.specs.Sets.Ranges.{is_sound}
-use Rattle.slot_facts.proofs.Demand.Feasible.{none-from_feasible}
+use Rattle.slot_facts.proofs.Demand.Feasible.{IsFeasible-from_none, none-from_feasible}
 use Rattle.slot_facts.proofs.Lists.FirstSome.{first_some-found}
 use Rattle.slot_facts.proofs.Offline.Jobs.{cycle-positive}
 use Rattle.margin_find.specs.declared.margin.TaskMargin.{TaskMargin}
 use Rattle.margin_find.specs.Parts.{IsTaskOf, jobs_in_cycle}
 use Rattle.margin_find.specs.Texts.{AreMargins, margin_line, margin_lines, margin_of, margin_text, parts_of}
-use Rattle.margin_find.proofs.Growths.{cycle_stays}
+use Rattle.margin_find.specs.Laws.{EachTaskHasItsMargin}
+use Rattle.margin_find.proofs.Growths.{IsMargin-from_search, cycle_stays, fits_itself}
 use Rattle.margin_find.proofs.MarginLists.{parts-of}
 use Rattle.margin_find.proofs.WholeCycle.{jobs_in_cycle-positive, whole-grows}
 
@@ -49,6 +50,21 @@ module _ (set : TaskSet) (sound : is_sound set ≡ true) where
       let before = λ (g : ℕ) (from : 0 ≤ g) (less : g < m.margin.growth). ap (option_map (λ (w : Window). let r : TaskMargin = record { at = m.at; margin = record { growth = g; window = w } } in r)) (none-from_fits m.at (g + 1) (is.fits (g + 1) (omega (arith, less)))) in
       first_some-found found m 0 (cycle_of set + 1) m.margin.growth (omega arith) low before (ap (option_map (λ (w : Window). let r : TaskMargin = record { at = m.at; margin = record { growth = m.margin.growth; window = w } } in r)) is.first)
 
+  -- from a growth that fits on, the first that has a counterexample is found within the cycle
+  margin-from : (part : Part) → IsTaskOf set part → (n growth : ℕ) → growth + n ≡ cycle_of set + 1 → StillFits set part growth → (found : ℕ) × (window : Window) × IsMargin set part found window
+  margin-from part of zero growth end fits = absurd (omega (arith, growth-at_most part growth of fits, end))
+  margin-from part of (suc n) growth end fits =
+      by_found (counterexample longer (cycle_of longer)) refl (λ none. margin-from part of n (growth + 1) (omega (arith, end)) (IsFeasible-from_none longer (cycle_of longer) none))
+    where
+      longer : TaskSet
+      longer = grown set part (growth + 1)
+
+      by_found : (o : Option Window) → counterexample longer (cycle_of longer) ≡ o → (counterexample longer (cycle_of longer) ≡ None → (found : ℕ) × (window : Window) × IsMargin set part found window) → (found : ℕ) × (window : Window) × IsMargin set part found window
+      by_found None none later = later none
+      by_found (Some window) found later =
+          let positive : 0 < cycle_of longer = omega (arith, cycle_stays set part (growth + 1), cycle-positive set sound) in
+          (growth, window, IsMargin-from_search set part growth window positive fits found)
+
   -- the lines of margins are those of their tasks
   lines-from_margins : (found : List TaskMargin) → All (λ (m : TaskMargin). IsTaskOf set m.at) found → All (λ (m : TaskMargin). IsMargin set m.at m.margin.growth m.margin.window) found → margin_lines set found ≡ flat_map (λ part. option_map_or (margin_line set) (margin_of set part) []) (map (λ (m : TaskMargin). m.at) found)
   lines-from_margins [] of are = refl
@@ -63,3 +79,10 @@ module _ (set : TaskSet) (sound : is_sound set ≡ true) where
   text-from_margins found of are =
       lines-from_margins found of are.margins
       ∙ ap (flat_map (λ part. option_map_or (margin_line set) (margin_of set part) [])) are.places
+
+-- each task of a feasible set has a margin
+pub each_task_has_its_margin : EachTaskHasItsMargin
+each_task_has_its_margin set part sound feasible of =
+    let (growth, window, is) = margin-from set sound part of (cycle_of set + 1) 0 (omega arith) (fits_itself set part feasible) in
+    let m : TaskMargin = record { at = part; margin = record { growth = growth; window = window } } in
+    (m, margin_of-from_IsMargin set sound m of is, refl, is)

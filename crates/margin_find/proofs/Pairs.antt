@@ -6,13 +6,7 @@ use Rattle.std.specs.Option.{option_map_or}
 use Rattle.std.proofs.lemmas.List.Elements.{All-nil, All-cons, All-head, All-tail}
 use Rattle.std.proofs.lemmas.List.Sums.{sum_by-cons}
 use Rattle.slot_core.specs.Claims.Growth.{changed_at}
-
--- the lists have the same length, and items at the same place are related
-abbrev pub Pairwise : {X : Type 0} → (X → X → Type 0) → List X → List X → Type 0
-Pairwise R [] [] = ⊤
-Pairwise R [] (y ∷ ys) = ⊥
-Pairwise R (x ∷ xs) [] = ⊥
-Pairwise R (x ∷ xs) (y ∷ ys) = R x y × Pairwise R xs ys
+use Rattle.margin_find.specs.Laws.{Pairwise}
 
 pub Pairwise-length : {X : Type 0} (R : X → X → Type 0) (xs ys : List X) → Pairwise R xs ys → length xs ≡ length ys
 Pairwise-length R [] [] h = refl

@@ -21,11 +21,12 @@ use Rattle.slot_core.specs.Offline.Precedence.{after_of, leads_to, is_on_loop}
 use Rattle.slot_core.specs.Claims.Growth.{changed_at, longer_task, with_longer_task, longer_sporadic, grown}
 use Rattle.slot_facts.proofs.Lists.Tests.{find-same, list_any-same}
 use Rattle.slot_facts.proofs.Sets.Ranges.{bounds}
+use Rattle.margin_find.specs.Laws.{Pairwise, WindowsOnlyShrink}
 use Rattle.margin_find.specs.Parts.{wcet_at}
 use Rattle.margin_find.proofs.Growths.{set-pairs}
 use Rattle.margin_find.proofs.LongerChains.{IsNoLonger, after_of-same}
 use Rattle.margin_find.proofs.LongerSets.{GraphIsNoLonger, SporadicIsNoLonger, SetIsNoLonger, cycle_lengths-same}
-use Rattle.margin_find.proofs.Pairs.{Pairwise, Pairwise-same, Pairwise-length}
+use Rattle.margin_find.proofs.Pairs.{Pairwise-same, Pairwise-length}
 
 -- the first fault along lists that are related
 first_fault-same : {X : Type 0} (R : X → X → Type 0) (f h : ℕ → X → Option TaskFault) (n : ℕ) (xs ys : List X) → ((k : ℕ) (x y : X) → R x y → f k x ≡ h k y) → Pairwise R xs ys → first_fault f n xs ≡ first_fault h n ys

@@ -28,11 +28,12 @@ use Rattle.slot_facts.proofs.Offline.Jobs.{cycle-multiple, cycle-positive, cycle
 use Rattle.slot_facts.proofs.Sets.Tasks.{slice_get-within}
 use Rattle.demand_test.specs.Totals.{graph_work}
 use Rattle.demand_test.proofs.CycleTotals.{cycle_jobs-slots, cycle_jobs-within, window_demand-cycle}
+use Rattle.margin_find.specs.Laws.{HasNoMoreRoom}
 use Rattle.margin_find.specs.declared.search.Bounds.{Bounds}
 use Rattle.margin_find.specs.Parts.{IsTaskOf, jobs_in_cycle, wcet_at}
 use Rattle.margin_find.specs.Search.{AreBounds, StaysSound}
 use Rattle.margin_find.proofs.Growths.{set-pairs, cycle_stays, fits_itself}
-use Rattle.margin_find.proofs.LongerSets.{JobIsNoLonger, cycle_jobs-pairs}
+use Rattle.margin_find.proofs.LongerSets.{cycle_jobs-pairs}
 use Rattle.margin_find.proofs.Pairs.{Pairwise-all}
 use Rattle.margin_find.proofs.SoundGrowths.{grown-sound}
 
@@ -50,7 +51,7 @@ whole-grown : (set : TaskSet) (part : Part) (growth : ℕ) → is_sound set ≡ 
 whole-grown set part growth sound =
     let longer = grown set part growth in
     let cycle = cycle_of set in
-    let within = Pairwise-all JobIsNoLonger (λ (j : Job). j.dl ≤ cycle) (λ (j : Job). j.dl ≤ cycle) (cycle_jobs set cycle 0) (cycle_jobs longer cycle 0) (λ i j r low. omega (arith, r.dl)) (cycle_jobs-within set cycle sound) (cycle_jobs-pairs set longer cycle 0 (set-pairs set part growth)) in
+    let within = Pairwise-all HasNoMoreRoom (λ (j : Job). j.dl ≤ cycle) (λ (j : Job). j.dl ≤ cycle) (cycle_jobs set cycle 0) (cycle_jobs longer cycle 0) (λ i j r low. omega (arith, r.dl)) (cycle_jobs-within set cycle sound) (cycle_jobs-pairs set longer cycle 0 (set-pairs set part growth)) in
     window_demand-cycle (cycle_jobs longer cycle 0) longer.sporadics cycle within
     ∙ ap (λ n. n + sporadic_demand longer.sporadics [] 0 cycle) (cycle_jobs-slots longer cycle 0)
 

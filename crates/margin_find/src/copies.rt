@@ -146,7 +146,12 @@ fn lengthen(set: &mut TaskSet, at: Part, by: u32)
 }
 
 /// A copy of the set with a task or sporadic task of it longer.
-pub fn longer_set(alloc: Global, tasks: &TaskSet, at: Part, by: u32) -> Result<TaskSet, Memory>
+pub(crate) fn longer_set(
+    alloc: Global,
+    tasks: &TaskSet,
+    at: Part,
+    by: u32,
+) -> Result<TaskSet, Memory>
     requires of { IsTaskOf tasks.now at }
     requires few { wcet_at tasks.now at + by < 2 ^ 32 }
     ensures { IfOk result (λ longer. longer ≡ grown tasks.now at by) }

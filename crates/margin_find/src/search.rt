@@ -32,8 +32,8 @@ fn refusal(alloc: Global, tasks: &TaskSet, at: Part, growth: u32) -> Result<Opti
     counterexample(alloc, &longer)
 }
 
-/// The growth to try next: first the greatest for which the whole cycle has slots, then the one that
-/// is likely and one slot more, then halves.
+/// The growth to try next: first the greatest for which the whole cycle has slots, then the one
+/// that is likely and one slot more, then halves.
 fn next_try(fits: u32, fails: u32, whole: u32, likely: u32) -> u32
     requires { fits + 1 < fails }
     ensures { (fits < result) × (result < fails) }
@@ -81,7 +81,7 @@ fn nearer(
 }
 
 /// Bounds one slot apart.
-pub fn narrowed(
+pub(crate) fn narrowed(
     alloc: Global,
     tasks: &TaskSet,
     at: Part,

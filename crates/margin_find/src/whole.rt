@@ -41,7 +41,7 @@ fn jobs_of(tasks: &TaskSet, cycle: u32, at: Part) -> u64
 }
 
 /// What the whole cycle leaves over bounds the growth: each job of the task takes one slot more.
-pub fn by_whole_cycle(tasks: &TaskSet, cycle: u32, at: Part) -> Bounds
+pub(crate) fn by_whole_cycle(tasks: &TaskSet, cycle: u32, at: Part) -> Bounds
     requires sound { is_sound tasks.now ≡ true }
     requires cycle { cycle ≡ cycle_of tasks.now }
     requires feasible { IsFeasible tasks.now cycle }

@@ -13,7 +13,7 @@ pub const ENDS: u32 = 0;
 
 /// Takes the unused place for a span before the node at `after`, and returns the unused place that
 /// it named. Two steps: the new node, and the one before it.
-pub fn join<L: Ledger>(
+pub(crate) fn join<L: Ledger>(
     block: &mut Block,
     place: u32,
     after: u32,
@@ -44,7 +44,7 @@ pub fn join<L: Ledger>(
 
 /// Takes the first node out, and puts its place in front of the unused ones. Two steps: that node,
 /// and the one after it.
-pub fn part<L: Ledger>(block: &mut Block, unused: u32, steps: &mut Steps<L>) -> Node
+pub(crate) fn part<L: Ledger>(block: &mut Block, unused: u32, steps: &mut Steps<L>) -> Node
     requires some { 0 < length block.old }
     requires first { next_of block.old 0 < length block.old }
     requires second { next_of block.old (next_of block.old 0) < length block.old }
@@ -63,7 +63,7 @@ pub fn part<L: Ledger>(block: &mut Block, unused: u32, steps: &mut Steps<L>) -> 
 }
 
 /// The node at `place` comes before the one at `next`.
-pub fn set_next(block: &mut Block, place: u32, next: u32)
+pub(crate) fn set_next(block: &mut Block, place: u32, next: u32)
     requires { place < length block.old }
     ensures { block.new ≡ with_next place next block.old }
 {

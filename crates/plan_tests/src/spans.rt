@@ -1,4 +1,5 @@
-//! Spans of jobs that borrow from the spans before them, and of a cycle with stretches without jobs.
+//! Spans of jobs that borrow from the spans before them, and of a cycle with stretches without
+//! jobs.
 
 ghost use Rattle.std.specs.Prelude.{◌≡◌};
 ghost use Rattle.slot_core.specs.declared.jobs.Key.TheVariants.{Firm, Offline};

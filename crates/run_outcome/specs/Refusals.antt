@@ -1,5 +1,5 @@
 -- How a run comes out: done, or refused, with a status and the line that tells why.
-use Rattle.std.specs.Prelude.{ℕ, Bool, true, false, List, [], ◌∷◌, ◌++◌, Result, Ok, Err, codes, slice_get, unwrap_or}
+use Rattle.std.specs.Prelude.{ℕ, Bool, true, false, List, [], ◌∷◌, ◌++◌, Result, Ok, Err, codes, slice_get, unwrap_or, length, ◌==◌, if◌then◌else◌}
 use Rattle.slot_core.specs.Output.FaultTexts.{task_fault_text, infeasible_text}
 use Rattle.slot_core.specs.Output.Texts.{worded}
 use Rattle.slot_core.specs.declared.faults.TaskFault.{TaskFault}
@@ -10,11 +10,12 @@ use Rattle.arrival_csv.specs.declared.faults.ArrivalFault.TheVariants.{Memory as
 use Rattle.table_faults.specs.FaultTexts.{table_fault_text}
 use Rattle.table_faults.specs.declared.faults.TableFault.{TableFault}
 use Rattle.table_faults.specs.declared.faults.TableFault.TheVariants.{Memory as TableMemory}
+use Rattle.run_outcome.specs.declared.file.TheConstants.{CHANGE_WORDS}
 use Rattle.run_outcome.specs.declared.status.Status.{Status}
 use Rattle.run_outcome.specs.declared.file.File.{File}
-use Rattle.run_outcome.specs.declared.file.File.TheVariants.{Tasks, Table, Arrivals, Trace}
+use Rattle.run_outcome.specs.declared.file.File.TheVariants.{Tasks, Table, Second, Arrivals, Trace}
 use Rattle.run_outcome.specs.declared.refusal.Refusal.{Refusal}
-use Rattle.run_outcome.specs.declared.refusal.Refusal.TheVariants.{Usage, Unreadable, TooLarge, BadTasks, Infeasible, BadTable, BadArrivals, NotVerified, WriteFault, Memory}
+use Rattle.run_outcome.specs.declared.refusal.Refusal.TheVariants.{Usage, Unreadable, TooLarge, BadTasks, Infeasible, BadTable, BadArrivals, NotVerified, BadSecond, SecondInfeasible, NoRow, NotCycleEnd, NoChange, WriteFault, Memory}
 use Rattle.slot_core.specs.declared.TheConstants.{TASK_FILE_LIMIT, TABLE_FILE_LIMIT, ARRIVALS_FILE_LIMIT, READ_LIMIT}
 
 -- how a step of the work, or a whole run, comes out: a value, or the refusal that ends the run
@@ -29,21 +30,29 @@ word_at words i = unwrap_or (slice_get words i) []
 abbrev pub same_file : File → File → Bool
 same_file Tasks Tasks = true
 same_file Table Table = true
+same_file Second Second = true
 same_file Arrivals Arrivals = true
 same_file Trace Trace = true
 same_file _ _ = false
+
+-- the place of the arrivals file among so many words: the second, or the third where a second task
+-- file stands before it
+abbrev pub arrivals_place : ℕ → ℕ
+arrivals_place words = if words == CHANGE_WORDS then 3 else 2
 
 -- the name of a file among the words
 abbrev pub name_of : List (List ℕ) → File → List ℕ
 name_of words Tasks = word_at words 1
 name_of words Table = word_at words 1
-name_of words Arrivals = word_at words 2
+name_of words Second = word_at words 2
+name_of words Arrivals = word_at words (arrivals_place (length words))
 name_of words Trace = word_at words 3
 
 -- the most bytes that it may have
 abbrev pub limit_of : File → ℕ
 limit_of Tasks = TASK_FILE_LIMIT
 limit_of Table = TABLE_FILE_LIMIT
+limit_of Second = TASK_FILE_LIMIT
 limit_of Arrivals = ARRIVALS_FILE_LIMIT
 limit_of Trace = READ_LIMIT
 
@@ -72,6 +81,11 @@ refusal_status (Infeasible window) = Status.Infeasible
 refusal_status (BadTable fault) = Status.BadTable
 refusal_status (BadArrivals fault) = Status.BadArrivals
 refusal_status (NotVerified reason) = Status.NotVerified
+refusal_status (BadSecond fault) = Status.BadTasks
+refusal_status (SecondInfeasible window) = Status.Infeasible
+refusal_status (NoRow row) = Status.NoRow
+refusal_status (NotCycleEnd cycle) = Status.SwitchRefused
+refusal_status (NoChange evidence) = Status.SwitchRefused
 refusal_status WriteFault = Status.WriteFault
 refusal_status Memory = Status.Memory
 
@@ -84,7 +98,8 @@ status_of (Err refusal) = refusal_status refusal
 abbrev pub reason_of : List (List ℕ) → Refusal → List ℕ
 reason_of words Usage =
     codes "usage: slotshift check T, table T, show B, replay T A N, "
-    ++ codes "replay-table B A N, gantt T A N, selfrun N, migrate B, verify T A X N, margin T"
+    ++ codes "replay-table B A N, gantt T A N, selfrun N, migrate B, verify T A X N, "
+    ++ codes "explain T A N R, switch T U A N C, margin T"
 reason_of words (Unreadable file) = codes "cannot read " ++ name_of words file
 reason_of words (TooLarge file) = codes "too large " ++ worded (name_of words file) (limit_of file)
 reason_of words (BadTasks fault) = codes "tasks " ++ task_fault_text fault
@@ -92,6 +107,12 @@ reason_of words (Infeasible window) = infeasible_text window
 reason_of words (BadTable fault) = codes "table " ++ table_fault_text fault
 reason_of words (BadArrivals fault) = codes "arrivals " ++ arrival_fault_text fault
 reason_of words (NotVerified reason) = reason
+reason_of words (BadSecond fault) = codes "tasks " ++ task_fault_text fault
+reason_of words (SecondInfeasible window) = infeasible_text window
+reason_of words (NoRow row) = worded (codes "no row") row
+reason_of words (NotCycleEnd cycle) = worded (codes "switch not at cycle end") cycle
+reason_of words (NoChange e) =
+    worded (worded (worded (codes "switch noroom") e.until) e.need) e.room
 reason_of words WriteFault = codes "cannot write"
 reason_of words Memory = codes "out of memory"
 
@@ -99,6 +120,7 @@ reason_of words Memory = codes "out of memory"
 abbrev pub file_text : File → List ℕ
 file_text Tasks = codes "task file"
 file_text Table = codes "table file"
+file_text Second = codes "second task file"
 file_text Arrivals = codes "arrivals file"
 file_text Trace = codes "trace file"
 
@@ -118,7 +140,7 @@ abbrev pub fault_line : {X : Type 0} → List (List ℕ) → Outcome X → List 
 fault_line words (Ok value) = []
 fault_line words (Err refusal) = refusal_line words refusal
 
--- the refusal is found in the bytes of the files
+-- the refusal is found in the bytes of the files, before anything is written
 abbrev pub is_found : Refusal → Bool
 is_found (TooLarge file) = true
 is_found (BadTasks fault) = true
@@ -126,12 +148,11 @@ is_found (Infeasible window) = true
 is_found (BadTable fault) = true
 is_found (BadArrivals fault) = true
 is_found (NotVerified reason) = true
+is_found (BadSecond fault) = true
+is_found (SecondInfeasible window) = true
+is_found (NoRow row) = true
+is_found (NotCycleEnd cycle) = true
 is_found _ = false
-
--- the refusal leaves the output as it was
-abbrev pub leaves_output : Refusal → Bool
-leaves_output WriteFault = false
-leaves_output _ = true
 
 -- the line of the refusal tells no value, so that it takes no memory
 abbrev pub has_fixed_line : Refusal → Bool

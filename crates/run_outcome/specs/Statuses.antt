@@ -1,7 +1,7 @@
 -- The numbers of the statuses.
 use Rattle.std.specs.Prelude.{ℕ}
 use Rattle.run_outcome.specs.declared.status.Status.{Status}
-use Rattle.run_outcome.specs.declared.status.Status.TheVariants.{Done, Usage, FileFault, TooLarge, BadTasks, Infeasible, BadArrivals, WriteFault, Memory, BadTable, NotVerified}
+use Rattle.run_outcome.specs.declared.status.Status.TheVariants.{Done, Usage, FileFault, TooLarge, BadTasks, Infeasible, BadArrivals, WriteFault, Memory, BadTable, NotVerified, NoRow, SwitchRefused}
 
 -- the exit status of the program
 abbrev pub exit_number : Status → ℕ
@@ -16,3 +16,5 @@ exit_number WriteFault = 7
 exit_number Memory = 8
 exit_number BadTable = 9
 exit_number NotVerified = 10
+exit_number NoRow = 11
+exit_number SwitchRefused = 12

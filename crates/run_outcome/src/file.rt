@@ -1,10 +1,13 @@
 //! The files of the command line.
 
 ghost use Rattle.std.specs.Prelude.{◌≡◌, ◌≤◌};
-ghost use Rattle.run_outcome.specs.Refusals.{word_at, name_of, limit_of};
+ghost use Rattle.run_outcome.specs.Refusals.{arrivals_place, word_at, name_of, limit_of};
 
 use slot_core::{ARRIVALS_FILE_LIMIT, READ_LIMIT, TABLE_FILE_LIMIT, TASK_FILE_LIMIT, Words};
 use std::fmt;
+
+/// How many words ask for a change of plan, which names a second task file.
+pub const CHANGE_WORDS: usize = 6;
 
 /// A file of the command line.
 #[derive(Clone, Copy, PartialEq, Eq, Debug)]
@@ -13,7 +16,9 @@ pub enum File {
     Tasks,
     /// The table file, the second word.
     Table,
-    /// The arrivals file, the third word.
+    /// The second task file, of a change of plan: the third word.
+    Second,
+    /// The arrivals file: the third word, or the one after the second task file.
     Arrivals,
     /// The file of a recorded trace, the fourth word.
     Trace,
@@ -29,6 +34,7 @@ impl fmt::Display for File {
         match self {
             File::Tasks => write!(f, "task file"),
             File::Table => write!(f, "table file"),
+            File::Second => write!(f, "second task file"),
             File::Arrivals => write!(f, "arrivals file"),
             File::Trace => write!(f, "trace file"),
         }
@@ -42,7 +48,8 @@ impl File {
     {
         match self {
             File::Tasks | File::Table => word_or_nothing(words, 1),
-            File::Arrivals => word_or_nothing(words, 2),
+            File::Second => word_or_nothing(words, 2),
+            File::Arrivals => word_or_nothing(words, arrivals_place(words.len())),
             File::Trace => word_or_nothing(words, 3),
         }
     }
@@ -53,12 +60,19 @@ impl File {
         ensures small { result ≤ READ_LIMIT }
     {
         match self {
-            File::Tasks => TASK_FILE_LIMIT,
+            File::Tasks | File::Second => TASK_FILE_LIMIT,
             File::Table => TABLE_FILE_LIMIT,
             File::Arrivals => ARRIVALS_FILE_LIMIT,
             File::Trace => READ_LIMIT,
         }
     }
+}
+
+/// The place of the arrivals file among so many words, counted from 0.
+fn arrivals_place(words: usize) -> usize
+    ensures { result ≡ arrivals_place words }
+{
+    if words == CHANGE_WORDS { 3 } else { 2 }
 }
 
 /// The word at this place, counted from 0, or the empty word.

@@ -6,7 +6,7 @@ ghost use Rattle.run_outcome.specs.declared.refusal.Refusal.TheVariants.{WriteFa
 
 use crate::{File, Reason, Status};
 use arrival_csv::ArrivalFault;
-use slot_core::{Failed, Memory, TaskFault, Window};
+use slot_core::{Evidence, Failed, Memory, TaskFault, Window};
 use std::error::Error;
 use std::fmt;
 use table_faults::TableFault;
@@ -30,6 +30,16 @@ pub enum Refusal {
     BadArrivals(ArrivalFault),
     /// The bytes of the trace file are no lawful trace, for this reason.
     NotVerified(Reason),
+    /// The bytes of the second task file write no sound set.
+    BadSecond(TaskFault),
+    /// A window of the second set has more demand than slots.
+    SecondInfeasible(Window),
+    /// The arrivals file has fewer rows than this.
+    NoRow(u32),
+    /// The plan is to be changed where no cycle of so many slots ends.
+    NotCycleEnd(u32),
+    /// The second plan has no room for the jobs that are carried over.
+    NoChange(Evidence),
     /// The output takes no more.
     WriteFault,
     /// Memory ran out.
@@ -50,6 +60,10 @@ impl Refusal {
             Refusal::BadTable(_) => Status::BadTable,
             Refusal::BadArrivals(_) => Status::BadArrivals,
             Refusal::NotVerified(_) => Status::NotVerified,
+            Refusal::BadSecond(_) => Status::BadTasks,
+            Refusal::SecondInfeasible(_) => Status::Infeasible,
+            Refusal::NoRow(_) => Status::NoRow,
+            Refusal::NotCycleEnd(_) | Refusal::NoChange(_) => Status::SwitchRefused,
             Refusal::WriteFault => Status::WriteFault,
             Refusal::Memory => Status::Memory,
         }
@@ -67,7 +81,8 @@ impl fmt::Display for Refusal {
             Refusal::Usage => write!(
                 f,
                 "usage: slotshift check T, table T, show B, replay T A N, \
-                 replay-table B A N, gantt T A N, selfrun N, migrate B, verify T A X N, margin T"
+                 replay-table B A N, gantt T A N, selfrun N, migrate B, verify T A X N, \
+                 explain T A N R, switch T U A N C, margin T"
             ),
             Refusal::Unreadable(file) => write!(f, "cannot read {file}"),
             Refusal::TooLarge(file) => write!(f, "too large {file} {}", file.limit()),
@@ -76,6 +91,13 @@ impl fmt::Display for Refusal {
             Refusal::BadTable(fault) => write!(f, "table {fault}"),
             Refusal::BadArrivals(fault) => write!(f, "arrivals {fault}"),
             Refusal::NotVerified(_) => write!(f, "trace not verified"),
+            Refusal::BadSecond(fault) => write!(f, "tasks {fault}"),
+            Refusal::SecondInfeasible(w) => {
+                write!(f, "infeasible {} {} {}", w.from, w.until, w.demand)
+            }
+            Refusal::NoRow(row) => write!(f, "no row {row}"),
+            Refusal::NotCycleEnd(cycle) => write!(f, "switch not at cycle end {cycle}"),
+            Refusal::NoChange(e) => write!(f, "switch noroom {} {} {}", e.until, e.need, e.room),
             Refusal::WriteFault => write!(f, "cannot write"),
             Refusal::Memory => write!(f, "out of memory"),
         }

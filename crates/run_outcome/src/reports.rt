@@ -8,10 +8,10 @@ ghost use Rattle.table_faults.specs.FaultTexts.{table_fault_text};
 ghost use Rattle.run_outcome.specs.Refusals.{reason_of, refusal_line, has_fixed_line};
 ghost use Rattle.run_outcome.specs.Reports.{IsTold, IsReport};
 
-use crate::append::{push, push_window, push_worded};
+use crate::append::{push, push_number, push_window, push_worded};
 use crate::{OUT_OF_MEMORY, Refusal};
 use arrival_csv::ArrivalFault;
-use slot_core::{Memory, TaskFault, Words};
+use slot_core::{Evidence, Memory, TaskFault, Words};
 use slot_io::Sink;
 use std::alloc::Global;
 use table_faults::TableFault;
@@ -58,7 +58,8 @@ fn fixed_line(refusal: &Refusal) -> Option<&'static [u8]>
     match refusal {
         Refusal::Usage => Some(
             b"usage: slotshift check T, table T, show B, replay T A N, \
-              replay-table B A N, gantt T A N, selfrun N, migrate B, verify T A X N, margin T\n",
+              replay-table B A N, gantt T A N, selfrun N, migrate B, verify T A X N, \
+              explain T A N R, switch T U A N C, margin T\n",
         ),
         Refusal::WriteFault => Some(b"cannot write\n"),
         Refusal::Memory => Some(OUT_OF_MEMORY),
@@ -90,13 +91,34 @@ fn push_reason(
     match refusal {
         Refusal::Unreadable(file) => push_both(line, b"cannot read ", file.name(words).as_bytes()),
         Refusal::TooLarge(file) => push_too_large(line, file.name(words).as_bytes(), file.limit()),
-        Refusal::BadTasks(fault) => push_bad_tasks(alloc, line, *fault),
+        Refusal::BadTasks(fault) | Refusal::BadSecond(fault) => {
+            push_bad_tasks(alloc, line, *fault)
+        }
         Refusal::BadTable(fault) => push_bad_table(alloc, line, *fault),
         Refusal::BadArrivals(fault) => push_bad_arrivals(alloc, line, *fault),
-        Refusal::Infeasible(window) => push_window(line, *window),
+        Refusal::Infeasible(window) | Refusal::SecondInfeasible(window) => {
+            push_window(line, *window)
+        }
         Refusal::NotVerified(reason) => push(line, reason.bytes()),
+        Refusal::NoRow(row) => push_worded(line, b"no row", u64::from(*row)),
+        Refusal::NotCycleEnd(cycle) => {
+            push_worded(line, b"switch not at cycle end", u64::from(*cycle))
+        }
+        Refusal::NoChange(evidence) => push_no_change(line, *evidence),
         _ => Ok(()),
     }
+}
+
+/// Appends why the plan is not changed: until which time there is no room, what it needs and has.
+fn push_no_change(line: &mut Vec<u8>, evidence: Evidence) -> Result<(), Memory>
+    ensures { OnOk result (line.new.items ≡ line.old.items
+        ++ worded
+        (worded (worded (codes "switch noroom") evidence.until) evidence.need)
+        evidence.room) }
+{
+    push_worded(line, b"switch noroom", evidence.until)?;
+    push_number(line, evidence.need)?;
+    push_number(line, evidence.room)
 }
 
 /// Appends the bytes of both.

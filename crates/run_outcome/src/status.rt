@@ -17,6 +17,8 @@ pub enum Status {
     Memory,
     BadTable,
     NotVerified,
+    NoRow,
+    SwitchRefused,
 }
 
 impl Status {

@@ -85,9 +85,9 @@ fn takes_an_alarm(rt: HostRuntime) -> Result<(), Fail> {
     Ok(())
 }
 
-/// Where a span ends, the slots that fit and one more. Taken back, they leave room for an offer that
-/// is due a cycle ahead. Past a cycle, and now. Then the pair runs; its second job is due with the
-/// offer, so what is borrowed falls.
+/// Where a span ends, the slots that fit and one more. Taken back, they leave room for an offer
+/// that is due a cycle ahead. Past a cycle, and now. Then the pair runs; its second job is due with
+/// the offer, so what is borrowed falls.
 fn offers() -> [(What, (Span, Span)); 11] {
     let free = (span(0, 7, 2, 5), span(7, 8, 1, 0));
     let full = (span(0, 7, 7, 0), span(7, 8, 1, 0));

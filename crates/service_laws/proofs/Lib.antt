@@ -2,3 +2,4 @@ mod LineCuts
 mod LineEntries
 mod LineSpans
 mod LineWords
+mod SoftWork

@@ -2,7 +2,8 @@
 //! means.
 //!
 //! Each law is the contract of a public function with no parameters and an empty body. Its
-//! statement stands in the `specs/` of slot_facts, over the definitions of slot_core alone.
+//! statement stands in the `specs/` of slot_facts or of this crate, over the definitions of
+//! slot_core alone.
 #![tactic(auto)]
 
 pub mod bounds;
@@ -12,4 +13,5 @@ pub mod offers;
 pub mod patterns;
 pub mod schedules;
 pub mod service;
+pub mod soft_work;
 pub mod verdicts;

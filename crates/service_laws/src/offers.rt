@@ -30,10 +30,10 @@ pub fn the_densest_pattern_shows_it()
 {}
 
 /// So each offer of a legal history that was accepted could be served whatever followed. One in
-/// reach, due later and at most a cycle ahead, was accepted or refused for want of room, and refused
-/// exactly where some legal pattern of arrivals left no slot schedule: the arrivals from then on
-/// that come as soon as they may and are due by the time of the evidence are one. In a set without
-/// sporadic tasks it was refused exactly where no slot schedule served it.
+/// reach, due later and at most a cycle ahead, was accepted or refused for want of room, and
+/// refused exactly where some legal pattern of arrivals left no slot schedule: the arrivals from
+/// then on that come as soon as they may and are due by the time of the evidence are one. In a set
+/// without sporadic tasks it was refused exactly where no slot schedule served it.
 pub fn offers_are_always_exact()
     ensures { OffersAreAlwaysExact }
 {}

@@ -1,141 +1,56 @@
 -- The set of a run that is refused since it is infeasible.
-use Rattle.std.proofs.Common.{◌≡◌, ℕ, ◌≤◌, Bool, true, false, List, length, Option, None, Some, Result, Ok, Err, refl, sym, ap, subst, ◌∙◌, arith}
-use Rattle.std.specs.Prelude.{nat_lt, if◌then◌else◌}
-use Rattle.std.specs.Option.{option_map_or}
-use Rattle.std.specs.Result.{result_map_both}
+use Rattle.std.proofs.Common.{◌≡◌, ℕ, ◌≤◌, ◌<◌, List, Option, None, Some, Result, Ok, Err, refl, sym, ap, subst, arith}
 use Rattle.slot_core.specs.Calls.Results.{◌>>=◌}
+use Rattle.slot_core.specs.declared.jobs.Evidence.{Evidence}
 use Rattle.slot_core.specs.declared.jobs.Window.{Window}
 use Rattle.slot_core.specs.declared.tasks.TaskSet.{TaskSet}
-use Rattle.slot_core.specs.Sets.Cycles.{cycle_of}
-use Rattle.slot_core.specs.Feasibility.Feasible.{counterexample}
-use Rattle.slot_core.specs.Keeping.Plans.{PlanParts, planned}
-use Rattle.slot_core.specs.Sets.Ranges.{is_sound}
-use Rattle.slot_io.specs.Files.{Held, first_bytes}
-use Rattle.table_faults.specs.declared.faults.TableFault.{TableFault}
+use Rattle.slot_core.specs.Keeping.Plans.{PlanParts}
+use Rattle.slot_io.specs.Files.{Held}
 use Rattle.table_faults.specs.declared.faults.TableFault.TheVariants.{Infeasible as NoPlan}
-use Rattle.table_codec.specs.Grammar.{reading_of_table}
-use Rattle.table_codec.proofs.Refusals.{IsTableSet-refused}
-use Rattle.task_toml.specs.Reading.{reading_of_tasks}
-use Rattle.run_outcome.specs.declared.file.File.{File}
-use Rattle.run_outcome.specs.declared.file.File.TheVariants.{Tasks as TaskFile, Table as TableFile}
 use Rattle.run_outcome.specs.declared.refusal.Refusal.{Refusal}
-use Rattle.run_outcome.specs.declared.refusal.Refusal.TheVariants.{Usage, Unreadable, TooLarge, BadTasks, BadTable, Infeasible}
-use Rattle.run_outcome.specs.Refusals.{Outcome, name_of, limit_of}
-use Rattle.slot_cli.specs.declared.command.Command.{Command}
-use Rattle.slot_cli.specs.declared.command.Source.{Source}
-use Rattle.slot_cli.specs.declared.command.Source.TheVariants.{Tasks, Spelled, Load}
-use Rattle.slot_cli.specs.Commands.{command_of}
-use Rattle.slot_cli.specs.Due.{limited_bytes, bytes_of, sound_set, feasible_plan, planned_plan, spelled_plan, plan_from, due_of, expected}
-use Rattle.slot_cli.specs.Runs.{stage_of, stage_due}
-use Rattle.slot_cli.specs.Verdicts.{set_of_table, spelled_set, set_from, set_of_run}
-use Rattle.slot_cli.proofs.RunPlans.{is_sound-from_bytes}
-use Rattle.slot_cli.proofs.StageLemmas.{stage-after, text_after}
+use Rattle.run_outcome.specs.declared.refusal.Refusal.TheVariants.{Usage, BadTable, Infeasible, SecondInfeasible}
+use Rattle.run_outcome.specs.Refusals.{Outcome}
+use Rattle.run_outcome.specs.Writings.{Writing, whole_of}
+use Rattle.command_line.specs.declared.Command.{Command}
+use Rattle.command_line.specs.Commands.{command_of}
+use Rattle.run_steps.specs.Readings.{plan_from, second_from}
+use Rattle.run_steps.specs.Sets.{set_from, second_set}
+use Rattle.run_steps.specs.Stages.{stage_of, stage_due}
+use Rattle.run_steps.proofs.RefusedSets.{IsRefused, plan-apart, refused-tasks, refused-table, refused-second}
+use Rattle.slot_cli.specs.Due.{writing_for, expected}
+use Rattle.slot_cli.specs.Verdicts.{set_of_run}
+use Rattle.slot_cli.proofs.TextStages.{writing_after, writing_beside, stage-after, stage-beside}
 
--- a refusal that the first of two steps does not give is that of the second
-second_refuses : {X Y : Type 0} (first : Outcome X) (next : X → Outcome Y) (e : Refusal) → (first ≡ Err e → ⊥) → (first >>= next) ≡ Err e → (x : X) × (first ≡ Ok x) × (next x ≡ Err e)
-second_refuses (Ok x) next e apart is = (x, refl, is)
-second_refuses (Err other) next e apart is = let same : other ≡ e = cc in absurd (apart (ap Err same))
+-- a refusal of an early stage comes before the writing
+rest-refuses : (front : List ℕ) (rest : Result (List ℕ) Evidence) (e : Refusal) → stage_of e ≤ 14 → whole_of (record { front = front; rest = rest }) ≡ Err e → ⊥
+rest-refuses front (Ok rest) e early is = cc
+rest-refuses front (Err evidence) e early is = let stage : 15 ≡ stage_of e = ap stage_due is in absurd (omega (arith, stage, early))
 
--- a step after one that gives a value
-step_after : {X Y : Type 0} (first : Outcome X) (next : X → Outcome Y) (x : X) (y : Outcome Y) → first ≡ Ok x → next x ≡ y → (first >>= next) ≡ y
-step_after (Ok given) next x y is after = let same : given ≡ x = cc in ap next same ∙ after
-step_after (Err e) next x y is after = cc
+writing-refuses : (due : Outcome Writing) (e : Refusal) → stage_of e ≤ 14 → (due >>= whole_of) ≡ Err e → due ≡ Err e
+writing-refuses (Ok w) e early is = absurd (rest-refuses w.front w.rest e early is)
+writing-refuses (Err other) e early is = let same : other ≡ e = cc in ap Err same
 
--- the refusal of a file that is read, where it is none of the two that a reading gives
-limited_bytes-apart : (file : File) (bytes : List ℕ) (large : Bool) (e : Refusal) → (TooLarge file ≡ e → ⊥) → (let o : Outcome (List ℕ) = if large then Err (TooLarge file) else Ok bytes in o) ≡ Err e → ⊥
-limited_bytes-apart file bytes true e apart is = let same : TooLarge file ≡ e = cc in apart same
-limited_bytes-apart file bytes false e apart is = cc
+-- what comes after a step gives no refusal of an earlier stage
+step-refuses : {X : Type 0} (n m : ℕ) (made : Outcome X) (next : X → Outcome Writing) (e : Refusal) → n < m → stage_of e ≤ n → ((x : X) → m ≤ stage_due (next x)) → (made >>= next) ≡ Err e → made ≡ Err e
+step-refuses n m (Ok x) next e lower early later is =
+    let stage : stage_due (next x) ≡ stage_of e = ap stage_due is in absurd (omega (arith, later x, stage, early, lower))
+step-refuses n m (Err other) next e lower early later is = let same : other ≡ e = cc in ap Err same
 
-read-apart : (file : File) (o : Option (List ℕ)) (e : Refusal) → (Unreadable file ≡ e → ⊥) → (TooLarge file ≡ e → ⊥) → option_map_or (limited_bytes file) o (Err (Unreadable file)) ≡ Err e → ⊥
-read-apart file None e unread large is = let same : Unreadable file ≡ e = cc in unread same
-read-apart file (Some bytes) e unread large is =
-    limited_bytes-apart file bytes (nat_lt (limit_of file) (length bytes)) e large is
+-- the command of a run that is refused so, and the step that refuses it
+command-due : (held : Held) (words : List (List ℕ)) (o : Option Command) (e : Refusal) → command_of words ≡ o → (Usage ≡ e → ⊥) → writing_for held words o ≡ Err e → (command : Command) × (command_of words ≡ Some command) × ((plan_from held words command.source >>= writing_after held words command) ≡ Err e)
+command-due held words None e writes apart is = let same : Usage ≡ e = cc in absurd (apart same)
+command-due held words (Some command) e writes apart is = (command, writes, is)
 
-bytes-apart : (held : Held) (words : List (List ℕ)) (file : File) (e : Refusal) → (Unreadable file ≡ e → ⊥) → (TooLarge file ≡ e → ⊥) → bytes_of held words file ≡ Err e → ⊥
-bytes-apart held words file e unread large is =
-    read-apart file (first_bytes held (name_of words file) (limit_of file)) e unread large is
+plan-due : (held : Held) (words : List (List ℕ)) (e : Refusal) → (Usage ≡ e → ⊥) → stage_of e ≤ 4 → expected held words ≡ Err e → (command : Command) × (command_of words ≡ Some command) × (plan_from held words command.source ≡ Err e)
+plan-due held words e apart early is =
+    let (command, writes, refused) = command-due held words (command_of words) e refl apart (writing-refuses (writing_for held words (command_of words)) e (omega (arith, early)) is) in
+    (command, writes, step-refuses 4 5 (plan_from held words command.source) (writing_after held words command) e (omega arith) early (stage-after held words command) refused)
 
--- a value that is read, or a fault that is refused so, gives no other refusal
-kept-apart : {X F : Type 0} (r : Result X F) (refuse : F → Refusal) (e : Refusal) → ((fault : F) → refuse fault ≡ e → ⊥) → (let o : Outcome X = result_map_both (λ x. x) refuse r in o) ≡ Err e → ⊥
-kept-apart (Ok x) refuse e apart is = cc
-kept-apart (Err fault) refuse e apart is = let same : refuse fault ≡ e = cc in apart fault same
-
--- what the cycle test refuses a set for is the counterexample
-tested-found : (plan : PlanParts) (o : Option Window) (window : Window) → (let s : Outcome PlanParts = option_map_or (λ w. Err (Infeasible w)) o (Ok plan) in s) ≡ Err (Infeasible window) → o ≡ Some window
-tested-found plan None window is = cc
-tested-found plan (Some found) window is = let same : found ≡ window = cc in ap Some same
-
-tested-apart : (plan : PlanParts) (o : Option Window) (fault : TableFault) → (let s : Outcome PlanParts = option_map_or (λ w. Err (Infeasible w)) o (Ok plan) in s) ≡ Err (BadTable fault) → ⊥
-tested-apart plan None fault is = cc
-tested-apart plan (Some found) fault is = cc
-
--- the fault of a table is that of its reading
-table-fault : (r : Result PlanParts TableFault) (fault : TableFault) → (let o : Outcome PlanParts = result_map_both (λ (plan : PlanParts). plan) BadTable r in o) ≡ Err (BadTable fault) → r ≡ Err fault
-table-fault (Ok plan) fault is = cc
-table-fault (Err other) fault is = let same : other ≡ fault = cc in ap Err same
-
--- the set of a table is that of its reading
-spelled-set : (bytes : List ℕ) (set : TaskSet) → set_of_table bytes ≡ Ok set → spelled_set bytes ≡ Ok set
-spelled-set bytes set is =
-    let refused : Result TaskSet TableFault → Outcome TaskSet = λ r. result_map_both (λ (s : TaskSet). s) BadTable r in ap refused is
-
--- what comes after the plan gives no refusal of an earlier stage
-plan-refuses : (made : Outcome PlanParts) (next : PlanParts → Outcome (List ℕ)) (e : Refusal) → stage_of e ≤ 4 → ((plan : PlanParts) → 5 ≤ stage_due (next plan)) → (made >>= next) ≡ Err e → made ≡ Err e
-plan-refuses (Ok plan) next e early later is =
-    let stage : stage_due (next plan) ≡ stage_of e = ap stage_due is in absurd (omega (arith, later plan, stage, early))
-plan-refuses (Err other) next e early later is = let same : other ≡ e = cc in ap Err same
-
-plan-due : (held : Held) (words : List (List ℕ)) (o : Option Command) (e : Refusal) → command_of words ≡ o → (Usage ≡ e → ⊥) → stage_of e ≤ 4 → due_of held words o ≡ Err e → (command : Command) × (command_of words ≡ Some command) × (plan_from held words command.source ≡ Err e)
-plan-due held words None e writes apart early is = let same : Usage ≡ e = cc in absurd (apart same)
-plan-due held words (Some command) e writes apart early is = (
-  command,
-  writes,
-  plan-refuses (plan_from held words command.source) (text_after held words command) e early (stage-after held words command) is,
-)
-
--- a sound set that is refused for this window
-pub record IsRefused (made : Outcome TaskSet) (window : Window) : Type 0 where
-  pub set : TaskSet
-  pub writes : made ≡ Ok set
-  pub sound : is_sound set ≡ true
-  pub found : counterexample set (cycle_of set) ≡ Some window
-
--- a plan that is refused as infeasible is that of the task file, whose set has this counterexample
-refused-tasks : (held : Held) (words : List (List ℕ)) (source : Source) (window : Window) → plan_from held words source ≡ Err (Infeasible window) → IsRefused (set_from held words source) window
-refused-tasks held words Tasks window is =
-    let e = Infeasible window in
-    let (bytes, read, refused) = second_refuses (bytes_of held words TaskFile) planned_plan e (bytes-apart held words TaskFile e (λ same. cc) (λ same. cc)) is in
-    let (set, writes, found) = second_refuses (sound_set bytes) feasible_plan e (kept-apart (reading_of_tasks bytes) BadTasks e (λ fault same. cc)) refused in
-    record {
-      set = set;
-      writes = step_after (bytes_of held words TaskFile) sound_set bytes (Ok set) read writes;
-      sound = is_sound-from_bytes bytes set writes;
-      found = tested-found (planned set) (counterexample set (cycle_of set)) window found;
-    }
-refused-tasks held words Spelled window is =
-    let e = Infeasible window in
-    let (bytes, read, refused) = second_refuses (bytes_of held words TableFile) spelled_plan e (bytes-apart held words TableFile e (λ same. cc) (λ same. cc)) is in
-    absurd (kept-apart (reading_of_table bytes) BadTable e (λ fault same. cc) refused)
-refused-tasks held words (Load n) window is = cc
-
--- one that is refused for a table that is infeasible is that of the table file
-refused-table : (held : Held) (words : List (List ℕ)) (source : Source) (window : Window) → plan_from held words source ≡ Err (BadTable (NoPlan window)) → IsRefused (set_from held words source) window
-refused-table held words Tasks window is =
-    let e = BadTable (NoPlan window) in
-    let (bytes, read, refused) = second_refuses (bytes_of held words TaskFile) planned_plan e (bytes-apart held words TaskFile e (λ same. cc) (λ same. cc)) is in
-    let (set, writes, found) = second_refuses (sound_set bytes) feasible_plan e (kept-apart (reading_of_tasks bytes) BadTasks e (λ fault same. cc)) refused in
-    absurd (tested-apart (planned set) (counterexample set (cycle_of set)) (NoPlan window) found)
-refused-table held words Spelled window is =
-    let e = BadTable (NoPlan window) in
-    let (bytes, read, refused) = second_refuses (bytes_of held words TableFile) spelled_plan e (bytes-apart held words TableFile e (λ same. cc) (λ same. cc)) is in
-    let t = IsTableSet-refused bytes window (table-fault (reading_of_table bytes) (NoPlan window) refused) in
-    record {
-      set = t.set;
-      writes = step_after (bytes_of held words TableFile) spelled_set bytes (Ok t.set) read (spelled-set bytes t.set t.spelled);
-      sound = t.sound;
-      found = t.found;
-    }
-refused-table held words (Load n) window is = cc
+-- of two steps the second refuses, where the refusal is none of the first
+second-refuses : (held : Held) (words : List (List ℕ)) (command : Command) (made : Outcome PlanParts) (e : Refusal) → stage_of e ≤ 8 → (made ≡ Err e → ⊥) → (made >>= writing_after held words command) ≡ Err e → second_from held words command.second ≡ Err e
+second-refuses held words command (Ok plan) e early apart is =
+    step-refuses 8 9 (second_from held words command.second) (writing_beside held words command plan) e (omega arith) early (stage-beside held words command plan) is
+second-refuses held words command (Err other) e early apart is = let same : other ≡ e = cc in absurd (apart (ap Err same))
 
 -- the set of the command is that of the run
 set-of_run : (held : Held) (words : List (List ℕ)) (command : Command) → command_of words ≡ Some command → set_of_run held words ≡ set_from held words command.source
@@ -148,10 +63,17 @@ refused-run held words command window writes refused =
 -- a run that is due to be refused as infeasible, or for a table that is infeasible, has such a set
 pub refused-infeasible : (held : Held) (words : List (List ℕ)) (window : Window) → expected held words ≡ Err (Infeasible window) → IsRefused (set_of_run held words) window
 refused-infeasible held words window is =
-    let (command, writes, refused) = plan-due held words (command_of words) (Infeasible window) refl (λ same. cc) (omega arith) is in
+    let (command, writes, refused) = plan-due held words (Infeasible window) (λ same. cc) (omega arith) is in
     refused-run held words command window writes (refused-tasks held words command.source window refused)
 
 pub refused-bad_table : (held : Held) (words : List (List ℕ)) (window : Window) → expected held words ≡ Err (BadTable (NoPlan window)) → IsRefused (set_of_run held words) window
 refused-bad_table held words window is =
-    let (command, writes, refused) = plan-due held words (command_of words) (BadTable (NoPlan window)) refl (λ same. cc) (omega arith) is in
+    let (command, writes, refused) = plan-due held words (BadTable (NoPlan window)) (λ same. cc) (omega arith) is in
     refused-run held words command window writes (refused-table held words command.source window refused)
+
+-- so has one that is due to be refused for its second plan
+pub refused-second_infeasible : (held : Held) (words : List (List ℕ)) (window : Window) → expected held words ≡ Err (SecondInfeasible window) → IsRefused (second_set held words) window
+refused-second_infeasible held words window is =
+    let e = SecondInfeasible window in
+    let (command, writes, refused) = command-due held words (command_of words) e refl (λ same. cc) (writing-refuses (writing_for held words (command_of words)) e (omega arith) is) in
+    refused-second held words command.second window (second-refuses held words command (plan_from held words command.source) e (omega arith) (plan-apart held words command.source window) refused)

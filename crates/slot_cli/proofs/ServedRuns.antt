@@ -6,7 +6,7 @@ use Rattle.slot_core.specs.Runs.Arrivals.{are_fitting}
 use Rattle.slot_core.specs.Sets.Cycles.{cycle_of}
 use Rattle.slot_core.specs.Feasibility.Feasible.{IsFeasible}
 use Rattle.slot_core.specs.Claims.Futures.{CyclesCanBeServed, OffersAreExact}
-use Rattle.slot_core.specs.Keeping.Plans.{PlanParts}
+use Rattle.slot_core.specs.Keeping.Plans.{PlanParts, IsPlan}
 use Rattle.slot_core.specs.Claims.Service.{IsServed, IsOrdered}
 use Rattle.slot_core.specs.Runs.Traces.{trace, history_of, IsLegal}
 use Rattle.slot_io.specs.Files.{Held}
@@ -14,7 +14,9 @@ use Rattle.slot_facts.proofs.Legal.Served.{every_trace_is_served}
 use Rattle.slot_facts.proofs.Legal.Traces.{every_trace_is_legal}
 use Rattle.slot_facts.proofs.Offers.Exact.{offers_are_always_exact}
 use Rattle.slot_facts.proofs.Offers.Verdicts.{feasible_sets_can_be_served_for_ever}
+use Rattle.slot_cli.specs.Changed.{history_to, IsChangeExact}
 use Rattle.slot_cli.specs.Due.{plan_of_run}
+use Rattle.slot_cli.proofs.ChangedRuns.{change-exact_after}
 use Rattle.slot_cli.proofs.RunPlans.{IsPlan-run}
 
 -- any number of cycles of the plan's set can be served
@@ -43,3 +45,8 @@ served-run held words plan slots arrivals is fits =
     let cycle = is_plan.cycle in
     let P : ℕ → Type 0 = λ n. IsServed set n (history_of (trace set arrivals slots)) × IsOrdered set n (history_of (trace set arrivals slots)) in
     subst P (sym cycle) (every_trace_is_served set arrivals slots is_plan.sound (subst (IsFeasible set) cycle is_plan.feasible) fits)
+
+-- a change from the plan of a run to another is answered exactly
+pub changes-run : (held : Held) (words : List (List ℕ)) (plan second : PlanParts) (slots : ℕ) (arrivals : List Arrival) → plan_of_run held words ≡ Ok plan → IsPlan second → are_fitting plan.tasks slots arrivals ≡ true → IsChangeExact plan second (history_to plan arrivals slots) slots
+changes-run held words plan second slots arrivals is is_second fits =
+    change-exact_after plan second arrivals slots (IsPlan-run held words plan is) is_second fits

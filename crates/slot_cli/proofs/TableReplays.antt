@@ -18,18 +18,21 @@ use Rattle.table_codec.proofs.TableLaws.{reading-from_spelled}
 use Rattle.run_outcome.specs.declared.file.File.TheVariants.{Table as TableFile, Arrivals as ArrivalsFile}
 use Rattle.run_outcome.specs.declared.refusal.Refusal.TheVariants.{Unreadable, TooLarge, BadTable}
 use Rattle.run_outcome.specs.Refusals.{Outcome, limit_of}
-use Rattle.slot_cli.specs.declared.command.Arrivals.TheVariants.{Recorded}
-use Rattle.slot_cli.specs.declared.command.Command.{Command}
-use Rattle.slot_cli.specs.declared.command.Output.TheVariants.{Trace}
-use Rattle.slot_cli.specs.declared.command.Recording.TheVariants.{Unread}
-use Rattle.slot_cli.specs.declared.command.Source.{Source}
-use Rattle.slot_cli.specs.declared.command.Source.TheVariants.{Tasks, Spelled}
-use Rattle.slot_cli.specs.Commands.{number_up_to, over_slots}
-use Rattle.slot_cli.specs.Due.{limited_bytes, bytes_of, spelled_plan, fitting_arrivals, recorded_arrivals, plan_from, text_of, due_of, expected}
+use Rattle.command_line.specs.declared.Arrivals.TheVariants.{Recorded}
+use Rattle.command_line.specs.declared.Command.{Command}
+use Rattle.command_line.specs.declared.Output.TheVariants.{Trace}
+use Rattle.command_line.specs.declared.Check.TheVariants.{Unchecked}
+use Rattle.command_line.specs.declared.Second.TheVariants.{Unread}
+use Rattle.command_line.specs.declared.Source.{Source}
+use Rattle.command_line.specs.declared.Source.TheVariants.{Tasks, Spelled}
+use Rattle.command_line.specs.Commands.{number_up_to, over_slots}
+use Rattle.run_outcome.specs.Writings.{Writing, in_whole, whole_of}
+use Rattle.run_steps.specs.Readings.{limited_bytes, bytes_of, spelled_plan, fitting_arrivals, recorded_arrivals, plan_from}
+use Rattle.slot_cli.specs.Due.{writing_of, due_of, expected}
 use Rattle.slot_cli.specs.Tables.{AWrittenTableReplaysTheSame, EachSpellingReplaysTheSame}
-use Rattle.slot_cli.proofs.RunPlans.{IsPlan-from}
-use Rattle.slot_cli.proofs.StageLemmas.{text_after, text_with}
-use Rattle.slot_cli.proofs.StepLemmas.{bind_Ok}
+use Rattle.run_steps.proofs.SourcePlans.{IsPlan-from}
+use Rattle.slot_cli.proofs.TextStages.{writing_after, writing_with}
+use Rattle.run_steps.proofs.StepLemmas.{bind_Ok}
 
 abbrev words_of_table : List ℕ → List (List ℕ)
 words_of_table t = codes "table" ∷ t ∷ []
@@ -47,10 +50,10 @@ words_of_replay_table = words_of (codes "replay-table")
 -- the command that writes the trace of so many slots with recorded arrivals
 abbrev trace_of : Source → ℕ → Command
 trace_of source slots =
-    record { source = source; arrivals = Recorded slots; recording = Unread; output = Trace }
+    record { source = source; second = Unread; arrivals = Recorded slots; check = Unchecked; output = Trace }
 
 -- what a table is written of
-written-of : (made : Outcome PlanParts) (bytes : List ℕ) → (made >>= (λ plan. let o : Outcome (List ℕ) = Ok (spelling plan) in o)) ≡ Ok bytes → (plan : PlanParts) × (made ≡ Ok plan) × (bytes ≡ spelling plan)
+written-of : (made : Outcome PlanParts) (bytes : List ℕ) → (made >>= (λ plan. let o : Outcome Writing = Ok (in_whole (spelling plan)) in o) >>= whole_of) ≡ Ok bytes → (plan : PlanParts) × (made ≡ Ok plan) × (bytes ≡ spelling plan)
 written-of (Ok plan) bytes is = (plan, refl, cc)
 written-of (Err refusal) bytes is = cc
 
@@ -81,23 +84,23 @@ arrivals-same : (before after : Held) (t b a n : List ℕ) (slots : ℕ) (set : 
 arrivals-same before after t b a n slots set same =
     ap (λ (o : Option (List ℕ)). option_map_or (limited_bytes ArrivalsFile) (option_map (take (limit_of ArrivalsFile + 1)) o) (Err (Unreadable ArrivalsFile)) >>= (λ bytes. fitting_arrivals bytes slots set)) same
 
--- the text of a replay is the same where its plan and its arrivals are
-text-same : (before after : Held) (t b a n : List ℕ) (plan : PlanParts) (slots : ℕ) → plan_from before (words_of_replay t a n) Tasks ≡ Ok plan → plan_from after (words_of_replay_table b a n) Spelled ≡ Ok plan → get after a ≡ get before a → text_of after (words_of_replay_table b a n) (trace_of Spelled slots) ≡ text_of before (words_of_replay t a n) (trace_of Tasks slots)
-text-same before after t b a n plan slots planned spelled same =
-    bind_Ok (plan_from after (words_of_replay_table b a n) Spelled) (text_after after (words_of_replay_table b a n) (trace_of Spelled slots)) plan spelled
-    ∙ ap (λ (o : Outcome (List Arrival)). o >>= text_with before (words_of_replay t a n) (trace_of Tasks slots) plan) (arrivals-same before after t b a n slots plan.tasks same)
-    ∙ sym (bind_Ok (plan_from before (words_of_replay t a n) Tasks) (text_after before (words_of_replay t a n) (trace_of Tasks slots)) plan planned)
+-- what a replay writes is the same where its plan and its arrivals are
+writing-same : (before after : Held) (t b a n : List ℕ) (plan : PlanParts) (slots : ℕ) → plan_from before (words_of_replay t a n) Tasks ≡ Ok plan → plan_from after (words_of_replay_table b a n) Spelled ≡ Ok plan → get after a ≡ get before a → writing_of after (words_of_replay_table b a n) (trace_of Spelled slots) ≡ writing_of before (words_of_replay t a n) (trace_of Tasks slots)
+writing-same before after t b a n plan slots planned spelled same =
+    bind_Ok (plan_from after (words_of_replay_table b a n) Spelled) (writing_after after (words_of_replay_table b a n) (trace_of Spelled slots)) plan spelled
+    ∙ ap (λ (o : Outcome (List Arrival)). o >>= writing_with before (words_of_replay t a n) (trace_of Tasks slots) plan None) (arrivals-same before after t b a n slots plan.tasks same)
+    ∙ sym (bind_Ok (plan_from before (words_of_replay t a n) Tasks) (writing_after before (words_of_replay t a n) (trace_of Tasks slots)) plan planned)
 
-due-same : (before after : Held) (t b a n : List ℕ) (o : Option ℕ) → ((slots : ℕ) → text_of after (words_of_replay_table b a n) (trace_of Spelled slots) ≡ text_of before (words_of_replay t a n) (trace_of Tasks slots)) → due_of after (words_of_replay_table b a n) (over_slots Spelled Trace o) ≡ due_of before (words_of_replay t a n) (over_slots Tasks Trace o)
+due-same : (before after : Held) (t b a n : List ℕ) (o : Option ℕ) → ((slots : ℕ) → writing_of after (words_of_replay_table b a n) (trace_of Spelled slots) ≡ writing_of before (words_of_replay t a n) (trace_of Tasks slots)) → due_of after (words_of_replay_table b a n) (over_slots Spelled Trace o) ≡ due_of before (words_of_replay t a n) (over_slots Tasks Trace o)
 due-same before after t b a n None each = refl
-due-same before after t b a n (Some slots) each = each slots
+due-same before after t b a n (Some slots) each = ap (λ (o : Outcome Writing). o >>= whole_of) (each slots)
 
 -- a table that spells the plan of T replays as T
 pub each_spelling_replays : EachSpellingReplaysTheSame
 each_spelling_replays before after t b a n bytes plan planned spells held same =
     let is_plan = IsPlan-from before (words_of_table t) Tasks plan tt planned in
     let spelled = plan-spelled after b a n bytes plan held is_plan spells in
-    due-same before after t b a n (number_up_to REPLAY_LIMIT n) (λ slots. text-same before after t b a n plan slots planned spelled same)
+    due-same before after t b a n (number_up_to REPLAY_LIMIT n) (λ slots. writing-same before after t b a n plan slots planned spelled same)
 
 pub written_table_replays : AWrittenTableReplaysTheSame
 written_table_replays before after t b a n bytes written held same =

@@ -1,19 +1,27 @@
 -- The chart and the tally of a trace, from what takers took.
 use Rattle.std.proofs.Common.{◌≡◌, ℕ, ◌<◌, ◌≤◌, ◌^◌, true, List, length, sym, ap, subst, ◌∙◌}
-use Rattle.slot_core.specs.declared.TheConstants.{REPLAY_LIMIT}
+use Rattle.std.specs.Prelude.{nat_le}
+use Rattle.std.proofs.lemmas.Bool.{and_parts, leb-true}
+use Rattle.slot_core.specs.declared.TheConstants.{ARRIVAL_LIMIT, REPLAY_LIMIT}
 use Rattle.slot_core.specs.declared.events.Arrival.{Arrival}
 use Rattle.slot_core.specs.declared.events.Entry.{Entry}
 use Rattle.slot_core.specs.declared.jobs.Key.{Key}
 use Rattle.slot_core.specs.declared.tasks.TaskSet.{TaskSet}
-use Rattle.slot_core.specs.Runs.Arrivals.{are_fitting}
+use Rattle.slot_core.specs.Runs.Arrivals.{are_fitting, arrivals_follow}
 use Rattle.slot_core.specs.Output.Charts.{Kind, number_of, runs_of, chart_of, chart_text, tally_text}
 use Rattle.slot_core.specs.Keeping.Plans.{PlanParts}
 use Rattle.slot_core.specs.Runs.Traces.{trace}
+use Rattle.slot_facts.proofs.Replays.Lengths.{trace-short}
 use Rattle.gantt_print.specs.Drawings.{Drawing, IsChartOf, drawing_text, drawing_with, empty_chart}
 use Rattle.gantt_print.proofs.ChartLemmas.{IsChartOf-with, IsChartOf-empty}
 use Rattle.load_gen.specs.Tallies.{count_of, grown}
 use Rattle.load_gen.specs.declared.tally.Tally.{Tally}
-use Rattle.slot_cli.proofs.PlanLines.{short_trace}
+
+-- a trace that may be replayed is short
+pub short_trace : (set : TaskSet) (arrivals : List Arrival) (slots : ℕ) → slots ≤ REPLAY_LIMIT → are_fitting set slots arrivals ≡ true → length (trace set arrivals slots) < 2 ^ 64
+short_trace set arrivals slots low fits =
+    let few : length arrivals ≤ ARRIVAL_LIMIT = leb-true (length arrivals) ARRIVAL_LIMIT (and_parts (nat_le (length arrivals) ARRIVAL_LIMIT) (arrivals_follow set slots 1 0 arrivals) fits).0 in
+    trace-short set arrivals slots few low
 
 -- a tally that took the trace tells it
 pub tally-told : (n : ℕ) (line : List ℕ) (before after : Tally) (set : TaskSet) (arrivals : List Arrival) (slots from : ℕ) → from ≡ slots → slots ≤ REPLAY_LIMIT → are_fitting set slots arrivals ≡ true → ((kind : Kind) → count_of before kind ≡ 0) → ((kind : Kind) → count_of after kind ≡ grown (count_of before kind) (number_of (trace set arrivals from) kind)) → ((told : List Entry) → length told < 2 ^ 64 → ((kind : Kind) → count_of after kind ≡ grown 0 (number_of told kind)) → line ≡ tally_text n slots told) → line ≡ tally_text n slots (trace set arrivals slots)

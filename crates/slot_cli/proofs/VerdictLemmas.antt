@@ -1,18 +1,19 @@
 -- What a run says of a set that does not fit means slot schedules.
 use Rattle.std.proofs.Common.{◌≡◌, ℕ, List, Option, Err, sym, ◌∙◌}
 use Rattle.slot_core.specs.declared.jobs.Window.{Window}
+use Rattle.slot_core.specs.declared.tasks.TaskSet.{TaskSet}
 use Rattle.slot_io.specs.Files.{Held}
 use Rattle.demand_test.proofs.Schedules.{unserved-from_some}
 use Rattle.run_outcome.specs.declared.refusal.Refusal.{Refusal}
 use Rattle.run_outcome.specs.Refusals.{Outcome, refusal_line}
 use Rattle.run_outcome.specs.Reports.{IsTold}
 use Rattle.slot_cli.specs.Due.{expected}
-use Rattle.slot_cli.specs.Verdicts.{set_of_run, IsInfeasibleRun}
-use Rattle.slot_cli.proofs.InfeasibleRuns.{IsRefused}
+use Rattle.slot_cli.specs.Verdicts.{IsInfeasibleRun}
+use Rattle.run_steps.proofs.RefusedSets.{IsRefused}
 
 -- a run that tells the refusal that is due shows that the set has no schedule
-pub IsInfeasibleRun-refused : (words : List (List ℕ)) (held : Held) (refusal : Refusal) (window : Window) (before after : Option (List ℕ)) (faults_before faults_after : ℕ) → IsRefused (set_of_run held words) window → expected held words ≡ Err refusal → IsTold (refusal_line words refusal) before after faults_before faults_after → IsInfeasibleRun words held refusal window before after faults_before faults_after
-IsInfeasibleRun-refused words held refusal window before after faults_before faults_after refused due told =
+pub IsInfeasibleRun-refused : (words : List (List ℕ)) (held : Held) (made : Outcome TaskSet) (refusal : Refusal) (window : Window) (before after : Option (List ℕ)) (faults_before faults_after : ℕ) → IsRefused made window → expected held words ≡ Err refusal → IsTold (refusal_line words refusal) before after faults_before faults_after → IsInfeasibleRun words held made refusal window before after faults_before faults_after
+IsInfeasibleRun-refused words held made refusal window before after faults_before faults_after refused due told =
     let none = unserved-from_some refused.set window refused.sound refused.found in
     record {
       set = refused.set;

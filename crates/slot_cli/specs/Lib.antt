@@ -1,10 +1,9 @@
-pub mod Commands
+pub mod Changed
 pub mod Due
+pub mod Explained
 pub mod Printed
+pub mod Recordings
 pub mod Runs
-pub mod Steps
 pub mod Tables
 pub mod Verdicts
-pub use Rattle.run_outcome.specs.Refusals
-pub use Rattle.run_outcome.specs.Reports
-pub use Rattle.run_outcome.specs.Statuses
+pub mod Work

@@ -1,48 +1,38 @@
 -- What a run has to answer.
-use Rattle.std.specs.Prelude.{◌≡◌, ℕ, ◌≤◌, ◌⊎◌, ⊤, true, List, Option, None, Some, Ok, Err, IfSome}
+use Rattle.std.specs.Prelude.{◌≡◌, ℕ, ◌≤◌, ◌⊎◌, ⊤, Bool, true, false, not, List, Option, None, Some, Ok, Err, IfSome}
 use Rattle.std.specs.Io.KnownBytes.{Appends}
+use Rattle.slot_core.specs.declared.jobs.Evidence.{Evidence}
 use Rattle.slot_io.specs.Files.{Held}
-use Rattle.slot_io.specs.Sinks.{AppendsPart}
 use Rattle.run_outcome.specs.declared.file.File.{File}
-use Rattle.run_outcome.specs.declared.file.File.TheVariants.{Tasks, Table, Arrivals, Trace}
 use Rattle.run_outcome.specs.declared.refusal.Refusal.{Refusal}
-use Rattle.run_outcome.specs.declared.refusal.Refusal.TheVariants.{Usage, Unreadable, TooLarge, BadTasks, Infeasible, BadTable, BadArrivals, NotVerified, WriteFault, Memory}
+use Rattle.run_outcome.specs.declared.refusal.Refusal.TheVariants.{Unreadable, NotCycleEnd, NoChange, WriteFault, Memory}
 use Rattle.run_outcome.specs.declared.status.Status.{Status}
 use Rattle.run_outcome.specs.Refusals.{Outcome, name_of, status_of, fault_line}
 use Rattle.run_outcome.specs.Reports.{IsTold}
-use Rattle.slot_cli.specs.declared.command.Command.{Command}
-use Rattle.slot_cli.specs.Commands.{command_of, reads}
-use Rattle.slot_cli.specs.Due.{expected}
-
--- the stage of the work at which a refusal comes, and at which what is due comes: the writing where
--- it is a text
-abbrev pub stage_of : Refusal → ℕ
-stage_of Usage = 0
-stage_of (Unreadable Tasks) = 1
-stage_of (Unreadable Table) = 1
-stage_of (TooLarge Tasks) = 2
-stage_of (TooLarge Table) = 2
-stage_of (BadTasks fault) = 3
-stage_of (BadTable fault) = 3
-stage_of (Infeasible window) = 4
-stage_of (Unreadable Arrivals) = 5
-stage_of (TooLarge Arrivals) = 6
-stage_of (BadArrivals fault) = 7
-stage_of (Unreadable Trace) = 8
-stage_of (TooLarge Trace) = 9
-stage_of (NotVerified reason) = 10
-stage_of WriteFault = 11
-stage_of Memory = 12
-
--- the stage at which what is due comes: a text is due where it is written
-abbrev pub stage_due : Outcome (List ℕ) → ℕ
-stage_due (Ok text) = 11
-stage_due (Err refusal) = stage_of refusal
+use Rattle.run_outcome.specs.Writings.{Writing, IsPut, leaves_output}
+use Rattle.command_line.specs.declared.Command.{Command}
+use Rattle.command_line.specs.Commands.{command_of, reads, writes_in_parts}
+use Rattle.run_steps.specs.Stages.{stage_of, stage_due}
+use Rattle.slot_cli.specs.Due.{expected, writing_due}
 
 -- the command reads this file
 abbrev pub Reads : Option Command → File → Type 0
 Reads None file = ⊥
 Reads (Some command) file = reads command file ≡ true
+
+-- the command puts its text in parts
+abbrev pub in_parts : Option Command → Bool
+in_parts None = false
+in_parts (Some command) = writes_in_parts command.output
+
+-- a run of this status leaves the output as it was, whatever the files hold; of a command that puts
+-- its text in parts this is not said where memory ran out or a change is refused
+abbrev pub leaves_output_at : Bool → Status → Bool
+leaves_output_at parts Status.Done = false
+leaves_output_at parts Status.WriteFault = false
+leaves_output_at parts Status.Memory = not parts
+leaves_output_at parts Status.SwitchRefused = not parts
+leaves_output_at parts _ = true
 
 -- a fault of a file that the command reads, or of the output
 abbrev pub IsHostFault : Option Command → Refusal → Type 0
@@ -58,12 +48,19 @@ IsAnswerTo command due (Err refusal) =
     (due ≡ Err refusal) ⊎ ((refusal ≡ Memory)
     ⊎ (IsHostFault command refusal × (stage_of refusal ≤ stage_due due)))
 
--- what is written to the output, where this text is due: all of it where the run is done, and else
--- a part of it from its front
-abbrev pub IsWritten : {X : Type 0} → Outcome X → List ℕ
-    → Option (List ℕ) → Option (List ℕ) → Type 0
-IsWritten (Ok done) text before after = Appends before after text
-IsWritten (Err refusal) text before after = AppendsPart before after text
+-- the output is as it was, or has the front of what is due
+abbrev pub HasFrontAtMost : Outcome Writing → Option (List ℕ) → Option (List ℕ) → Type 0
+HasFrontAtMost (Ok w) before after = (after ≡ before) ⊎ Appends before after w.front
+HasFrontAtMost (Err e) before after = after ≡ before
+
+-- a change of plan is refused: no cycle ends there, and nothing is written; or there is no room, and
+-- the front of what is due is written
+abbrev pub IsRefusedChange :
+    List (List ℕ) → Held → Option (List ℕ) → Option (List ℕ) → Type 0
+IsRefusedChange words held before after =
+    ((cycle : ℕ) × (expected held words ≡ Err (NotCycleEnd cycle)) × (after ≡ before))
+    ⊎ ((e : Evidence) × (expected held words ≡ Err (NoChange e))
+    × ((w : Writing) → writing_due held words ≡ Ok w → Appends before after w.front))
 
 -- a run as a whole: one outcome is what the caller, the files, the output and standard error see
 pub record IsRun (words : List (List ℕ)) (held : Option Held) (blamed : Option (List ℕ))
@@ -76,9 +73,15 @@ pub record IsRun (words : List (List ℕ)) (held : Option Held) (blamed : Option
   -- it is what the bytes of the files call for, or want of memory, or a fault of the host at a
   -- stage that is reached
   pub answers : IfSome held (λ files. IsAnswerTo (command_of words) (expected files words) outcome)
-  -- the output gets the text that is due, or a part of it
-  pub written : IfSome held (λ files. (text : List ℕ) → expected files words ≡ Ok text
-      → IsWritten outcome text out_before out_after)
+  -- the output gets what is due, or as much of it as stands where the run comes out so
+  pub written : IfSome held (λ files. (w : Writing) → writing_due files words ≡ Ok w
+      → IsPut outcome w out_before out_after)
+  -- and nothing where the run is refused before it
+  pub early : IfSome held (λ files. (e : Refusal) → writing_due files words ≡ Err e
+      → out_after ≡ out_before)
+  -- and nothing on a refusal that leaves the output, whatever the files hold
+  pub untouched : (e : Refusal) → outcome ≡ Err e
+      → leaves_output (in_parts (command_of words)) e ≡ true → out_after ≡ out_before
   -- a file that cannot be read is one that the command reads, and its name is blamed
   pub blames : (file : File) → outcome ≡ Err (Unreadable file)
       → Reads (command_of words) file × (blamed ≡ Some (name_of words file))

@@ -4,12 +4,13 @@ use Rattle.std.specs.FinMap.{get}
 use Rattle.slot_io.specs.Files.{Held}
 use Rattle.slot_core.specs.Keeping.Plans.{PlanParts}
 use Rattle.table_codec.specs.Grammar.{Spells}
-use Rattle.slot_cli.specs.declared.command.Source.TheVariants.{Tasks}
-use Rattle.slot_cli.specs.Due.{expected, plan_from}
+use Rattle.command_line.specs.declared.Source.TheVariants.{Tasks}
+use Rattle.run_steps.specs.Readings.{plan_from}
+use Rattle.slot_cli.specs.Due.{expected}
 
 -- where T has this plan, and files hold a spelling of it under B, in the first version or the
--- second, and the same arrivals under A, they call for the same of `replay-table B A N` as the files
--- before do of `replay T A N`
+-- second, and the same arrivals under A, they call for the same of `replay-table B A N` as the
+-- files before do of `replay T A N`
 abbrev pub EachSpellingReplaysTheSame : Type 0
 EachSpellingReplaysTheSame =
     (before after : Held) (t b a n bytes : List ℕ) (plan : PlanParts)

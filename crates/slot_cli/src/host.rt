@@ -4,7 +4,7 @@ ghost use Rattle.std.specs.Prelude.{◌≡◌, ◌↔◌, None, IfOk, IsErr};
 ghost use Rattle.std.specs.Process.{exit_status};
 ghost use Rattle.run_outcome.specs.declared.status.Status.{Status};
 ghost use Rattle.run_outcome.specs.Statuses.{exit_number};
-ghost use Rattle.slot_cli.specs.Commands.{command_of};
+ghost use Rattle.command_line.specs.Commands.{command_of};
 
 use crate::run;
 use run_outcome::Status;

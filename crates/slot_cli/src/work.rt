@@ -6,31 +6,30 @@ ghost use Rattle.slot_core.specs.Runs.Arrivals.{are_fitting};
 ghost use Rattle.slot_core.specs.Keeping.Executives.{StandsFor};
 ghost use Rattle.slot_core.specs.Output.Charts.{chart_text, tally_text};
 ghost use Rattle.gantt_print.specs.Drawings.{empty_chart};
-ghost use Rattle.margin_find.specs.Texts.{margin_text};
-ghost use Rattle.table_codec.specs.Grammar.{spelling};
 ghost use Rattle.slot_core.specs.Output.Texts.{trace_text};
 ghost use Rattle.slot_core.specs.Runs.Traces.{trace};
-ghost use Rattle.slot_cli.specs.Commands.{command_of, IsInRange, IsOutputInRange};
-ghost use Rattle.slot_cli.specs.Due.{output_text};
-ghost use Rattle.slot_cli.specs.Steps.{IsWriting, IsWork};
+ghost use Rattle.run_outcome.specs.Writings.{IsPartWriting, IsWriting};
+ghost use Rattle.command_line.specs.Commands.{command_of, writes_in_parts, IsInRange, IsOutputInRange};
+ghost use Rattle.slot_cli.specs.Due.{output_due, MayBeWritten};
+ghost use Rattle.slot_cli.specs.Work.{IsWork};
 
-use crate::command::{Command, Output, command_of};
-use crate::reports::{check_plan, put_lines, show_plan};
-use crate::steps::{arrivals_from, plan_from, trace_from};
+use crate::parts::{change_plan, explain_row};
 use arrival_replay::drive;
+use command_line::{Command, Output, command_of};
 use cycle_plan::Plan;
 use gantt_print::Chart;
 use interval_row::ChainTable;
 use load_gen::Tally;
-use margin_find::{find_margins, put_margins};
+use plan_reports::{check_plan, put_lines, show_plan, write_margins, write_table};
 use run_outcome::Refusal;
+use run_steps::{arrivals_from, check_arrivals, plan_from, second_from};
 use slot_core::{Arrival, Words};
 use slot_exec::Exec;
 use slot_io::{Files, Sink};
 use std::alloc::Global;
 
 /// Does the work that the words ask for.
-pub fn work<F: Files, K: Sink>(
+pub(crate) fn work<F: Files, K: Sink>(
     alloc: Global,
     words: &Words,
     files: &mut F,
@@ -45,7 +44,7 @@ pub fn work<F: Files, K: Sink>(
     }
 }
 
-/// Does the work of a command: makes the plan, gathers the arrivals, verifies, and writes.
+/// Does the work of a command: makes the plans, gathers the arrivals, checks, and writes.
 fn carry_out<F: Files, K: Sink>(
     alloc: Global,
     words: &Words,
@@ -58,28 +57,30 @@ fn carry_out<F: Files, K: Sink>(
         words.now (Some command) result }
 {
     let plan = plan_from(alloc, words, files, command.source)?;
+    let second = second_from(alloc, words, files, command.second)?;
     let arrivals = arrivals_from(alloc, words, files, command.arrivals, plan.tasks())?;
     let slots = command.arrivals.slots();
-    let recording = command.recording;
     let rows = arrivals.as_slice();
-    trace_from(alloc, words, files, recording, slots, &plan, rows)?;
-    write(alloc, command.output, slots, plan, rows, out)
+    check_arrivals(alloc, words, files, command.check, slots, &plan, rows)?;
+    write(alloc, command.output, slots, plan, second, rows, out)
 }
 
-/// Writes this of the plan and the arrivals, over so many slots. All memory is taken before the
-/// first put.
+/// Writes this of the plans and the arrivals, over so many slots. All memory of a part is taken
+/// before its first put.
 fn write<K: Sink>(
     alloc: Global,
     output: Output,
     slots: u32,
     plan: Plan,
+    second: Option<Plan>,
     arrivals: &[Arrival],
     out: &mut K,
 ) -> Result<(), Refusal>
     requires in_range { IsOutputInRange slots output }
     requires fitting { are_fitting plan.tasks slots arrivals.now ≡ true }
-    ensures { IsWriting K.written K.faults (output_text output slots plan arrivals.now) result
-        out.old out.new }
+    requires checked { MayBeWritten output slots plan arrivals.now }
+    ensures { IsPartWriting K.written K.faults (writes_in_parts output)
+        (output_due output slots plan second arrivals.now) result out.old out.new }
 {
     match output {
         Output::Counts => check_plan(alloc, &plan, out),
@@ -88,28 +89,11 @@ fn write<K: Sink>(
         Output::Margins => write_margins(alloc, &plan, out),
         Output::Trace => replay_plan(alloc, plan, arrivals, slots, out),
         Output::Chart => chart_plan(alloc, plan, arrivals, slots, out),
-        Output::Lines => put_lines(u64::from(slots), arrivals.len() as u64, out),
+        Output::Lines => put_lines(slots, arrivals, out),
         Output::Tally(n) => tally_plan(alloc, plan, arrivals, n, slots, out),
+        Output::Explanation(row) => explain_row(alloc, plan, arrivals, slots, row, out),
+        Output::Change(until) => change_plan(alloc, plan, second, arrivals, slots, until, out),
     }
-}
-
-/// Writes the table of the plan, in one put.
-fn write_table<K: Sink>(alloc: Global, plan: &Plan, out: &mut K) -> Result<(), Refusal>
-    ensures { IsWriting K.written K.faults (spelling plan.now) result out.old out.new }
-{
-    let bytes = table_codec::encode(alloc, plan)?;
-    out.put(bytes.as_slice())?;
-    Ok(())
-}
-
-/// Writes how much each task of the plan may grow, one put a line. All margins are found before the
-/// first put.
-fn write_margins<K: Sink>(alloc: Global, plan: &Plan, out: &mut K) -> Result<(), Refusal>
-    ensures { IsWriting K.written K.faults (margin_text plan.now.tasks) result out.old out.new }
-{
-    let margins = find_margins(alloc, plan)?;
-    put_margins(plan.tasks(), margins.items(), out)?;
-    Ok(())
 }
 
 /// Writes the trace of the plan with these arrivals. The executive takes all memory when it starts.

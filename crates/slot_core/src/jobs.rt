@@ -77,7 +77,7 @@ pub struct Window {
 }
 
 /// Why an offer is refused: up to `until` it needs `need` slots, and there are `room`.
-#[derive(Clone, Copy, PartialEq, Eq)]
+#[derive(Clone, Copy, PartialEq, Eq, Debug)]
 pub struct Evidence {
     /// The time by which more is needed than there are slots.
     pub until: u64,

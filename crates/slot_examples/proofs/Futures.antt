@@ -87,7 +87,7 @@ one_slot_alone =
     (Some 0 ∷ Some 3 ∷ Some 1 ∷ None ∷ Some 2 ∷ None ∷ [], IsSchedule-from_tests half_set _ 0 6 _ refl refl refl refl refl)
 
 -- without a sporadic task there is no arrival, and none is a legal pattern
-no_arrivals : {nexts : List ℕ} {from : ℕ} → IsLegalPattern [] nexts from []
+pub no_arrivals : {nexts : List ℕ} {from : ℕ} → IsLegalPattern [] nexts from []
 no_arrivals = record { named = All-from_recursion _ [] tt; spaced = λ index s at. cc }
 
 -- an offer of two is one too many, without any arrival

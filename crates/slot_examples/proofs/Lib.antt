@@ -1,9 +1,11 @@
 pub mod Arrivals
 pub mod Charts
+pub mod Explained
 pub mod Feasible
 pub mod Firm
 pub mod Flight
 pub mod Futures
+pub mod Growth
 pub mod Kept
 pub mod Lawful
 pub mod Legal
@@ -15,6 +17,7 @@ pub mod SameLines
 pub mod Schedules
 pub mod Service
 pub mod Soft
+pub mod SoftWork
 pub mod Soundness
 pub mod Starts
 pub mod Tables

@@ -18,7 +18,7 @@ use std::marker::Brand;
 use std::sync::ledger::{Blank, Ledger};
 
 /// The queue of the jobs of the first three cycles, with room for three cycles of jobs.
-pub fn first_jobs(alloc: Global, plan: &Plan) -> Result<JobQueue, Memory>
+pub(crate) fn first_jobs(alloc: Global, plan: &Plan) -> Result<JobQueue, Memory>
     ensures jobs { IfOk result (λ queue. HaveSameItems
         queue.jobs
         (jobs_in_cycle plan.now 0 ++ jobs_in_cycle plan.now 1 ++ jobs_in_cycle plan.now 2)) }
@@ -47,7 +47,7 @@ fn insert_first<L: Ledger>(alloc: Global, plan: &Plan, blank: Blank) -> Result<J
 
 /// Time goes on by one slot. At the end of a cycle the plan's spans and jobs of one more cycle come
 /// in; that it has ended is told.
-pub fn pass<T: SpareTable, L: Ledger>(
+pub(crate) fn pass<T: SpareTable, L: Ledger>(
     plan: &Plan,
     table: &mut T,
     queue: &mut JobQueue,

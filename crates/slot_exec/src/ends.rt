@@ -17,7 +17,7 @@ use std::sync::ledger::Ledger;
 
 /// The job of this key ends, where it has started: it goes, and the slots that it had left are due
 /// no more, also not among those that are due by `tight`.
-pub fn end_early<T: SpareTable, L: Ledger>(
+pub(crate) fn end_early<T: SpareTable, L: Ledger>(
     table: &mut T,
     queue: &mut JobQueue,
     soft: &mut HeapCircularBuffer<SoftJob>,

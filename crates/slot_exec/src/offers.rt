@@ -18,7 +18,7 @@ use sporadic_reserve::Reserve;
 use std::sync::ledger::Ledger;
 
 /// The answer to an offer of `c` slots within `d` slots, in a plan of this cycle.
-pub fn answer_offer<T: SpareTable, L: Ledger>(
+pub(crate) fn answer_offer<T: SpareTable, L: Ledger>(
     table: &T,
     reserve: &Reserve,
     cycle: u32,
@@ -61,7 +61,7 @@ pub fn answer_offer<T: SpareTable, L: Ledger>(
 }
 
 /// The job of an offer of `c` slots within `d` slots that was accepted at `time` in this row.
-pub fn offered(row: u32, time: u64, c: u32, d: u32) -> Job
+pub(crate) fn offered(row: u32, time: u64, c: u32, d: u32) -> Job
     requires { time < 2 ^ 41 }
     ensures { result ≡ offered_job row time c d }
 {
@@ -75,7 +75,7 @@ pub fn offered(row: u32, time: u64, c: u32, d: u32) -> Job
 }
 
 /// The job comes in: its deadline ends a span, at which its slots are due.
-pub fn admit<T: SpareTable, L: Ledger>(
+pub(crate) fn admit<T: SpareTable, L: Ledger>(
     table: &mut T,
     queue: &mut JobQueue,
     job: Job,

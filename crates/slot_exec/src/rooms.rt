@@ -25,7 +25,7 @@ pub struct Room {
 
 /// Whether soft work may take this slot, and what is remembered then, for arrivals of sporadic
 /// tasks after the slot. The spans are searched only where what is remembered does not decide.
-pub fn may_run<T: SpareTable, L: Ledger>(
+pub(crate) fn may_run<T: SpareTable, L: Ledger>(
     table: &T,
     reserve: &Reserve,
     room: Room,
@@ -109,7 +109,7 @@ fn search<T: SpareTable, L: Ledger>(
 }
 
 /// What is remembered after a slot in which this ran, and after which a cycle turned or not.
-pub fn after_slot(room: Room, chosen: Chosen, turned: bool) -> Room
+pub(crate) fn after_slot(room: Room, chosen: Chosen, turned: bool) -> Room
     ensures { result ≡ room_after chosen turned room }
 {
     let free = if turned {
@@ -125,7 +125,7 @@ pub fn after_slot(room: Room, chosen: Chosen, turned: bool) -> Room
 }
 
 /// How many slots are free beside an offer that is accepted, where so many are free now.
-pub fn free_beside(job: Job, free: u64) -> u64
+pub(crate) fn free_beside(job: Job, free: u64) -> u64
     requires { job.est ≤ job.dl }
     ensures { result ≡ free_beside job free }
 {
@@ -134,7 +134,7 @@ pub fn free_beside(job: Job, free: u64) -> u64
 }
 
 /// The slots of guaranteed jobs that are due by `tight` with this job, where `due` are now.
-pub fn due_with(job: Job, tight: u64, due: u64) -> u64
+pub(crate) fn due_with(job: Job, tight: u64, due: u64) -> u64
     requires { job.dl ≤ tight → due < 2 ^ 63 }
     ensures { result ≡ due_with job tight due }
 {
@@ -146,7 +146,7 @@ pub fn due_with(job: Job, tight: u64, due: u64) -> u64
 }
 
 /// The same with the job of an arrival, where it is taken.
-pub fn due_told(answer: Spo, job: Job, tight: u64, due: u64) -> u64
+pub(crate) fn due_told(answer: Spo, job: Job, tight: u64, due: u64) -> u64
     requires { (deadline : ℕ) → answer ≡ Spo.Taken deadline → job.dl ≤ tight → due < 2 ^ 63 }
     ensures { result ≡ due_told answer job tight due }
 {
@@ -157,7 +157,7 @@ pub fn due_told(answer: Spo, job: Job, tight: u64, due: u64) -> u64
 }
 
 /// The same without a job that goes.
-pub fn due_without(job: Job, tight: u64, due: u64) -> u64
+pub(crate) fn due_without(job: Job, tight: u64, due: u64) -> u64
     ensures { result ≡ due_without job tight due }
 {
     if job.dl <= tight {

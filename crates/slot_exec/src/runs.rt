@@ -42,7 +42,7 @@ impl Chosen {
 
 /// The first soft job where soft work may run, else the earliest job that is ready, else nothing.
 /// And what is remembered then, for arrivals of sporadic tasks after the slot.
-pub fn choose<T: SpareTable, L: Ledger>(
+pub(crate) fn choose<T: SpareTable, L: Ledger>(
     table: &T,
     reserve: &Reserve,
     queue: &JobQueue,
@@ -89,7 +89,7 @@ fn earliest_job<L: Ledger>(queue: &JobQueue, time: u64, steps: &mut Steps<L>) ->
 }
 
 /// What is chosen runs one slot.
-pub fn run<T: SpareTable, L: Ledger>(
+pub(crate) fn run<T: SpareTable, L: Ledger>(
     chosen: Chosen,
     table: &mut T,
     queue: &mut JobQueue,

@@ -9,7 +9,7 @@ use slot_core::{SHOWN_LIMIT, Shown, Steps};
 use std::sync::ledger::Ledger;
 
 /// The spot of the span at this place.
-pub fn spot_of<T: SpareTable>(table: &T, i: u32) -> Spot
+pub(crate) fn spot_of<T: SpareTable>(table: &T, i: u32) -> Spot
     requires { i < length (T.pairs table.now) }
     ensures { spot_at (T.pairs table.now) i ≡ Some result }
 {
@@ -21,7 +21,7 @@ pub fn spot_of<T: SpareTable>(table: &T, i: u32) -> Spot
 }
 
 /// The first spans, as many as an entry shows or all, and the number of the others.
-pub fn first_spans<T: SpareTable, L: Ledger>(table: &T, steps: &mut Steps<L>) -> Shown
+pub(crate) fn first_spans<T: SpareTable, L: Ledger>(table: &T, steps: &mut Steps<L>) -> Shown
     ensures shown { result
         ≡ record {
           spans = take SHOWN_LIMIT (spans_of_pairs (T.pairs table.now));

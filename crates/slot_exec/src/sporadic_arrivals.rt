@@ -15,7 +15,7 @@ use sporadic_reserve::Reserve;
 use std::sync::ledger::Ledger;
 
 /// The job of the sporadic task of this index that arrives in this row at `time`.
-pub fn arriving_job(sporadics: &[Sporadic], index: u8, row: u32, time: u64) -> Job
+pub(crate) fn arriving_job(sporadics: &[Sporadic], index: u8, row: u32, time: u64) -> Job
     requires known { index < length sporadics.now }
     requires near { time < 2 ^ 41 }
     ensures { result ≡ sporadic_job sporadics.now index row time }
@@ -32,7 +32,7 @@ pub fn arriving_job(sporadics: &[Sporadic], index: u8, row: u32, time: u64) -> J
 
 /// The sporadic task of this index comes now, with this job, which comes in where that is not too
 /// soon.
-pub fn take_arrival<T: SpareTable, L: Ledger>(
+pub(crate) fn take_arrival<T: SpareTable, L: Ledger>(
     table: &mut T,
     reserve: &mut Reserve,
     queue: &mut JobQueue,

@@ -17,7 +17,7 @@ use std::sync::ledger::Ledger;
 
 /// The firm job of this row is taken back, whether it has started or not: it goes, and the slots
 /// that it had left are due no more, also not among those that are due by `tight`.
-pub fn take_back<T: SpareTable, L: Ledger>(
+pub(crate) fn take_back<T: SpareTable, L: Ledger>(
     table: &mut T,
     queue: &mut JobQueue,
     firm: u32,

@@ -1,4 +1,5 @@
--- Every lawful history and trace is served and ordered, and every legal history and trace is lawful.
+-- Every lawful history and trace is served and ordered, and every legal history and trace is
+-- lawful.
 use Rattle.std.specs.Prelude.{◌≡◌, ℕ, true, List}
 use Rattle.slot_core.specs.declared.tasks.TaskSet.{TaskSet}
 use Rattle.slot_core.specs.declared.events.Arrival.{Arrival}

@@ -9,7 +9,7 @@ ghost use Rattle.source_check.specs.Checks.{AreFew, Tells};
 use slot_core::{Field, Graph, Part, Place, TaskFault};
 
 /// Whether the `after` entries of each task name distinct tasks of its graph.
-pub fn check_entries(graphs: &[Graph]) -> Result<(), TaskFault>
+pub(crate) fn check_entries(graphs: &[Graph]) -> Result<(), TaskFault>
     requires { AreFew graphs.now }
     ensures { Tells result (first_fault after_fault 0 graphs.now) }
 {

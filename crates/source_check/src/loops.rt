@@ -10,7 +10,7 @@ use std::alloc::Global;
 use window_derive::{OrderFault, order};
 
 /// Whether no task of the graphs stands on a loop.
-pub fn check_loops(alloc: Global, graphs: &[Graph]) -> Result<(), TaskFault>
+pub(crate) fn check_loops(alloc: Global, graphs: &[Graph]) -> Result<(), TaskFault>
     requires few { AreFew graphs.now }
     requires named { first_fault after_fault 0 graphs.now ≡ None }
     ensures { TellsInMemory result (first_fault loop_fault 0 graphs.now) }

@@ -10,7 +10,7 @@ ghost use Rattle.source_check.specs.Checks.{AreFew, Tells};
 use slot_core::{Field, Graph, Name, Part, Place, Sporadic, Task, TaskFault};
 
 /// Whether the graphs have distinct names, and the tasks of each graph too.
-pub fn check_graph_names(graphs: &[Graph]) -> Result<(), TaskFault>
+pub(crate) fn check_graph_names(graphs: &[Graph]) -> Result<(), TaskFault>
     requires { AreFew graphs.now }
     ensures { Tells result (graph_names_fault [] 0 graphs.now) }
 {
@@ -37,7 +37,7 @@ fn check_task_names(graph: u16, tasks: &[Task]) -> Result<(), TaskFault>
 }
 
 /// Whether the sporadic tasks have distinct names.
-pub fn check_sporadic_names(sporadics: &[Sporadic]) -> Result<(), TaskFault>
+pub(crate) fn check_sporadic_names(sporadics: &[Sporadic]) -> Result<(), TaskFault>
     requires { length sporadics.now ≤ 255 }
     ensures { Tells result (names_fault Part.Sporadic [] 0 (map (λ s. s.name) sporadics.now)) }
 {

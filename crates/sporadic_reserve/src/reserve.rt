@@ -14,7 +14,8 @@ use arrayvec::ArrayVec;
 use slot_core::{SPORADIC_LIMIT, Sporadic};
 use std::marker::Model;
 
-/// Sporadic tasks, at most `SPORADIC_LIMIT`, each with its next legal arrival. No call takes memory.
+/// Sporadic tasks, at most `SPORADIC_LIMIT`, each with its next legal arrival. No call takes
+/// memory.
 #[derive(Drop)]
 pub struct Reserve {
     rows: ArrayVec<Row, SPORADIC_LIMIT>,

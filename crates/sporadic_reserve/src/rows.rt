@@ -51,7 +51,7 @@ fn next_due(row: Row, r: u64, x: u64) -> u64
 }
 
 /// The slots that the densest arrivals from `r` on need by `x`.
-pub fn demand_of(rows: &[Row], r: u64, x: u64) -> u64
+pub(crate) fn demand_of(rows: &[Row], r: u64, x: u64) -> u64
     requires rows { AreRows rows.now }
     requires few { length rows.now ≤ SPORADIC_LIMIT }
     requires near { r < 2 ^ 41 }
@@ -70,7 +70,7 @@ pub fn demand_of(rows: &[Row], r: u64, x: u64) -> u64
 }
 
 /// The first time after `x` at which that demand rises, or none without rows.
-pub fn next_rise(rows: &[Row], r: u64, x: u64) -> Option<u64>
+pub(crate) fn next_rise(rows: &[Row], r: u64, x: u64) -> Option<u64>
     requires rows { AreRows rows.now }
     requires near { r < 2 ^ 41 }
     requires soon { x < 2 ^ 41 }
@@ -87,7 +87,7 @@ pub fn next_rise(rows: &[Row], r: u64, x: u64) -> Option<u64>
 }
 
 /// What rows need by a time, and the first time after it at which that rises, in one pass.
-pub fn demand_and_rise(rows: &[Row], r: u64, x: u64) -> (u64, Option<u64>)
+pub(crate) fn demand_and_rise(rows: &[Row], r: u64, x: u64) -> (u64, Option<u64>)
     requires rows { AreRows rows.now }
     requires few { length rows.now ≤ SPORADIC_LIMIT }
     requires near { r < 2 ^ 41 }
@@ -117,7 +117,7 @@ fn earlier(first: Option<u64>, due: u64) -> u64
 }
 
 /// From now on the next legal arrival of the row at this place is `next`.
-pub fn move_next(rows: &mut [Row], at: usize, next: u64)
+pub(crate) fn move_next(rows: &mut [Row], at: usize, next: u64)
     requires rows { AreRows rows.old }
     requires within { at < length rows.old }
     requires near { next ≤ 2 ^ 41 }

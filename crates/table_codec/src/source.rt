@@ -140,7 +140,11 @@ fn read_sporadics(
 }
 
 /// The task set, each number and name in its range.
-pub fn read_set(alloc: Global, input: &mut Input, layout: Layout) -> Result<TaskSet, TableFault>
+pub(crate) fn read_set(
+    alloc: Global,
+    input: &mut Input,
+    layout: Layout,
+) -> Result<TaskSet, TableFault>
     ensures { Reads (set_form layout).read result input.old input.new }
 {
     let soft_limit = input.within(layout, Part::Top, Field::Soft, 1, SOFT_LIMIT)?;

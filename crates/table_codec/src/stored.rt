@@ -83,7 +83,7 @@ fn check_each_job(input: &mut Input, layout: Layout, jobs: &[Job]) -> Result<(),
 }
 
 /// Refuses stored jobs that are not the computed ones.
-pub fn check_jobs(input: &mut Input, layout: Layout, jobs: &[Job]) -> Result<(), TableFault>
+pub(crate) fn check_jobs(input: &mut Input, layout: Layout, jobs: &[Job]) -> Result<(), TableFault>
     requires { length jobs.now < 2 ^ 32 }
     ensures { ReadsAs (λ _. jobs.now) (jobs_form layout jobs.now).read result input.old input.new }
 {
@@ -112,7 +112,11 @@ fn check_each_span(input: &mut Input, layout: Layout, spans: &[Span]) -> Result<
 }
 
 /// Refuses stored spans that are not the computed ones.
-pub fn check_spans(input: &mut Input, layout: Layout, spans: &[Span]) -> Result<(), TableFault>
+pub(crate) fn check_spans(
+    input: &mut Input,
+    layout: Layout,
+    spans: &[Span],
+) -> Result<(), TableFault>
     requires { length spans.now < 2 ^ 32 }
     ensures { ReadsAs (λ _. spans.now)
         (spans_form layout spans.now).read result input.old input.new }

@@ -83,7 +83,7 @@ fn read_plan(alloc: Global, input: &mut Input, layout: Layout) -> Result<Plan, T
 }
 
 /// The plan of a whole table.
-pub fn read_table(alloc: Global, input: &mut Input) -> Result<Plan, TableFault>
+pub(crate) fn read_table(alloc: Global, input: &mut Input) -> Result<Plan, TableFault>
     ensures reading { Reads (table_form layout_2).read result input.old input.new }
     ensures plan { IfOk result IsPlan }
 {

@@ -281,7 +281,7 @@ fn put_spans(out: &mut Vec<u8>, layout: Layout, spans: &[Span]) -> Result<(), Me
 }
 
 /// A whole table.
-pub fn put_table(out: &mut Vec<u8>, layout: Layout, plan: &Plan) -> Result<(), Memory>
+pub(crate) fn put_table(out: &mut Vec<u8>, layout: Layout, plan: &Plan) -> Result<(), Memory>
     ensures { OnOk result (out.new.items ≡ out.old.items ++ (table_form layout).written plan.now) }
 {
     put_head(out, layout)?;

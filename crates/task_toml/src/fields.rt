@@ -11,7 +11,7 @@ use slot_core::{Field, Name, Part, Place, TaskFault};
 use toml::{Table, Value};
 
 /// What stands at the key.
-pub fn value_at(table: &Table, field: Field) -> Option<&Value>
+pub(crate) fn value_at(table: &Table, field: Field) -> Option<&Value>
     ensures { option_map (λ v. view v.now) result ≡ at_key field (table_view table.now) }
 {
     table.get(field.word())
@@ -46,7 +46,7 @@ fn knows_field(part: Part, field: Field) -> bool
 }
 
 /// The number at the key, from `low` to `high`, or `absent` where the key is not there.
-pub fn number_at(
+pub(crate) fn number_at(
     table: &Table,
     part: Part,
     field: Field,
@@ -81,7 +81,7 @@ fn in_range(place: Place, low: u32, high: u32, number: i64) -> Result<u32, TaskF
 }
 
 /// The name at the key.
-pub fn name_at(table: &Table, part: Part, field: Field) -> Result<Name, TaskFault>
+pub(crate) fn name_at(table: &Table, part: Part, field: Field) -> Result<Name, TaskFault>
     ensures { result ≡ name_at (record { part = part; field = field })
         (at_key field (table_view table.now)) }
 {
@@ -94,7 +94,7 @@ pub fn name_at(table: &Table, part: Part, field: Field) -> Result<Name, TaskFaul
 }
 
 /// Refuses a table that has a key which a table of this part does not know.
-pub fn check_keys(table: &Table, part: Part) -> Result<(), TaskFault>
+pub(crate) fn check_keys(table: &Table, part: Part) -> Result<(), TaskFault>
     ensures { MatchResult result
         (λ _. known_keys part (table_view table.now) ≡ Ok (table_view table.now))
         (λ e. known_keys part (table_view table.now) ≡ Err e) }

@@ -161,7 +161,7 @@ fn read_graph(alloc: Global, graph: u16, table: &Table) -> Result<Graph, TaskFau
 }
 
 /// The graphs of the tables.
-pub fn read_graphs(alloc: Global, tables: &[&Table]) -> Result<Graphs, TaskFault>
+pub(crate) fn read_graphs(alloc: Global, tables: &[&Table]) -> Result<Graphs, TaskFault>
     requires { length tables.now ≤ GRAPH_LIMIT }
     ensures { Answers result (each graph_of 0 (map (λ t. table_view t.now) tables.now)) }
 {
@@ -199,7 +199,7 @@ fn read_sporadic(sporadic: u8, table: &Table) -> Result<Sporadic, TaskFault>
 }
 
 /// The sporadic tasks of the tables.
-pub fn read_sporadics(alloc: Global, tables: &[&Table]) -> Result<Sporadics, TaskFault>
+pub(crate) fn read_sporadics(alloc: Global, tables: &[&Table]) -> Result<Sporadics, TaskFault>
     requires { length tables.now ≤ SPORADIC_LIMIT }
     ensures { Answers result (each sporadic_of 0 (map (λ t. table_view t.now) tables.now)) }
 {

@@ -77,7 +77,7 @@ fn items_at<'a>(table: &'a Table, part: Part, field: Field) -> Result<&'a [Value
 }
 
 /// The tables of the array at the key, at most `limit` of them; none where the key is not there.
-pub fn tables_at<'a>(
+pub(crate) fn tables_at<'a>(
     alloc: Global,
     table: &'a Table,
     part: Part,
@@ -96,7 +96,7 @@ pub fn tables_at<'a>(
 }
 
 /// The tables of the array at the key, 1 to `limit` of them.
-pub fn some_tables_at<'a>(
+pub(crate) fn some_tables_at<'a>(
     alloc: Global,
     table: &'a Table,
     part: Part,
@@ -116,7 +116,7 @@ pub fn some_tables_at<'a>(
 }
 
 /// The texts of the array at the key, at most `limit` of them; none where the key is not there.
-pub fn texts_at<'a>(
+pub(crate) fn texts_at<'a>(
     alloc: Global,
     table: &'a Table,
     part: Part,

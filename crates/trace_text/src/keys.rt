@@ -49,7 +49,7 @@ fn push_task(line: &mut Line, graph: u16, task: u16, tasks: &TaskSet)
 }
 
 /// Appends the name of the sporadic task of this index.
-pub fn push_sporadic(line: &mut Line, index: u8, tasks: &TaskSet)
+pub(crate) fn push_sporadic(line: &mut Line, index: u8, tasks: &TaskSet)
     requires named { nat_lt index (length tasks.now.sporadics) ≡ true }
     requires room { length line.old + NAME_LIMIT ≤ 1024 }
     ensures text { line.new ≡ line.old ++ sporadic_name tasks.now index }
@@ -75,7 +75,7 @@ fn push_offline(line: &mut Line, graph: u16, task: u16, instance: u64, tasks: &T
 }
 
 /// Appends the key, which takes at most 70 bytes.
-pub fn push_key(line: &mut Line, key: Key, tasks: &TaskSet)
+pub(crate) fn push_key(line: &mut Line, key: Key, tasks: &TaskSet)
     requires named { key_in_set tasks.now key ≡ true }
     requires room { length line.old + 70 ≤ 1024 }
     ensures text { line.new ≡ line.old ++ key_text tasks.now key }

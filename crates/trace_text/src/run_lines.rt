@@ -12,6 +12,7 @@ use slot_core::{Ran, TaskSet};
 /// of a slot: a number, one space, `idle` or `run` with a key, and one space before any rest.
 pub fn read_run(line: &[u8], tasks: &TaskSet) -> Option<Ran>
     requires { is_sound tasks.now ≡ true }
+    ensures reading { result ≡ run_of_line tasks.now line.now }
     ensures exact { (ran : Ran) → (result ≡ Some ran) ↔ TellsRun tasks.now line.now ran }
 {
     run_of_line(line, tasks)

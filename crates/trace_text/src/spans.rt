@@ -35,7 +35,7 @@ fn push_spans(line: &mut Line, spans: &[Span])
 }
 
 /// Appends the spans that an entry shows, and how many more there are.
-pub fn push_shown(line: &mut Line, shown: &Shown)
+pub(crate) fn push_shown(line: &mut Line, shown: &Shown)
     requires { length line.old + 534 ≤ 1024 }
     ensures text { line.new ≡ line.old ++ shown_text shown.now }
     ensures short { length line.new ≤ length line.old + 534 }

@@ -10,7 +10,7 @@ use crate::line::Line;
 use slot_core::{Done, Firm, Gone, Key, Soft, Spo, TaskSet, What};
 
 /// Appends a space and the number.
-pub fn push_number(line: &mut Line, n: u64)
+pub(crate) fn push_number(line: &mut Line, n: u64)
     requires { length line.old + 21 ≤ 1024 }
     ensures text { line.new ≡ line.old ++ 32 ∷ decimal n }
     ensures short { length line.new ≤ length line.old + 21 }
@@ -178,7 +178,7 @@ fn push_withdraw_words(line: &mut Line, row: u32, firm: u32, answer: Gone, tasks
 }
 
 /// Appends the words of an entry.
-pub fn push_what(line: &mut Line, what: What, tasks: &TaskSet)
+pub(crate) fn push_what(line: &mut Line, what: What, tasks: &TaskSet)
     requires named { what_in_set tasks.now what ≡ true }
     requires room { length line.old + 137 ≤ 1024 }
     ensures text { line.new ≡ line.old ++ what_text tasks.now what }

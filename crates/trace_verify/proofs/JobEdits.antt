@@ -1,13 +1,15 @@
 -- What edits of a list of jobs leave: an insertion, a run, and the first of jobs in deadline order.
 use Rattle.std.proofs.Common.{◌≡◌, ℕ, zero, suc, ◌+◌, ◌-◌, ◌<◌, ◌≤◌, Bool, true, false, cond, List, [], ◌∷◌, length, get_or, set, take, filter, fold, sum_by, Some, None, refl, sym, ap, ◌∙◌, subst, arith}
-use Rattle.std.specs.Prelude.{nat_le, nat_lt, slice_get}
-use Rattle.std.specs.List.{insert, remove, prefix_len, AllByRecursion}
+use Rattle.std.specs.Prelude.{nat_le, nat_lt, not, slice_get}
+use Rattle.std.specs.List.{insert, list_all, remove, prefix_len, AllByRecursion}
 use Rattle.std.proofs.lemmas.Bool.{cond-true, cond-false, le-leb, lt-leb, lt-ltb, le-ltb}
 use Rattle.slot_core.specs.declared.jobs.Key.{Key}
 use Rattle.slot_core.specs.declared.jobs.Job.{Job}
+use Rattle.slot_core.specs.declared.tasks.TaskSet.{TaskSet}
 use Rattle.slot_core.specs.Claims.Safety.{after_run}
 use Rattle.slot_core.specs.Keeping.Plans.{with_job, AreInDeadlineOrder}
 use Rattle.slot_core.specs.Offline.Keys.{is_earlier, same_key}
+use Rattle.slot_core.specs.Offline.Windows.{precedes}
 use Rattle.slot_core.specs.Runs.Choice.{earlier_of, earliest}
 use Rattle.slot_core.specs.Runs.Demand.{work_by}
 use Rattle.interval_build.proofs.Due.{HasDueFront-ordered}
@@ -125,3 +127,8 @@ work_by-empty z (j ∷ jobs) none = absurd (cc none)
 pub work_by-front : (x : ℕ) (jobs : List Job) → AreInDeadlineOrder jobs → sum_by (λ (j : Job). j.left) (take (prefix_len (λ (j : Job). nat_le j.dl x) jobs) jobs) ≡ work_by jobs x
 work_by-front x jobs ordered =
     ap (sum_by (λ (j : Job). j.left)) (HasDueFront-ordered x jobs ordered).front ∙ sum_by-filter (λ (j : Job). j.left) (λ (j : Job). nat_le j.dl x) jobs
+
+-- where nothing precedes a job, no job of a list does
+pub none_precedes : (set : TaskSet) (key : Key) (jobs : List Job) → ((before : Key) → precedes set before key ≡ false) → list_all (λ (j : Job). not (precedes set j.key key)) jobs ≡ true
+none_precedes set key [] none = refl
+none_precedes set key (j ∷ jobs) none = rw (none j.key) (none_precedes set key jobs none)

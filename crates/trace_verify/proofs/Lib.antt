@@ -18,4 +18,5 @@ pub mod SameVerdicts
 pub mod SoftEdits
 pub mod ToVerdict
 pub mod ToldLines
+pub mod Verified
 pub mod Walks

@@ -1,5 +1,5 @@
--- The verdict on a recorded trace. Its lines are checked in order, each against the history that the
--- lines before it tell: whether it is there, what it tells, whether it is the line of that, and
+-- The verdict on a recorded trace. Its lines are checked in order, each against the history that
+-- the lines before it tell: whether it is there, what it tells, whether it is the line of that, and
 -- whether the jobs that remain after it are in time.
 use Rattle.std.specs.Prelude.{◌≡◌, ◌≢◌, ℕ, ◌+◌, List, [], ◌∷◌, ◌++◌, filter, nat_le, Option, Result, Ok, Err, MatchResult, if◌then◌else◌, ⊤}
 use Rattle.std.specs.Option.{option_map_or}

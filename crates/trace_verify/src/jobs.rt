@@ -1,9 +1,10 @@
 //! Lists of remaining jobs.
 
-ghost use Rattle.std.specs.Prelude.{◌≡◌, ◌≤◌, ◌&&◌, ◌==◌, not, filter, find, length, nat_le, nat_lt, position, All, OnErr, OnOk};
+ghost use Rattle.std.specs.Prelude.{[], false, true, ◌≡◌, ◌≤◌, ◌&&◌, ◌==◌, not, filter, find, length, nat_le, nat_lt, position, All, OnErr, OnOk};
 ghost use Rattle.std.specs.List.{list_all, list_any, prefix_len};
 ghost use Rattle.std.specs.Option.{option_map};
 ghost use Rattle.slot_core.specs.declared.jobs.Job.{Job};
+ghost use Rattle.slot_core.specs.declared.jobs.Key.{Key as PairKey};
 ghost use Rattle.slot_core.specs.Claims.Safety.{after_run};
 ghost use Rattle.slot_core.specs.Keeping.Kept.{AreApart};
 ghost use Rattle.slot_core.specs.Keeping.Plans.{with_job, AreInDeadlineOrder};
@@ -77,11 +78,32 @@ fn starts_by(time: u64, job: &Job, key: Key) -> bool
     is_same_key(job.key, key) && job.est <= time
 }
 
-/// Whether no predecessor of the job of this key remains.
+/// Whether no predecessor of the job of this key remains. The jobs are looked at only where its
+/// task lists one.
 fn has_no_predecessor(tasks: &TaskSet, jobs: &[Job], key: Key) -> bool
     ensures { result ≡ list_all (λ (j : Job). not (precedes tasks.now j.key key)) jobs.now }
 {
-    jobs.iter().all(|job| !precedes(tasks, job.key, key))
+    lists_none(tasks, key) || jobs.iter().all(|job| !precedes(tasks, job.key, key))
+}
+
+/// Whether the task of this key lists no predecessor.
+fn lists_none(tasks: &TaskSet, key: Key) -> bool
+    ensures { result ≡ true → (before : PairKey) → precedes tasks.now before key ≡ false }
+{
+    match key {
+        Key::Offline(graph, task, _) => task_lists_none(tasks, graph, task),
+        _ => true,
+    }
+}
+
+/// Whether a task of the graph of this index lists no predecessor.
+fn task_lists_none(tasks: &TaskSet, graph: u16, task: u16) -> bool
+    ensures { result ≡ true → after_of (tasks_of tasks.now graph) task ≡ [] }
+{
+    match tasks.graphs.items().get(usize::from(graph)) {
+        Some(graph) => afters(graph.tasks.items(), task).is_empty(),
+        None => true,
+    }
 }
 
 /// Whether the first job is a direct predecessor of the second.

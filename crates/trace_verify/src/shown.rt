@@ -14,9 +14,9 @@ use spare_capacity::fill;
 use std::alloc::Global;
 
 /// The first spans from a time on between rising points, as many as an entry shows or all, each
-/// with the slots that are left of the jobs due in it and its capacity up to the last point, and the
-/// number of the others. The jobs stand in deadline order; one that is past its deadline lies in
-/// no span. Each job is looked at once.
+/// with the slots that are left of the jobs due in it and its capacity up to the last point, and
+/// the number of the others. The jobs stand in deadline order; one that is past its deadline lies
+/// in no span. Each job is looked at once.
 pub(crate) fn shown(alloc: Global, time: u64, points: &[u64], jobs: &[Job]) -> Result<Shown, Memory>
     requires rising { AreRising time points.now }
     requires near { last_point time points.now ≤ 2 ^ 40 }

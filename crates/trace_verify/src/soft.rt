@@ -71,7 +71,9 @@ pub(crate) fn started_soft_left(soft: &[SoftJob], key: Key) -> Option<u32>
     ensures { result
         ≡ option_map
         (λ (s : SoftJob). s.left)
-        (find (λ (s : SoftJob). nat_lt s.left s.declared && same_key (SoftKey s.row) key) soft.now) }
+        (find
+        (λ (s : SoftJob). nat_lt s.left s.declared && same_key (SoftKey s.row) key)
+        soft.now) }
 {
     let job = soft.iter().find(|job| is_started(job, key))?;
     Some(job.left)
@@ -79,7 +81,8 @@ pub(crate) fn started_soft_left(soft: &[SoftJob], key: Key) -> Option<u32>
 
 /// Whether the soft job has started and has this key.
 fn is_started(job: &SoftJob, key: Key) -> bool
-    ensures { result ≡ (nat_lt job.now.left job.now.declared && same_key (SoftKey job.now.row) key) }
+    ensures { result
+        ≡ (nat_lt job.now.left job.now.declared && same_key (SoftKey job.now.row) key) }
 {
     job.left < job.declared && is_key_of(job, key)
 }

@@ -1,13 +1,16 @@
 //! The verdict on a recorded trace.
 
-ghost use Rattle.std.specs.Prelude.{◌≡◌, ◌≤◌, map, true};
+ghost use Rattle.std.specs.Prelude.{◌≡◌, ◌≢◌, ◌≤◌, map, true, IfErr, OnOk};
 ghost use Rattle.slot_core.specs.declared.TheConstants.{REPLAY_LIMIT};
 ghost use Rattle.slot_core.specs.Runs.Arrivals.{are_fitting};
 ghost use Rattle.slot_core.specs.Runs.Matches.{IsSameScene};
 ghost use Rattle.scene_steps.specs.Steps.{first_scene};
 ghost use Rattle.sporadic_reserve.specs.Reserves.{without_name};
+ghost use Rattle.trace_verify.specs.Laws.{IsLawfulText};
 ghost use Rattle.trace_verify.specs.SceneLines.{first_due};
 ghost use Rattle.trace_verify.specs.Verdicts.{AnswersAs, verdict};
+ghost use Rattle.verify_faults.specs.FaultTexts.{names_known};
+ghost use Rattle.verify_faults.specs.declared.faults.VerifyFault.TheVariants.{Memory};
 
 use crate::checker::Checker;
 use crate::lines::{first_line, last_line, pass_line};
@@ -17,7 +20,8 @@ use std::alloc::Global;
 use verify_faults::VerifyFault;
 
 /// Whether the text is that of a lawful trace of the plan's set, these arrivals and so many slots;
-/// else the first fault of its lines. Want of memory may come at any place.
+/// else the first fault of its lines, whose key lies in the set. Want of memory may come at any
+/// place.
 pub fn verify(
     alloc: Global,
     plan: &Plan,
@@ -25,7 +29,30 @@ pub fn verify(
     slots: u64,
     text: &[u8],
 ) -> Result<(), VerifyFault>
-    requires some { 1 ≤ slots }
+    requires few { slots ≤ REPLAY_LIMIT }
+    requires fitting { are_fitting plan.now.tasks slots arrivals.now ≡ true }
+    ensures told { AnswersAs
+        (λ _. tt)
+        result
+        (verdict plan.now.tasks plan.now.cycle arrivals.now slots text.now) }
+    ensures lawful { OnOk result (IsLawfulText plan.now.tasks arrivals.now slots text.now) }
+    ensures unlawful { IfErr result (λ fault. fault ≢ Memory
+        → ¬ (IsLawfulText plan.now.tasks arrivals.now slots text.now)) }
+    ensures named { IfErr result (λ fault. names_known plan.now.tasks fault ≡ true) }
+{
+    // The plan's set is sound, which the clauses stand on.
+    let _tasks = plan.tasks();
+    checked(alloc, plan, arrivals, slots, text)
+}
+
+/// The verdict on the text, by a checker that starts here.
+fn checked(
+    alloc: Global,
+    plan: &Plan,
+    arrivals: &[Arrival],
+    slots: u64,
+    text: &[u8],
+) -> Result<(), VerifyFault>
     requires few { slots ≤ REPLAY_LIMIT }
     requires fitting { are_fitting plan.now.tasks slots arrivals.now ≡ true }
     ensures { AnswersAs

@@ -10,7 +10,7 @@ ghost use Rattle.window_derive.specs.Chains.{AreOrderable, AreChainsBefore, AreC
 use slot_core::{TASK_LIMIT, Task};
 
 /// The slots of the longest chain before each task.
-pub fn chains_before(tasks: &[Task], order: &[u16]) -> [u32; TASK_LIMIT]
+pub(crate) fn chains_before(tasks: &[Task], order: &[u16]) -> [u32; TASK_LIMIT]
     requires orderable { AreOrderable tasks.now }
     requires order { IsOrder tasks.now order.now }
     ensures { AreChainsBefore tasks.now result }
@@ -50,7 +50,7 @@ fn longest_of(tasks: &[Task], entries: &[u16], before: &[u32; TASK_LIMIT]) -> u3
 }
 
 /// The slots of the longest chain after each task.
-pub fn chains_after(tasks: &[Task], order: &[u16]) -> [u32; TASK_LIMIT]
+pub(crate) fn chains_after(tasks: &[Task], order: &[u16]) -> [u32; TASK_LIMIT]
     requires orderable { AreOrderable tasks.now }
     requires order { IsOrder tasks.now order.now }
     ensures { AreChainsAfter tasks.now result }

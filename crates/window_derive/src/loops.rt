@@ -10,7 +10,7 @@ ghost use Rattle.window_derive.specs.Marks.{is_marked};
 use slot_core::{TASK_LIMIT, Task};
 
 /// The least task on a loop.
-pub fn first_on_loop(tasks: &[Task]) -> Option<u16>
+pub(crate) fn first_on_loop(tasks: &[Task]) -> Option<u16>
     requires count { length tasks.now ≤ TASK_LIMIT }
     requires named { (t p : ℕ) → comes_after tasks.now t p ≡ true → p < length tasks.now }
     ensures { result ≡ first_on_loop tasks.now }

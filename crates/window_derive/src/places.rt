@@ -9,7 +9,7 @@ ghost use Rattle.window_derive.specs.Marks.{is_marked, is_next_by, next_by};
 use slot_core::{TASK_LIMIT, Task};
 
 /// The least task that has no place and whose predecessors all have one.
-pub fn next_task(tasks: &[Task], placed: &[bool; TASK_LIMIT]) -> Option<u16>
+pub(crate) fn next_task(tasks: &[Task], placed: &[bool; TASK_LIMIT]) -> Option<u16>
     requires count { length tasks.now ≤ TASK_LIMIT }
     requires named { (t p : ℕ) → comes_after tasks.now t p ≡ true → p < length tasks.now }
     ensures { result ≡ next_by tasks.now placed.now }

@@ -22,7 +22,7 @@ pub struct Chains {
 }
 
 /// The longest chains of each graph.
-pub fn chains_of_graphs(alloc: Global, graphs: &[Graph]) -> Result<Vec<Chains>, Memory>
+pub(crate) fn chains_of_graphs(alloc: Global, graphs: &[Graph]) -> Result<Vec<Chains>, Memory>
     requires { All (λ g. AreOrderable g.tasks) graphs.now }
     ensures { IfOk result (λ chains. AreChainsOfGraphs graphs.now chains.items) }
 {
@@ -51,7 +51,11 @@ fn chains_of_graph(alloc: Global, graph: &Graph) -> Result<Chains, Memory>
 }
 
 /// The jobs with their derived windows, in the same order.
-pub fn windows_of(alloc: Global, raw: &[RawJob], chains: &[Chains]) -> Result<Vec<Job>, Memory>
+pub(crate) fn windows_of(
+    alloc: Global,
+    raw: &[RawJob],
+    chains: &[Chains],
+) -> Result<Vec<Job>, Memory>
     requires { All (HasChains chains.now) raw.now }
     ensures { IfOk result (λ jobs. jobs.items ≡ map (job_by chains.now) raw.now) }
 {
@@ -94,7 +98,7 @@ fn chains_of_key(key: Key, chains: &[Chains]) -> (u32, u32)
 }
 
 /// By deadline, then by key.
-pub fn by_deadline(a: &Job, b: &Job) -> Ordering
+pub(crate) fn by_deadline(a: &Job, b: &Job) -> Ordering
     ensures { result ≡ slice_cmp nat_cmp (deadline_order a.now) (deadline_order b.now) }
 {
     (a.dl, a.key).cmp(&(b.dl, b.key))

@@ -1,5 +1,5 @@
 use Rattle.arrival_replay.proofs.drive.Given as goal
 
 -- the ledger is that of the blank
-abbrev pub ghosts-drive_counted : goal.ghosts-drive_counted
-ghosts-drive_counted g a = record { name = a.blank.name; parts = a.blank.parts }
+abbrev pub ghosts-go_to : goal.ghosts-go_to
+ghosts-go_to g a = record { name = a.blank.name; parts = a.blank.parts }

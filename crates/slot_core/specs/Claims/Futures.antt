@@ -141,8 +141,9 @@ pub record OfferIsExact
         (time_of h)
         (horizon cycle (time_of h))))
 
--- the answer to each firm offer of a history is exact, at the history before it (of one that is late
--- or due more than a cycle ahead only: it is neither accepted nor refused for want of room wrongly)
+-- the answer to each firm offer of a history is exact, at the history before it. (Of an offer that
+-- is late, or due more than a cycle ahead, only this is said: accepted, it can be served, and
+-- refused for want of room, it cannot. Such offers have answers of their own.)
 abbrev pub OffersAreExact : TaskSet → ℕ → History → Type 0
 OffersAreExact set cycle h =
     (row slots within : ℕ) (answer : FirmAnswer) (earlier : History)

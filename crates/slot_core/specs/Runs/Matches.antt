@@ -5,8 +5,8 @@ use Rattle.slot_core.specs.Runs.Histories.{History, last_row}
 use Rattle.slot_core.specs.Runs.Scenes.{Scene, scene_of}
 use Rattle.slot_core.specs.Runs.Traces.{IsLegal}
 
--- the same items in any order: every sum over the one list is that over the other. Sums are all that
--- demand, spans and answers ask of a list of jobs, so this is said in place of a permutation; of
+-- the same items in any order: every sum over the one list is that over the other. Demand, spans
+-- and answers ask only for sums of a list of jobs, so this is said in place of a permutation; of
 -- numbers and of jobs it is one, as the lemmas on the same items show
 abbrev pub HaveSameItems : {X : Type 0} → List X → List X → Type 0
 HaveSameItems {X} xs ys = (f : X → ℕ) → sum_by f xs ≡ sum_by f ys

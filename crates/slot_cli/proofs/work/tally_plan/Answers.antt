@@ -3,7 +3,7 @@ use Rattle.std.proofs.Common.{subst}
 use Rattle.slot_core.specs.Keeping.Plans.{PlanParts}
 use Rattle.slot_core.specs.Output.Charts.{tally_text}
 use Rattle.slot_core.specs.Runs.Traces.{trace}
-use Rattle.slot_cli.specs.Steps.{IsWriting}
+use Rattle.run_outcome.specs.Writings.{IsWriting}
 use Rattle.slot_cli.proofs.work.tally_plan.Goals as goal
 
 pub returns : goal.returns

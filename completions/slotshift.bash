@@ -1,0 +1,26 @@
+# Completion of slotshift's words for bash: put `source PATH/completions/slotshift.bash` into ~/.bashrc.
+
+# Offers the files with this ending, or all where there is none, and folders.
+_slotshift_files() {
+    local IFS=$'\n'
+    compopt -o filenames 2>/dev/null
+    COMPREPLY=($(compgen -f -X "!*.$1" -- "$2") $(compgen -d -- "$2"))
+    [ "${#COMPREPLY[@]}" -gt 0 ] || COMPREPLY=($(compgen -f -- "$2"))
+}
+
+_slotshift() {
+    local current=${COMP_WORDS[COMP_CWORD]}
+    COMPREPLY=()
+    case ${COMP_WORDS[1]}:$COMP_CWORD in
+    *:1)
+        local commands='check replay gantt table show replay-table migrate verify explain switch margin selfrun'
+        COMPREPLY=($(compgen -W "$commands" -- "$current"))
+        ;;
+    check:2 | replay:2 | gantt:2 | table:2 | verify:2 | explain:2 | switch:2 | switch:3 | margin:2) _slotshift_files toml "$current" ;;
+    show:2 | replay-table:2 | migrate:2) _slotshift_files bin "$current" ;;
+    replay:3 | gantt:3 | replay-table:3 | verify:3 | explain:3 | switch:4) _slotshift_files csv "$current" ;;
+    verify:4) _slotshift_files trace "$current" ;;
+    esac
+}
+
+complete -F _slotshift slotshift

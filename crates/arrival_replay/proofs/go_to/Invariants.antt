@@ -1,0 +1,24 @@
+use Rattle.std.proofs.Common.{◌≡◌, ◌≤◌, ◌+◌, ◌-◌, length, drop}
+use Rattle.slot_core.specs.Runs.Traces.{trace}
+use Rattle.arrival_replay.proofs.UnderWay.{IsUnderWay}
+use Rattle.arrival_replay.proofs.go_to.Given as goal
+
+-- the replay is under way with the arrivals from the next one on, and those before it were answered
+abbrev pub invariant-loop-exec : goal.invariant-loop-exec
+invariant-loop-exec g l = record {
+  under_way :
+      IsUnderWay
+      (g.W.Taker.took l.fn.exec.plan.tasks l.fn.taker l.taker)
+      l.fn.exec.plan
+      l.exec
+      (trace l.fn.exec.plan.tasks l.arrivals l.slots)
+      l.slots
+      (drop l.next l.arrivals);
+  last : l.exec.last_row ≡ l.next;
+  within : l.next ≤ l.place;
+  counted : g.W.Taker.faults l.fn.taker ≤ g.W.Taker.faults l.taker;
+}
+
+-- the slots and the arrivals that are left
+abbrev pub decreases-loop-exec : goal.decreases-loop-exec
+decreases-loop-exec g l = (l.slots - l.exec.scene.time) + (length l.arrivals - l.next)

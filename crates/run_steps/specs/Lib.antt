@@ -1,0 +1,4 @@
+pub mod Readings
+pub mod Sets
+pub mod Stages
+pub mod Steps

@@ -1,0 +1,12 @@
+//! The calls of an executive for C. `library/slotexec.h` declares them.
+//!
+//! C keeps a `Slots` and hands it to each call. All that it has to meet is `valid`: there is an
+//! executive exactly where the handle is open, as all zero is, and as each call leaves it.
+#![tactic(auto)]
+
+mod arrivals;
+mod asking;
+mod box_parts;
+pub mod handle;
+mod opening;
+mod passing;

@@ -1,0 +1,50 @@
+-- The statuses of the calls, by cases.
+use Rattle.std.specs.Prelude.{ℕ, Bool, false, ◌&&◌, List, length, nat_le, nat_lt, if◌then◌else◌, Option, is_some}
+use Rattle.std.specs.Option.{option_map_or}
+use Rattle.slot_core.specs.declared.events.Event.{Event}
+use Rattle.slot_core.specs.declared.jobs.Key.{Key}
+use Rattle.slot_core.specs.Keeping.Executives.{Executive}
+use Rattle.slot_core.specs.Output.Texts.{key_text}
+use Rattle.slot_core.specs.Runs.Arrivals.{event_may_come, key_in_set}
+use Rattle.key_texts.specs.KeyTexts.{sporadic_named}
+use Rattle.slot_port.specs.declared.TheConstants.{TIME_LIMIT}
+use Rattle.slot_port.specs.declared.numbers.KeyNumbers.{KeyNumbers}
+use Rattle.slot_port.specs.declared.status.TheConstants.{OK, BAD_ROW, BAD_NUMBER, AT_END}
+use Rattle.slot_port.specs.Keys.{key_named}
+
+-- done where the numbers are in range
+abbrev pub range_status : Bool → ℕ
+range_status fits = if fits then OK else BAD_NUMBER
+
+-- of an arrival: its row is above the last one, and its numbers are in range
+abbrev pub arrival_status : Executive → ℕ → Bool → ℕ
+arrival_status exec row fits = if nat_lt exec.last_row row then range_status fits else BAD_ROW
+
+-- of an arrival of this event: the event may come
+abbrev pub event_status : Executive → ℕ → Event → ℕ
+event_status exec row event = arrival_status exec row (event_may_come exec.plan.tasks event)
+
+-- of an early end: the numbers name a key
+abbrev pub done_status : Executive → ℕ → KeyNumbers → ℕ
+done_status exec row key = arrival_status exec row (is_some (key_named key))
+
+-- of a slot: the time is below its limit
+abbrev pub slot_status : Executive → ℕ
+slot_status exec = if nat_lt exec.scene.time TIME_LIMIT then OK else AT_END
+
+-- of the span at a place: there is one
+abbrev pub span_status : Executive → ℕ → ℕ
+span_status exec place = range_status (nat_lt place (length exec.scene.points))
+
+-- the set has this key, and so many bytes hold its text
+abbrev pub key_fits : Executive → ℕ → Key → Bool
+key_fits exec room key =
+    key_in_set exec.plan.tasks key && nat_le (length (key_text exec.plan.tasks key)) room
+
+-- of the text of a key: the numbers name a key that the set has, and its text fits
+abbrev pub text_status : Executive → KeyNumbers → ℕ → ℕ
+text_status exec key room = range_status (option_map_or (key_fits exec room) (key_named key) false)
+
+-- of the index of a sporadic task: one has this name
+abbrev pub name_status : Executive → List ℕ → ℕ
+name_status exec name = range_status (is_some (sporadic_named exec.plan.tasks.sporadics name))

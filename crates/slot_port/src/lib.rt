@@ -1,0 +1,28 @@
+//! The calls of an executive over numbers: what other languages hand over and are told.
+//!
+//! Each call has a status. No condition is left to its caller: where a number is out of its range
+//! or a row does not rise, the call says so and changes nothing. All times are in slots.
+#![tactic(auto)]
+
+pub mod arrivals;
+pub mod keys;
+pub mod numbers;
+pub mod opening;
+pub mod passing;
+pub mod status;
+
+pub use arrivals::{done, firm, soft, sporadic, withdraw};
+pub use keys::{key_text, sporadic_index};
+pub use numbers::{KeyNumbers, SpanNumbers, Told};
+pub use opening::open;
+pub use passing::{slot, span};
+pub use status::{AT_END, BAD_NUMBER, BAD_ROW, BAD_TABLE, CLOSED, MEMORY, OK, STILL_OPEN, Status};
+
+/// The time at which no more slot passes.
+pub const TIME_LIMIT: u64 = 4_294_967_296;
+
+/// The greatest index of a graph, or of a task in one, that a key has room for.
+pub const INDEX_LIMIT: u32 = 65_535;
+
+/// The greatest index of a sporadic task that a key has room for.
+pub const SPORADIC_INDEX_LIMIT: u32 = 255;

@@ -1,0 +1,28 @@
+//! The statuses of the calls.
+
+/// How a call ended. Where it is not `OK`, nothing has changed.
+pub type Status = u32;
+
+/// The call did what it says.
+pub const OK: Status = 0;
+
+/// Memory ran out.
+pub const MEMORY: Status = 1;
+
+/// The bytes are no table, or not the one of their task set.
+pub const BAD_TABLE: Status = 2;
+
+/// The row of an arrival is not above the row of the last one.
+pub const BAD_ROW: Status = 3;
+
+/// A number, an index or a key is out of its range.
+pub const BAD_NUMBER: Status = 4;
+
+/// The time is at its limit.
+pub const AT_END: Status = 5;
+
+/// The handle has no executive.
+pub const CLOSED: Status = 6;
+
+/// The handle has one already.
+pub const STILL_OPEN: Status = 7;

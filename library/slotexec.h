@@ -1,0 +1,158 @@
+/* The executive of slotshift as a library: it follows the plan of a binary table slot by slot, and
+ * answers what arrives. What each call does is proved: crates/slot_c has it as clauses (see
+ * the claims table in docs/PROOF.md). What the caller owes is below.
+ *
+ * All times and lengths are in slots. A slot is as long as the caller makes it: the library has no
+ * clock, and a slot passes exactly where `ss_slot` is called.
+ *
+ * Every call but `ss_open` and `ss_close` takes no memory and gives none back. `ss_open` takes all
+ * that the executive will ever need, by the three functions of heap.c or arena.c (arena.h tells how
+ * large its array has to be), and `ss_close` gives all of it back.
+ *
+ * What the caller owes:
+ * - No pointer is null, and each points to what its type says, or to so many bytes as the number
+ *   after it tells. What one call writes does not overlap with what else it is handed.
+ * - A `ss_slots` is all zero at first, and only these calls write it. It may be moved; of two
+ *   copies only the last one written is used.
+ * - One call at a time on a handle, always on the thread that opened it, and none from a signal
+ *   handler or from the forked child of a process with threads.
+ * - rattle_alloc, rattle_realloc and rattle_dealloc are linked, and are as heap.c says.
+ *
+ * No other condition is left: a number out of its range, a row that does not rise, a call on a
+ * closed handle each have a status, and then nothing has changed but the fault that ss_open tells.
+ */
+#ifndef SLOTEXEC_H
+#define SLOTEXEC_H
+
+#include <stdbool.h>
+#include <stddef.h>
+#include <stdint.h>
+
+#ifdef __cplusplus
+extern "C" {
+#endif
+
+/* How a call ended. */
+enum {
+    SS_OK,         /* the call did what it says */
+    SS_MEMORY,     /* memory ran out (ss_open alone) */
+    SS_BAD_TABLE,  /* the bytes are no table (ss_open alone) */
+    SS_BAD_ROW,    /* the row of the arrival is not above the last one */
+    SS_BAD_NUMBER, /* a number, an index, a key or a name is none that may come */
+    SS_AT_END,     /* the time is 2^32 slots: no more slot passes (ss_slot alone) */
+    SS_CLOSED,     /* the handle has no executive */
+    SS_STILL_OPEN  /* the handle has one already (ss_open alone) */
+};
+
+/* The kind of a key. */
+enum { SS_NONE, SS_OFFLINE, SS_SPORADIC, SS_FIRM, SS_SOFT };
+
+/* The answers, by the call that gives them. */
+enum { SS_ACCEPTED, SS_LATE, SS_FAR, SS_NO_ROOM }; /* ss_firm */
+enum { SS_TAKEN, SS_FULL, SS_SOON = 1 };           /* ss_soft, ss_sporadic */
+enum { SS_FREED, SS_NOT_RUNNING, SS_NO_JOB = 1 };  /* ss_done, ss_withdraw */
+
+/* The limits. */
+enum {
+    SS_OFFER_LIMIT = 65535, /* slots of soft and firm work, and the furthest deadline of an offer */
+    SS_KEY_TEXT = 70        /* bytes of the text of a key, at most */
+};
+
+/* An executive, or none. All zero is none. */
+typedef struct {
+    bool open;
+    void *at;
+} ss_slots;
+
+/* An answer with up to three numbers, each 0 where the answer tells none. */
+typedef struct {
+    uint32_t answer;
+    uint64_t first, second, third;
+} ss_told;
+
+/* The name of a job. What its kind has no use for is 0.
+ * SS_OFFLINE:  group is the graph, task the task, number the instance, each from 0.
+ * SS_SPORADIC: group is the index of the task, number the row of the arrival.
+ * SS_FIRM and SS_SOFT: number is the row of the arrival.
+ * SS_NONE: no job. */
+typedef struct {
+    uint32_t kind, group, task;
+    uint64_t number;
+} ss_key;
+
+/* A stretch [start, end) of slots: `work` slots are due in it, and `spare` of it are not needed;
+ * below 0, it borrows as many from the stretches before it. */
+typedef struct {
+    uint64_t start, end, work;
+    int64_t spare;
+} ss_span;
+
+/* Opens the plan of a binary table, as `slotshift table` writes it, before its first slot.
+ * SS_STILL_OPEN, SS_MEMORY, or SS_BAD_TABLE. With the last one `fault` tells the fault's number and
+ * up to three of its numbers; otherwise it stays.
+ *   2 short: how many bytes there are      7 wrong job count: stored, computed
+ *   3 bad magic                            8 wrong job: its place
+ *   4 bad version: the version             9 wrong span count: stored, computed
+ *   5 source: the number of its fault     10 wrong span: its place
+ *   6 infeasible: from, until, demand     11 trailing: where the table ends
+ * docs/FORMATS.md has each in words. The plan is computed again and compared, so this call takes
+ * the longest: 1.3 ms for the engine of examples/ (a cycle of 4,000 slots, 1,397 jobs) on a PC,
+ * where ss_slot and ss_firm take 0.12 to 0.15 us at the median, and about 1 us at 99.9 %. */
+uint32_t ss_open(ss_slots *slots, const uint8_t *table, size_t bytes, ss_told *fault);
+
+/* Gives all memory back. SS_CLOSED where nothing is open. */
+uint32_t ss_close(ss_slots *slots);
+
+/* How many slots have passed: 0 to 2^32. */
+uint32_t ss_now(ss_slots *slots, uint64_t *now);
+
+/* The row of the last arrival, 0 before the first. */
+uint32_t ss_last_row(ss_slots *slots, uint32_t *row);
+
+/* Arrivals. Each has a row, which rises from call to call (SS_BAD_ROW); it names the job later on.
+ * SS_BAD_NUMBER where another number is out of its range. The time is that of the executive. */
+
+/* Soft work of 1 to 65,535 slots: SS_TAKEN, or SS_FULL with the limit. */
+uint32_t ss_soft(ss_slots *slots, uint32_t row, uint32_t work, ss_told *told);
+
+/* A firm task of 1 to 65,535 slots, due within 0 to 65,535 slots from now: SS_ACCEPTED: it is
+ * guaranteed; SS_LATE: due now; SS_FAR: due more than a cycle ahead; SS_NO_ROOM, with the first
+ * time by which more slots are needed than there are, the need, and the room. */
+uint32_t ss_firm(ss_slots *slots, uint32_t row, uint32_t work, uint32_t within, ss_told *told);
+
+/* A job of the sporadic task of this index: SS_TAKEN with its deadline: it is guaranteed; SS_SOON
+ * with the first slot at which it may come. SS_BAD_NUMBER where there is no such task. */
+uint32_t ss_sporadic(ss_slots *slots, uint32_t row, uint32_t index, ss_told *told);
+
+/* The job of this key has ended before it ran all its slots: SS_FREED with the slots that it had
+ * left; SS_NOT_RUNNING where no job of that key has started and not ended. */
+uint32_t ss_done(ss_slots *slots, uint32_t row, const ss_key *key, ss_told *told);
+
+/* The firm task that arrived in row `firm` is taken back: SS_FREED with the slots that it had left;
+ * SS_NO_JOB where none remains. */
+uint32_t ss_withdraw(ss_slots *slots, uint32_t row, uint32_t firm, ss_told *told);
+
+/* One slot passes, and `ran` tells the job that has it: SS_NONE where the slot is idle. Call it at
+ * the start of a slot, after the arrivals of that slot. */
+uint32_t ss_slot(ss_slots *slots, ss_key *ran);
+
+/* How many spans there are up to the end of the third cycle from now: 1 to three cycles. */
+uint32_t ss_span_count(ss_slots *slots, uint32_t *count);
+
+/* The span at this place, from 0. SS_BAD_NUMBER at the count and above. */
+uint32_t ss_get_span(ss_slots *slots, uint32_t place, ss_span *span);
+
+/* Writes the text of a key, as traces have it, to the front of `text`, with no zero after it, and
+ * tells its length: at most SS_KEY_TEXT bytes. SS_BAD_NUMBER where the key names what the task set
+ * has not, or the text is longer than `room`. */
+uint32_t ss_key_text(ss_slots *slots, const ss_key *key, uint8_t *text, size_t room,
+                     size_t *length);
+
+/* The index of the sporadic task of this name. SS_BAD_NUMBER where none has it. */
+uint32_t ss_sporadic_index(ss_slots *slots, const uint8_t *name, size_t bytes, uint32_t *index);
+
+#ifdef __cplusplus
+}
+#endif
+
+#endif

@@ -1,0 +1,235 @@
+"""The executive of slotshift from Python, over the shared library that `make shared` builds.
+
+    with Executive.of_file("flight.bin") as executive:
+        executive.firm(1, work=9, within=20)    # Told(answer=Firm.ACCEPTED, ..)
+        executive.slot()                        # Key(kind=Kind.OFFLINE, group=0, task=0, number=0)
+
+All times are in slots. A row names an arrival, and rises from call to call.
+"""
+
+import collections
+import ctypes
+import enum
+import os
+
+HERE = os.path.dirname(os.path.realpath(__file__))
+
+
+class Status(enum.IntEnum):
+    """How a call ended."""
+
+    OK = 0
+    MEMORY = 1
+    BAD_TABLE = 2
+    BAD_ROW = 3
+    BAD_NUMBER = 4
+    AT_END = 5
+    CLOSED = 6
+    STILL_OPEN = 7
+
+
+class Kind(enum.IntEnum):
+    """The kind of a key."""
+
+    NONE = 0
+    OFFLINE = 1
+    SPORADIC = 2
+    FIRM = 3
+    SOFT = 4
+
+
+class Soft(enum.IntEnum):
+    """The answer to soft work."""
+
+    TAKEN = 0
+    FULL = 1
+
+
+class Firm(enum.IntEnum):
+    """The answer to a firm task."""
+
+    ACCEPTED = 0
+    LATE = 1
+    FAR = 2
+    NO_ROOM = 3
+
+
+class Sporadic(enum.IntEnum):
+    """The answer to a sporadic arrival."""
+
+    TAKEN = 0
+    SOON = 1
+
+
+class Done(enum.IntEnum):
+    """The answer to an early end."""
+
+    FREED = 0
+    NOT_RUNNING = 1
+
+
+class Gone(enum.IntEnum):
+    """The answer to a withdrawal."""
+
+    FREED = 0
+    NO_JOB = 1
+
+
+Told = collections.namedtuple("Told", "answer first second third")
+Key = collections.namedtuple("Key", "kind group task number", defaults=(0, 0, 0))
+Span = collections.namedtuple("Span", "start end work spare")
+
+
+class SlotError(Exception):
+    """A call that did not do what it says. Nothing has changed."""
+
+    def __init__(self, status, fault=None):
+        self.status = Status(status)
+        self.fault = fault
+        super().__init__(self.status.name if fault is None else f"{self.status.name} {fault}")
+
+
+class _Slots(ctypes.Structure):
+    _fields_ = [("open", ctypes.c_bool), ("at", ctypes.c_void_p)]
+
+
+class _Told(ctypes.Structure):
+    _fields_ = [("answer", ctypes.c_uint32)] + [
+        (name, ctypes.c_uint64) for name in ("first", "second", "third")
+    ]
+
+
+class _Key(ctypes.Structure):
+    _fields_ = [(name, ctypes.c_uint32) for name in ("kind", "group", "task")] + [
+        ("number", ctypes.c_uint64)
+    ]
+
+
+class _Span(ctypes.Structure):
+    _fields_ = [(name, ctypes.c_uint64) for name in ("start", "end", "work")] + [
+        ("spare", ctypes.c_int64)
+    ]
+
+
+def _number(value):
+    """A number of 32 bits, as rows, indexes and lengths are."""
+    if not 0 <= value < 2**32:
+        raise SlotError(Status.BAD_NUMBER)
+    return ctypes.c_uint32(value)
+
+
+def _key(key):
+    """A key, whose kind, group and task have 32 bits, and its number 64."""
+    kind, group, task, number = key
+    if not 0 <= number < 2**64:
+        raise SlotError(Status.BAD_NUMBER)
+    return _Key(*(_number(part).value for part in (kind, group, task)), number)
+
+
+class Executive:
+    """An open executive. It is closed by `close`, or at the end of a `with`."""
+
+    def __init__(self, table, library=None):
+        """Opens the plan of a binary table, given as bytes."""
+        self._library = ctypes.CDLL(library or os.path.join(HERE, "out", "libslotexec.so"))
+        self._slots = _Slots()
+        fault = _Told()
+        size = ctypes.c_size_t(len(table))
+        status = self._library.ss_open(self._handle(), table, size, ctypes.byref(fault))
+        if status != Status.OK:
+            told = (fault.answer, fault.first, fault.second, fault.third)
+            raise SlotError(status, told if status == Status.BAD_TABLE else None)
+
+    @classmethod
+    def of_file(cls, path, library=None):
+        """Opens the plan of the table in a file."""
+        with open(path, "rb") as file:
+            return cls(file.read(), library)
+
+    def __enter__(self):
+        return self
+
+    def __exit__(self, *_):
+        self.close()
+
+    def _handle(self):
+        return ctypes.byref(self._slots)
+
+    def _call(self, name, *words):
+        status = getattr(self._library, name)(self._handle(), *words)
+        if status != Status.OK:
+            raise SlotError(status)
+
+    def _asked(self, name, kind):
+        number = kind()
+        self._call(name, ctypes.byref(number))
+        return number.value
+
+    def _told(self, name, answers, *words):
+        told = _Told()
+        self._call(name, *words, ctypes.byref(told))
+        return Told(answers(told.answer), told.first, told.second, told.third)
+
+    def close(self):
+        """Gives all memory back. A closed one stays closed."""
+        if self._slots.open:
+            self._call("ss_close")
+
+    def now(self):
+        """How many slots have passed."""
+        return self._asked("ss_now", ctypes.c_uint64)
+
+    def last_row(self):
+        """The row of the last arrival, 0 before the first."""
+        return self._asked("ss_last_row", ctypes.c_uint32)
+
+    def soft(self, row, work):
+        """Soft work of 1 to 65,535 slots: TAKEN, or FULL with the limit."""
+        return self._told("ss_soft", Soft, _number(row), _number(work))
+
+    def firm(self, row, work, within):
+        """A firm task of so many slots, due within so many: ACCEPTED, LATE, FAR, or NO_ROOM with
+        the time, the need and the room."""
+        words = (_number(row), _number(work), _number(within))
+        return self._told("ss_firm", Firm, *words)
+
+    def sporadic(self, row, index):
+        """A job of a sporadic task: TAKEN with its deadline, or SOON with the first slot at which
+        it may come."""
+        return self._told("ss_sporadic", Sporadic, _number(row), _number(index))
+
+    def done(self, row, key):
+        """The job of this key has ended early: FREED with its slots, or NOT_RUNNING."""
+        return self._told("ss_done", Done, _number(row), ctypes.byref(_key(key)))
+
+    def withdraw(self, row, firm):
+        """The firm task of row `firm` is taken back: FREED with its slots, or NO_JOB."""
+        return self._told("ss_withdraw", Gone, _number(row), _number(firm))
+
+    def slot(self):
+        """One slot passes: the key of the job that has it, of the kind NONE where it is idle."""
+        ran = _Key()
+        self._call("ss_slot", ctypes.byref(ran))
+        return Key(Kind(ran.kind), ran.group, ran.task, ran.number)
+
+    def spans(self):
+        """The spans up to the end of the third cycle from now."""
+        return [self._span(place) for place in range(self._asked("ss_span_count", ctypes.c_uint32))]
+
+    def _span(self, place):
+        span = _Span()
+        self._call("ss_get_span", _number(place), ctypes.byref(span))
+        return Span(span.start, span.end, span.work, span.spare)
+
+    def key_text(self, key):
+        """The text of a key, as traces have it."""
+        text, length, room = ctypes.create_string_buffer(70), ctypes.c_size_t(), ctypes.c_size_t(70)
+        self._call("ss_key_text", ctypes.byref(_key(key)), text, room, ctypes.byref(length))
+        return text.raw[: length.value].decode()
+
+    def sporadic_index(self, name):
+        """The index of the sporadic task of this name."""
+        index, bytes_of_name = ctypes.c_uint32(), name.encode()
+        size = ctypes.c_size_t(len(bytes_of_name))
+        self._call("ss_sporadic_index", bytes_of_name, size, ctypes.byref(index))
+        return index.value
