@@ -6,6 +6,7 @@ import os
 import re
 import shutil
 import signal
+import subprocess
 import sys
 import tempfile
 
@@ -80,6 +81,18 @@ def wrong_in(ran, statuses):
     return None if LINES[ran.status].fullmatch(ran.err) else f"line {ran.err!r}"
 
 
+def shim(folder):
+    """The library that refuses allocations and tells of them, compiled."""
+    made = f"{folder}/refuse.so"
+    compiler = os.environ.get("CC") or shutil.which("cc")
+    if not compiler:
+        print("there is no C compiler cc")
+        sys.exit(2)
+    source = f"{TOP}/checks/refuse.c"
+    subprocess.run([compiler, "-O2", "-shared", "-fPIC", "-o", made, source], check=True)
+    return made
+
+
 class Runner:
     """Starts the program with its output and its standard error in files of a folder. A run has so
     many seconds of a processor, and ten times as many of the clock, as others may use it too."""
@@ -100,15 +113,16 @@ class Runner:
             file.write(data)
         return path
 
-    def run(self, *words, env=None, before=()):
-        """One run with this environment. `before` are words before the program's path."""
+    def run(self, *words, env=None, before=(), given="/dev/null"):
+        """One run with this environment and this file as its input. `before` are words before the
+        program's path."""
         words = [*before, self.program, *words]
         pid = os.posix_spawn(
             words[0],
             words,
             env or {},
             file_actions=[
-                (os.POSIX_SPAWN_OPEN, 0, "/dev/null", os.O_RDONLY, 0),
+                (os.POSIX_SPAWN_OPEN, 0, given, os.O_RDONLY, 0),
                 (os.POSIX_SPAWN_DUP2, self.streams[0], 1),
                 (os.POSIX_SPAWN_DUP2, self.streams[1], 2),
             ],
@@ -243,21 +257,28 @@ def first_version(table):
 class Check:
     """The words of the command line, a scratch folder, and what passed and failed."""
 
-    def __init__(self, about, *options):
+    def __init__(self, about, *options, programs=("slotshift",)):
         parser = argparse.ArgumentParser(description=about)
-        parser.add_argument("program", nargs="?", default=f"{TOP}/crates/slotshift/out/slotshift")
+        for name in programs:
+            parser.add_argument(name, nargs="?", default=f"{TOP}/crates/{name}/out/{name}")
         for name, how in options:
             parser.add_argument(name, **how)
         self.words = parser.parse_args()
         self.name = os.path.basename(sys.argv[0])
-        self.program = os.path.abspath(self.words.program)
-        if not os.access(self.program, os.X_OK):
-            print(f"{self.name}: there is no program {self.program}: ./slotshift builds it")
-            sys.exit(2)
+        self.programs = [self.found(name) for name in programs]
+        self.program = self.programs[0]
         memory = "/dev/shm" if os.access("/dev/shm", os.W_OK) else None
         self.folder = tempfile.mkdtemp(prefix=f"{self.name}.", dir=memory)
         self.passed = 0
         self.failed = 0
+
+    def found(self, name):
+        """The path of this program, if it is there."""
+        path = os.path.abspath(vars(self.words)[name])
+        if not os.access(path, os.X_OK):
+            print(f"{self.name}: there is no program {path}: ./{name} builds it")
+            sys.exit(2)
+        return path
 
     def holds(self, name, wrong):
         """Counts one case, of which something is wrong or not."""

@@ -1,4 +1,4 @@
-# Completion of slotshift's words for bash: put `source PATH/completions/slotshift.bash` into ~/.bashrc.
+# Completion of the words of slotshift and slotlive for bash: put `source PATH/completions/slotshift.bash` into ~/.bashrc.
 
 # Offers the files with this ending, or all where there is none, and folders.
 _slotshift_files() {
@@ -23,4 +23,19 @@ _slotshift() {
     esac
 }
 
+_slotlive() {
+    local current=${COMP_WORDS[COMP_CWORD]}
+    COMPREPLY=()
+    case ${COMP_WORDS[COMP_CWORD - 1]}:$COMP_CWORD in
+    *:1)
+        _slotshift_files toml "$current"
+        [ "${current#-}" = "$current" ] || COMPREPLY=(--table)
+        ;;
+    --table:2) _slotshift_files bin "$current" ;;
+    --record:*) _slotshift_files csv "$current" ;;
+    *:2 | *:3) COMPREPLY=($(compgen -W --record -- "$current")) ;;
+    esac
+}
+
 complete -F _slotshift slotshift
+complete -F _slotlive slotlive

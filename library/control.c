@@ -13,6 +13,14 @@ static uint8_t table[4194304];
 static uint32_t row; /* of the last arrival */
 static unsigned long ran[SS_SOFT + 1], taken, refused, alarms;
 
+/* Ends the run where a call did not do what it says. */
+static void want(const char *what, uint32_t status)
+{
+    if (status == SS_OK) return;
+    fprintf(stderr, "control: %s: status %u\n", what, (unsigned)status);
+    exit(1);
+}
+
 /* A slot of this job; SS_NONE is idle. An offline job is task `task` of graph `group`. */
 static void run(const ss_key *job)
 {
@@ -23,7 +31,7 @@ static void run(const ss_key *job)
 static void diagnose(void)
 {
     ss_told told;
-    if (ss_firm(&slots, ++row, 9, 20, &told) != SS_OK) abort();
+    want("firm", ss_firm(&slots, ++row, 9, 20, &told));
     if (told.answer == SS_ACCEPTED) taken++;
     else refused++;
 }
@@ -32,7 +40,8 @@ static void diagnose(void)
 static void alarm_came(void)
 {
     ss_told told;
-    if (ss_sporadic(&slots, ++row, 0, &told) == SS_OK && told.answer == SS_TAKEN) alarms++;
+    want("alarm", ss_sporadic(&slots, ++row, 0, &told));
+    if (told.answer == SS_TAKEN) alarms++;
 }
 
 int main(int count, char **words)
@@ -43,12 +52,12 @@ int main(int count, char **words)
     struct timespec next;
     ss_told fault;
     ss_key job;
-    if (ss_open(&slots, table, bytes, &fault) != SS_OK) return 1;
+    want("open", ss_open(&slots, table, bytes, &fault));
     clock_gettime(CLOCK_MONOTONIC, &next);
     for (slot = 0; slot < end; slot++) {
         if (slot % 50 == 7) diagnose();
         if (slot % 97 == 3) alarm_came();
-        if (ss_slot(&slots, &job) != SS_OK) return 1;
+        want("slot", ss_slot(&slots, &job));
         run(&job);
         next.tv_nsec += 1000000;
         if (next.tv_nsec >= 1000000000) next.tv_sec++, next.tv_nsec -= 1000000000;
@@ -56,5 +65,6 @@ int main(int count, char **words)
     }
     printf("idle %lu offline %lu sporadic %lu firm %lu; diagnoses %lu, refused %lu; alarms %lu\n",
            ran[SS_NONE], ran[SS_OFFLINE], ran[SS_SPORADIC], ran[SS_FIRM], taken, refused, alarms);
-    return ss_close(&slots) == SS_OK ? 0 : 1;
+    want("close", ss_close(&slots));
+    return 0;
 }

@@ -9,6 +9,18 @@
  * that the executive will ever need, by the three functions of heap.c or arena.c (arena.h tells how
  * large its array has to be), and `ss_close` gives all of it back.
  *
+ * The library is tried on x86-64, and on aarch64 under qemu (`make aarch64`). Of other processors
+ * nothing is said.
+ *
+ * How long the calls take on a PC, for the two controllers of examples/ (`make test` measures it):
+ * - 0.15 us or less at the median, and under 1 us at 99.9 %, but for these:
+ * - the slot that ends a cycle brings in the jobs and spans of another one: 0.5 us for the flight
+ *   controller (21 jobs in 40 slots), 25 us for the engine (1,397 jobs in 4,000 slots);
+ * - `ss_open` computes the plan again: 0.03 ms and 1.2 ms; `ss_close` 2 us and 130 us.
+ * A firm or sporadic arrival, an early end, a withdrawal and a slot go along the jobs that remain
+ * and the spans ahead, three cycles of them at most, and `ss_get_span` passes the spans before its
+ * place; the others take no longer for a longer cycle.
+ *
  * What the caller owes:
  * - No pointer is null, and each points to what its type says, or to so many bytes as the number
  *   after it tells. What one call writes does not overlap with what else it is handed.
@@ -16,7 +28,7 @@
  *   copies only the last one written is used.
  * - One call at a time on a handle, always on the thread that opened it, and none from a signal
  *   handler or from the forked child of a process with threads.
- * - rattle_alloc, rattle_realloc and rattle_dealloc are linked, and are as heap.c says.
+ * - rattle_alloc, rattle_realloc and rattle_dealloc are linked, and are as heap.h says.
  *
  * No other condition is left: a number out of its range, a row that does not rise, a call on a
  * closed handle each have a status, and then nothing has changed but the fault that ss_open tells.
@@ -38,7 +50,7 @@ enum {
     SS_MEMORY,     /* memory ran out (ss_open alone) */
     SS_BAD_TABLE,  /* the bytes are no table (ss_open alone) */
     SS_BAD_ROW,    /* the row of the arrival is not above the last one */
-    SS_BAD_NUMBER, /* a number, an index, a key or a name is none that may come */
+    SS_BAD_NUMBER, /* a number, an index, a key or a name is none that may come, or no room */
     SS_AT_END,     /* the time is 2^32 slots: no more slot passes (ss_slot alone) */
     SS_CLOSED,     /* the handle has no executive */
     SS_STILL_OPEN  /* the handle has one already (ss_open alone) */
@@ -64,7 +76,8 @@ typedef struct {
     void *at;
 } ss_slots;
 
-/* An answer with up to three numbers, each 0 where the answer tells none. */
+/* An answer with up to three numbers, in the order in which its call names them, and 0 where there
+ * is none. */
 typedef struct {
     uint32_t answer;
     uint64_t first, second, third;
@@ -74,7 +87,9 @@ typedef struct {
  * SS_OFFLINE:  group is the graph, task the task, number the instance, each from 0.
  * SS_SPORADIC: group is the index of the task, number the row of the arrival.
  * SS_FIRM and SS_SOFT: number is the row of the arrival.
- * SS_NONE: no job. */
+ * SS_NONE: no job.
+ * A graph and a task are at most 65,535, an index 255, a row 2^32 - 1: with more, with another kind
+ * or with a number that is of no use, it is no key. */
 typedef struct {
     uint32_t kind, group, task;
     uint64_t number;
@@ -95,9 +110,8 @@ typedef struct {
  *   4 bad version: the version             9 wrong span count: stored, computed
  *   5 source: the number of its fault     10 wrong span: its place
  *   6 infeasible: from, until, demand     11 trailing: where the table ends
- * docs/FORMATS.md has each in words. The plan is computed again and compared, so this call takes
- * the longest: 1.3 ms for the engine of examples/ (a cycle of 4,000 slots, 1,397 jobs) on a PC,
- * where ss_slot and ss_firm take 0.12 to 0.15 us at the median, and about 1 us at 99.9 %. */
+ * docs/FORMATS.md has each in words, and those of a task set in this order: 4 missing, 6 out of
+ * range, 7 bad name, 8 doubled, 9 no such task, 10 loop, 11 too many, 12 cycle too long. */
 uint32_t ss_open(ss_slots *slots, const uint8_t *table, size_t bytes, ss_told *fault);
 
 /* Gives all memory back. SS_CLOSED where nothing is open. */
@@ -109,8 +123,9 @@ uint32_t ss_now(ss_slots *slots, uint64_t *now);
 /* The row of the last arrival, 0 before the first. */
 uint32_t ss_last_row(ss_slots *slots, uint32_t *row);
 
-/* Arrivals. Each has a row, which rises from call to call (SS_BAD_ROW); it names the job later on.
- * SS_BAD_NUMBER where another number is out of its range. The time is that of the executive. */
+/* Arrivals. Each has a row, which names its job later on: 1 to 2^32 - 1, above the rows before it,
+ * else SS_BAD_ROW. SS_BAD_NUMBER where another number is out of its range. The time is that of the
+ * executive. */
 
 /* Soft work of 1 to 65,535 slots: SS_TAKEN, or SS_FULL with the limit. */
 uint32_t ss_soft(ss_slots *slots, uint32_t row, uint32_t work, ss_told *told);
@@ -125,7 +140,8 @@ uint32_t ss_firm(ss_slots *slots, uint32_t row, uint32_t work, uint32_t within, 
 uint32_t ss_sporadic(ss_slots *slots, uint32_t row, uint32_t index, ss_told *told);
 
 /* The job of this key has ended before it ran all its slots: SS_FREED with the slots that it had
- * left; SS_NOT_RUNNING where no job of that key has started and not ended. */
+ * left; SS_NOT_RUNNING where no job of that key has started and not ended. SS_BAD_NUMBER where it is
+ * no key. */
 uint32_t ss_done(ss_slots *slots, uint32_t row, const ss_key *key, ss_told *told);
 
 /* The firm task that arrived in row `firm` is taken back: SS_FREED with the slots that it had left;
@@ -136,15 +152,16 @@ uint32_t ss_withdraw(ss_slots *slots, uint32_t row, uint32_t firm, ss_told *told
  * the start of a slot, after the arrivals of that slot. */
 uint32_t ss_slot(ss_slots *slots, ss_key *ran);
 
-/* How many spans there are up to the end of the third cycle from now: 1 to three cycles. */
+/* How many spans there are up to the end of the third cycle, the one at hand being the first: at
+ * least 1, and at most one for each slot of three cycles. */
 uint32_t ss_span_count(ss_slots *slots, uint32_t *count);
 
 /* The span at this place, from 0. SS_BAD_NUMBER at the count and above. */
 uint32_t ss_get_span(ss_slots *slots, uint32_t place, ss_span *span);
 
 /* Writes the text of a key, as traces have it, to the front of `text`, with no zero after it, and
- * tells its length: at most SS_KEY_TEXT bytes. SS_BAD_NUMBER where the key names what the task set
- * has not, or the text is longer than `room`. */
+ * tells its length: at most SS_KEY_TEXT bytes. SS_BAD_NUMBER where it is no key, or it names what
+ * the task set has not, or the text is longer than `room`. */
 uint32_t ss_key_text(ss_slots *slots, const ss_key *key, uint8_t *text, size_t room,
                      size_t *length);
 

@@ -4,7 +4,9 @@
         executive.firm(1, work=9, within=20)    # Told(answer=Firm.ACCEPTED, ..)
         executive.slot()                        # Key(kind=Kind.OFFLINE, group=0, task=0, number=0)
 
-All times are in slots. A row names an arrival, and rises from call to call.
+All times are in slots. A row names an arrival, and rises from call to call. An executive is used by
+the thread that opened it, and by one call at a time. slotexec.h has the ranges and what each call
+costs.
 """
 
 import collections
@@ -12,6 +14,7 @@ import ctypes
 import enum
 import os
 
+KEY_TEXT = 70  # bytes of the text of a key, at most
 HERE = os.path.dirname(os.path.realpath(__file__))
 
 
@@ -81,7 +84,11 @@ Span = collections.namedtuple("Span", "start end work spare")
 
 
 class SlotError(Exception):
-    """A call that did not do what it says. Nothing has changed."""
+    """A call that did not do what it says. Nothing has changed.
+
+    `status` tells why; of a table that is none, `fault` the fault's number and three of its numbers,
+    as slotexec.h lists them.
+    """
 
     def __init__(self, status, fault=None):
         self.status = Status(status)
@@ -223,7 +230,8 @@ class Executive:
 
     def key_text(self, key):
         """The text of a key, as traces have it."""
-        text, length, room = ctypes.create_string_buffer(70), ctypes.c_size_t(), ctypes.c_size_t(70)
+        text, length = ctypes.create_string_buffer(KEY_TEXT), ctypes.c_size_t()
+        room = ctypes.c_size_t(KEY_TEXT)
         self._call("ss_key_text", ctypes.byref(_key(key)), text, room, ctypes.byref(length))
         return text.raw[: length.value].decode()
 

@@ -1,6 +1,6 @@
 /* Measures the calls over a table: how long each takes, and how much stack they use beyond their
  * caller's. It judges nothing.
- * usage: times TABLE */
+ * usage: times TABLE CYCLE   (CYCLE: the slots of its cycle, at whose end more is to do) */
 #define _POSIX_C_SOURCE 200809L
 #include "common.h"
 
@@ -10,9 +10,18 @@
 
 enum { SLOTS = 100000, STACK = 1 << 20, PAINT = 0x5a };
 
+/* What is measured: each call, and once more the slots that end a cycle. */
+enum { SLOT, CYCLE_END, FIRM, SOFT, SPORADIC, DONE, WITHDRAW, GET_SPAN, KEY_TEXT, KINDS };
+
+static const char *const names[KINDS] = {
+    "ss_slot", "at a cycle's end", "ss_firm", "ss_soft", "ss_sporadic", "ss_done",
+    "ss_withdraw", "ss_get_span", "ss_key_text",
+};
+
 static uint8_t table[4194304];
 static size_t bytes;
-static uint32_t slot_times[SLOTS], firm_times[SLOTS];
+static unsigned long cycle;
+static uint32_t times[KINDS][SLOTS], counts[KINDS];
 static uint8_t stack[STACK] __attribute__((aligned(4096)));
 
 static uint64_t clock_now(void)
@@ -22,44 +31,85 @@ static uint64_t clock_now(void)
     return (uint64_t)now.tv_sec * 1000000000u + (uint64_t)now.tv_nsec;
 }
 
+/* Notes the time of a call that began then, which it tells. */
+static uint32_t note(int kind, uint64_t start, uint32_t status)
+{
+    uint32_t took = (uint32_t)(clock_now() - start);
+    if (status != SS_OK) exit(1);
+    if (counts[kind] < SLOTS) times[kind][counts[kind]++] = took;
+    return took;
+}
+
 static int compare(const void *a, const void *b)
 {
     uint32_t x = *(const uint32_t *)a, y = *(const uint32_t *)b;
     return (x > y) - (x < y);
 }
 
-/* The median and the 99.9 % of so many times, in nanoseconds. */
-static void print_times(const char *name, uint32_t *times, size_t count)
+/* The median of what was measured, in nanoseconds, and of a thousand times or more the 99.9 %. */
+static void print_times(int kind)
 {
-    qsort(times, count, sizeof *times, compare);
-    printf("%s median %u ns, 99.9 %% %u ns; ", name, times[count / 2], times[count - count / 1000 - 1]);
+    uint32_t count = counts[kind], *all = times[kind];
+    if (count == 0) return;
+    qsort(all, count, sizeof *all, compare);
+    printf(" %s %u", names[kind], all[count / 2]);
+    if (count >= 1000) printf(", %u", all[count - count / 1000 - 1]);
+    putchar(';');
+}
+
+/* An arrival of a kind by chance, where `ran` had the last slot. */
+static void arrive(ss_slots *slots, uint32_t row, const ss_key *ran, bool sporadic)
+{
+    uint32_t kind = below(6), work = 1 + below(6), within = 8 + below(60);
+    ss_told told;
+    uint64_t start = clock_now();
+    if (kind == 0) note(SOFT, start, ss_soft(slots, row, work, &told));
+    else if (kind == 1 && sporadic) note(SPORADIC, start, ss_sporadic(slots, row, 0, &told));
+    else if (kind == 2 && ran->kind != SS_NONE) note(DONE, start, ss_done(slots, row, ran, &told));
+    else if (kind == 3) note(WITHDRAW, start, ss_withdraw(slots, row, row - 1, &told));
+    else note(FIRM, start, ss_firm(slots, row, work, within, &told));
+}
+
+/* What else is asked for after a slot: one of the spans, and the text of a key. */
+static void ask(ss_slots *slots, const ss_key *ran)
+{
+    uint8_t text[SS_KEY_TEXT];
+    uint32_t count;
+    size_t length;
+    ss_span span;
+    uint64_t start;
+    if (ss_span_count(slots, &count) != SS_OK) exit(1);
+    start = clock_now();
+    note(GET_SPAN, start, ss_get_span(slots, below(count < 8 ? count : 8), &span));
+    start = clock_now();
+    if (ran->kind == SS_NONE) return;
+    note(KEY_TEXT, start, ss_key_text(slots, ran, text, sizeof text, &length));
 }
 
 static void *run(void *at)
 {
     ss_slots slots = {0};
     ss_told told;
-    ss_key ran;
-    uint32_t slot, row = 0, offers = 0;
-    uint64_t start = clock_now(), opened;
+    ss_key ran = {0};
+    uint32_t slot, row = 0, took;
+    uint64_t start = clock_now(), opened, closed;
+    bool sporadic;
     if (ss_open(&slots, table, bytes, &told) != SS_OK) exit(1);
     opened = clock_now() - start;
+    sporadic = ss_sporadic(&slots, ++row, 0, &told) == SS_OK;
+    memset(counts, 0, sizeof counts);
     for (slot = 0; slot < SLOTS; slot++) {
-        if (below(8) == 0) {
-            uint32_t work = 1 + below(6), within = 8 + below(60);
-            start = clock_now();
-            if (ss_firm(&slots, ++row, work, within, &told) != SS_OK) exit(1);
-            firm_times[offers++] = (uint32_t)(clock_now() - start);
-        }
+        while (below(4) == 0) arrive(&slots, ++row, &ran, sporadic);
         start = clock_now();
-        if (ss_slot(&slots, &ran) != SS_OK) exit(1);
-        slot_times[slot] = (uint32_t)(clock_now() - start);
+        took = note(SLOT, start, ss_slot(&slots, &ran));
+        if ((slot + 1) % cycle == 0) times[CYCLE_END][counts[CYCLE_END]++] = took;
+        if (below(8) == 0) ask(&slots, &ran);
     }
-    if (at != NULL) return NULL;
-    printf("ss_open %u us; ", (unsigned)(opened / 1000));
-    print_times("ss_slot", slot_times, SLOTS);
-    print_times("ss_firm", firm_times, offers);
+    start = clock_now();
     if (ss_close(&slots) != SS_OK) exit(1);
+    closed = clock_now() - start;
+    if (at == NULL) printf("ss_open %u us, ss_close %u us; median and 99.9 %% in ns:",
+                           (unsigned)(opened / 1000), (unsigned)(closed / 1000));
     return NULL;
 }
 
@@ -86,11 +136,15 @@ static size_t stack_of(void *(*function)(void *))
 int main(int count, char **words)
 {
     size_t bare, used;
-    if (count != 2) return 2;
+    int kind;
+    if (count != 3) return 2;
     bytes = read_table(words[1], table, sizeof table);
+    cycle = strtoul(words[2], NULL, 10);
+    if (cycle == 0) return 2;
     run(NULL);
+    for (kind = 0; kind < KINDS; kind++) print_times(kind);
     bare = stack_of(nothing);
     used = stack_of(run);
-    printf("stack %zu bytes beyond a bare thread\n", used - bare);
+    printf(" stack %zu bytes beyond a bare thread\n", used - bare);
     return 0;
 }

@@ -37,16 +37,23 @@ static void closed_handle(void)
     HOLDS(ss_sporadic_index(&slots, text, 1, &number) == SS_CLOSED);
 }
 
+/* Whether the first bytes of the table are told as short, in a block that has no more. */
+static bool is_short(size_t cut)
+{
+    uint8_t *front = malloc(cut != 0 ? cut : 1);
+    uint32_t status;
+    if (front == NULL) return false;
+    memcpy(front, table, cut);
+    told.answer = 0;
+    status = ss_open(&slots, front, cut, &told);
+    free(front);
+    return status == SS_BAD_TABLE && told.answer == 2 && told.first == cut;
+}
+
 static void wrong_tables(void)
 {
-    size_t cut;
-    for (cut = 0; cut < bytes; cut++) {
-        told.answer = 0;
-        if (ss_open(&slots, table, cut, &told) != SS_BAD_TABLE || told.answer != 2
-            || told.first != cut) {
-            break;
-        }
-    }
+    size_t cut = 0;
+    while (cut < bytes && is_short(cut)) cut++;
     HOLDS(cut == bytes);
     HOLDS(ss_open(&slots, table, bytes + 1, &told) == SS_BAD_TABLE);
     HOLDS(told.answer == 11 && told.first == bytes && told.second == 0 && told.third == 0);
@@ -85,7 +92,8 @@ static void wrong_numbers(void)
     ss_span span;
     ss_key none = {SS_NONE, 0, 0, 0}, far = {SS_OFFLINE, 65536, 0, 0}, odd = {SS_FIRM, 1, 0, 1};
     ss_key unknown = {SS_OFFLINE, 40, 0, 0}, first = {SS_OFFLINE, 0, 0, 0};
-    HOLDS(ss_open(&slots, table, bytes, &told) == SS_STILL_OPEN);
+    told.answer = 77;
+    HOLDS(ss_open(&slots, table, 3, &told) == SS_STILL_OPEN && told.answer == 77);
     HOLDS(ss_firm(&slots, 0, 1, 1, &told) == SS_BAD_ROW);
     HOLDS(ss_firm(&slots, 1, 0, 1, &told) == SS_BAD_NUMBER);
     HOLDS(ss_firm(&slots, 1, SS_OFFER_LIMIT + 1, 1, &told) == SS_BAD_NUMBER);

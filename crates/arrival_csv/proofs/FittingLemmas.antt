@@ -81,7 +81,7 @@ withdraw_of-fits set row text event h =
     rw (← same, range) refl)
 
 -- the event of a row fits the set
-event_of-fits : (set : TaskSet) (row : ℕ) (kind : Kind) (fields : List (List ℕ)) (event : Event) → event_of set row kind fields ≡ Ok event → event_fits set event ≡ true
+pub event_of-fits : (set : TaskSet) (row : ℕ) (kind : Kind) (fields : List (List ℕ)) (event : Event) → event_of set row kind fields ≡ Ok event → event_fits set event ≡ true
 event_of-fits set row Soft fields event h = step (one_field row fields) h (λ slots one h. soft_of-fits set row slots event h)
 event_of-fits set row Firm fields event h = step (two_fields row fields) h (λ both two h. firm_of-fits set row both event h)
 event_of-fits set row SporadicKind fields event h = step (one_field row fields) h (λ name one h. sporadic_of-fits set row name event h)

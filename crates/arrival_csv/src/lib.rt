@@ -14,8 +14,10 @@ mod rows;
 
 use csv::ByteRecord;
 pub use faults::ArrivalFault;
+pub use kinds::Kind;
 use reader::{next_row, reader_of};
 use rows::arrival_of;
+pub use rows::{done_of, firm_of, soft_of, sporadic_of, withdraw_of};
 use slot_core::{Arrival, TaskSet};
 use std::alloc::Global;
 

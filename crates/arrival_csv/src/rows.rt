@@ -92,7 +92,7 @@ fn two_fields(row: u32, fields: &ByteRecord) -> Result<(&[u8], &[u8]), ArrivalFa
 }
 
 /// Soft work of these slots.
-fn soft_of(row: u32, slots: &[u8]) -> Result<Event, ArrivalFault>
+pub fn soft_of(row: u32, slots: &[u8]) -> Result<Event, ArrivalFault>
     ensures { result ≡ soft_of row slots.now }
 {
     Ok(Event::Soft(slots_of(row, slots)?))
@@ -106,7 +106,7 @@ fn slots_of(row: u32, field: &[u8]) -> Result<u32, ArrivalFault>
 }
 
 /// A firm task of these slots, due within so many from now.
-fn firm_of(row: u32, slots: &[u8], within: &[u8]) -> Result<Event, ArrivalFault>
+pub fn firm_of(row: u32, slots: &[u8], within: &[u8]) -> Result<Event, ArrivalFault>
     ensures { result ≡ firm_of row (slots.now, within.now) }
 {
     let slots = slots_of(row, slots)?;
@@ -115,7 +115,7 @@ fn firm_of(row: u32, slots: &[u8], within: &[u8]) -> Result<Event, ArrivalFault>
 }
 
 /// A job of the sporadic task of this name.
-fn sporadic_of(tasks: &TaskSet, row: u32, name: &[u8]) -> Result<Event, ArrivalFault>
+pub fn sporadic_of(tasks: &TaskSet, row: u32, name: &[u8]) -> Result<Event, ArrivalFault>
     requires { is_sound tasks.now ≡ true }
     ensures { result ≡ sporadic_of tasks.now row name.now }
 {
@@ -125,7 +125,7 @@ fn sporadic_of(tasks: &TaskSet, row: u32, name: &[u8]) -> Result<Event, ArrivalF
 }
 
 /// The withdrawal of the firm job that arrived in this row.
-fn withdraw_of(row: u32, firm: &[u8]) -> Result<Event, ArrivalFault>
+pub fn withdraw_of(row: u32, firm: &[u8]) -> Result<Event, ArrivalFault>
     ensures { result ≡ withdraw_of row firm.now }
 {
     let firm = row_number(firm).ok_or(ArrivalFault::BadNumber(row, 3))?;
@@ -133,7 +133,7 @@ fn withdraw_of(row: u32, firm: &[u8]) -> Result<Event, ArrivalFault>
 }
 
 /// The early end of the job of this key.
-fn done_of(tasks: &TaskSet, row: u32, text: &[u8]) -> Result<Event, ArrivalFault>
+pub fn done_of(tasks: &TaskSet, row: u32, text: &[u8]) -> Result<Event, ArrivalFault>
     requires { is_sound tasks.now ≡ true }
     ensures { result ≡ done_of tasks.now row text.now }
 {

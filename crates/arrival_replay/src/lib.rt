@@ -290,7 +290,7 @@ fn due_arrival(arrivals: &[Arrival], place: usize, time: u64) -> Option<Arrival>
 
 /// What comes next happens: the executive answers the arrival that is due, and where none is, a
 /// slot passes.
-fn happen<T: SpareTable, L: Ledger>(
+pub fn happen<T: SpareTable, L: Ledger>(
     exec: &mut Exec<T>,
     due: Option<Arrival>,
     steps: &mut Steps<L>,

@@ -9,7 +9,7 @@ use Rattle.slot_core.specs.declared.TheConstants.{ARRIVAL_LIMIT, CHART_LIMIT, LO
 use Rattle.run_outcome.specs.Refusals.{word_at}
 use Rattle.run_outcome.specs.declared.file.File.{File}
 use Rattle.run_outcome.specs.declared.file.File.TheVariants.{Tasks as TaskFile, Table as TableFile, Second as SecondFile, Arrivals as ArrivalsFile, Trace as TraceFile}
-use Rattle.command_line.specs.declared.TheConstants.{LOAD_SLOTS}
+use Rattle.command_line.specs.declared.TheConstants.{LOAD_SLOTS, WORD_DIGIT_LIMIT}
 use Rattle.command_line.specs.declared.Arrivals.{Arrivals}
 use Rattle.command_line.specs.declared.Arrivals.TheVariants.{Absent, Recorded, Generated}
 use Rattle.command_line.specs.declared.Command.{Command}
@@ -22,11 +22,13 @@ use Rattle.command_line.specs.declared.Second.TheVariants.{Unread, Read}
 use Rattle.command_line.specs.declared.Source.{Source}
 use Rattle.command_line.specs.declared.Source.TheVariants.{Tasks, Spelled, Load}
 
--- 1 to 6 decimal digits, of which the first is not 0
+-- one decimal digit up to the limit of digits, of which the first is not 0
 abbrev pub is_number : List ℕ → Bool
 is_number [] = false
 is_number (first ∷ rest) =
-    nat_le (length rest) 5 && not (first == 48) && list_all is_ascii_digit (first ∷ rest)
+    nat_lt (length rest) WORD_DIGIT_LIMIT
+    && not (first == 48)
+    && list_all is_ascii_digit (first ∷ rest)
 
 -- the number that a word writes, from 1 to the limit
 abbrev pub number_up_to : ℕ → List ℕ → Option ℕ
@@ -138,7 +140,8 @@ command_of_four word last =
     if bytes_eq word (codes "replay") then over_slots Tasks Trace (number_up_to REPLAY_LIMIT last)
     else if bytes_eq word (codes "replay-table") then
     over_slots Spelled Trace (number_up_to REPLAY_LIMIT last)
-    else if bytes_eq word (codes "gantt") then over_slots Tasks Chart (number_up_to CHART_LIMIT last)
+    else if bytes_eq word (codes "gantt") then
+    over_slots Tasks Chart (number_up_to CHART_LIMIT last)
     else None
 
 -- `verify T A X N` and `explain T A N R`

@@ -13,6 +13,9 @@ use slot_core::{ARRIVAL_LIMIT, CHART_LIMIT, LOAD_LIMIT, REPLAY_LIMIT, Words};
 /// How many slots of a load are run.
 pub const LOAD_SLOTS: u32 = 1024;
 
+/// Most digits of a number that a word of a command writes.
+pub const WORD_DIGIT_LIMIT: usize = 6;
+
 /// What the words ask for: a row of what is read, in this order, and of what is written.
 #[derive(Clone, Copy)]
 pub struct Command {
@@ -286,7 +289,8 @@ fn of_load(number: Option<u32>) -> Option<Command>
     })
 }
 
-/// The number that a word writes, from 1 to the limit: 1 to 6 digits, the first not 0.
+/// The number that a word writes, from 1 to the limit: 1 to `WORD_DIGIT_LIMIT` digits, the first of
+/// which is not 0.
 fn number_up_to(limit: u32, word: &str) -> Option<u32>
     ensures number { result ≡ number_up_to limit word.now }
     ensures some { IfSome result (λ n. 1 ≤ n) }
@@ -309,13 +313,13 @@ fn value_of(word: &str) -> u32
     word.parse::<u32>().unwrap()
 }
 
-/// Whether the bytes are 1 to 6 digits, the first not 0.
+/// Whether the bytes are 1 to `WORD_DIGIT_LIMIT` digits, the first not 0.
 fn is_number(digits: &[u8]) -> bool
     ensures { result ≡ is_number digits.now }
 {
     match digits {
         [] => false,
-        [first, rest @ ..] => rest.len() <= 5 && *first != b'0' && are_digits(digits),
+        [first, rest @ ..] => rest.len() < WORD_DIGIT_LIMIT && *first != b'0' && are_digits(digits),
     }
 }
 

@@ -48,7 +48,7 @@ const TWO_SOFT: &str = "0,soft,3/0,soft,1/";
 type Row = (&'static str, &'static str, &'static str, &'static str);
 
 /// Runs that are done.
-const DONE: [Row; 26] = [
+const DONE: [Row; 27] = [
     (CHECK, OFFSET, "", "feasible cycle 6 jobs 1 spans 3\n"),
     (CHECK, BORROWING, "", "feasible cycle 10 jobs 2 spans 2\n"),
     (CHECK, LONGEST, "", "feasible cycle 8192 jobs 1 spans 1\n"),
@@ -60,6 +60,12 @@ const DONE: [Row; 26] = [
     (MIGRATE, PAIR_TABLE, "", SECOND_TABLE),
     (MIGRATE, SECOND_TABLE, "", SECOND_TABLE),
     (MARGIN, ALARM, "", ALARM_MARGINS),
+    (
+        MARGIN,
+        BORROWING,
+        "",
+        "margin p.w 1 0 10 11\nmargin q.w 1 0 10 11\n",
+    ),
     (MARGIN, LONGEST, "", "margin g.a 0 0 8192 8193\n"),
     (REPLAY, OFFSET, "", OFFSET_1),
     (REPLAY, OFFSET, "/", OFFSET_1),

@@ -7,11 +7,6 @@ use Rattle.std.specs.Io.KnownBytes.{Appends}
 use Rattle.slot_io.specs.Sinks.{AppendsPart}
 use Rattle.slot_io.proofs.SinkParts.{AppendsPart-more, AppendsPart-on}
 
--- what holds anyhow holds where there is an error
-pub OnErr-anyhow : {T E P : Type 0} (r : Result T E) → P → OnErr r P
-OnErr-anyhow (Ok x) p = tt
-OnErr-anyhow (Err e) p = p
-
 -- the lines of a list, around that of one item
 lines-around : {X : Type 0} (line : X → List ℕ) (xs : List X) (i : ℕ) (d : X) → i < length xs → flat_map line xs ≡ flat_map line (take i xs) ++ (line (get_or xs i d) ++ flat_map line (drop (suc i) xs))
 lines-around line [] i d low = absurd (omega arith)

@@ -104,6 +104,7 @@ pub fn explain<T: SpareTable, K: Sink>(
         (scene_of exec.now.plan.tasks exec.now.plan.cycle h)
         until) }
 {
+    // (so that the prover knows what every executive is)
     let _now = exec.now();
     let jobs = due_jobs(alloc, exec, until)?;
     let arrivals = due_arrivals(alloc, exec, until)?;

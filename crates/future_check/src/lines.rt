@@ -7,6 +7,7 @@ ghost use Rattle.slot_core.specs.Calls.Counts.{Rose};
 ghost use Rattle.slot_core.specs.Output.Texts.{worded};
 ghost use Rattle.slot_core.specs.Runs.Arrivals.{key_in_set};
 ghost use Rattle.slot_io.specs.Sinks.{AppendsPart};
+ghost use Rattle.trace_text.specs.declared.TheConstants.{DECIMAL_LIMIT, LINE_LIMIT};
 ghost use Rattle.future_check.specs.Explanations.{arrival_line, job_line, lines_of, offer_line};
 
 use crate::arrivals::Coming;
@@ -121,9 +122,9 @@ fn push_arrival(line: &mut Line, arrival: Coming, tasks: &TaskSet)
 
 /// Appends a space and the number.
 fn push_number(line: &mut Line, n: u64)
-    requires { length line.old + 21 ≤ 1024 }
+    requires { length line.old + 1 + DECIMAL_LIMIT ≤ LINE_LIMIT }
     ensures text { line.new ≡ worded line.old n }
-    ensures short { length line.new ≤ length line.old + 21 }
+    ensures short { length line.new ≤ length line.old + 1 + DECIMAL_LIMIT }
 {
     line.push(b" ");
     line.number(n);

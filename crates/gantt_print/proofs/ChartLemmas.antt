@@ -19,15 +19,11 @@ use Rattle.slot_facts.proofs.Lists.Tests.{list_all-from_Has}
 use Rattle.gantt_print.specs.Drawings.{Drawing, IsChartOf, MarkedRow, HasMarks, drawing_text, drawing_with, empty_chart, marks_with, row_line, rows_text, rows_width, unmarked, with_runs}
 use Rattle.gantt_print.specs.Rows.{is_row_of}
 use Rattle.gantt_print.proofs.MarkLemmas.{length-marks_with}
+use Rattle.std.proofs.lemmas.Option.{slice_get_within}
 
 -- a place of a list is below its length
-place-below : {X : Type 0} (xs : List X) (k : ℕ) (x : X) → slice_get xs k ≡ Some x → k < length xs
-place-below [] k x at = absurd (cc at)
-place-below (y ∷ xs) zero x at = omega arith
-place-below (y ∷ xs) (suc k) x at = omega (arith, place-below xs k x at)
-
 below : {X : Type 0} (xs : List X) (k : ℕ) (x : X) → slice_get xs k ≡ Some x → nat_lt k (length xs) ≡ true
-below xs k x at = lt-ltb k (length xs) (place-below xs k x at)
+below xs k x at = lt-ltb k (length xs) (slice_get_within xs k x at)
 
 -- each row of the chart of a set is of the set
 task_row-named : (set : TaskSet) (g : ℕ) (graph : Graph) (row : ChartRow) → slice_get set.graphs g ≡ Some graph → Has (graph_rows (g, graph)) row → is_row_of set row ≡ true

@@ -1,21 +1,10 @@
 -- Lists that are changed item by item, or grow by one.
 use Rattle.std.proofs.Common.{◌≡◌, ℕ, zero, suc, ◌+◌, ◌<◌, List, [], ◌∷◌, ◌++◌, length, map, take, drop, set, get_or, refl, sym, ap, ap₂, ◌∙◌, zero-add, add-one, append_assoc, arith}
 use Rattle.std.specs.List.{enumerate_from, range_with_len}
-use Rattle.std.specs.Prelude.{Err, Ok, OnErr, Result, flat_map}
+use Rattle.std.specs.Prelude.{flat_map}
 use Rattle.std.proofs.lemmas.List.{flat_map_more, take_more}
 use Rattle.std.proofs.lemmas.List.FromFn.{map-range_with_len_more}
-
--- the first i items changed by f: the next one is as it was
-get_or-changed : {X : Type 0} (f : X → X) (xs : List X) (i : ℕ) (d : X) → get_or (map f (take i xs) ++ drop i xs) i d ≡ get_or xs i d
-get_or-changed f [] zero d = refl
-get_or-changed f [] (suc i) d = refl
-get_or-changed f (x ∷ xs) zero d = refl
-get_or-changed f (x ∷ xs) (suc i) d = get_or-changed f xs i d
-
-set-changed : {X : Type 0} (f : X → X) (xs : List X) (i : ℕ) (d : X) → i < length xs → set (map f (take i xs) ++ drop i xs) i (f (get_or xs i d)) ≡ map f (take (suc i) xs) ++ drop (suc i) xs
-set-changed f [] i d low = absurd (omega arith)
-set-changed f (x ∷ xs) zero d low = refl
-set-changed f (x ∷ xs) (suc i) d low = ap (λ ys. f x ∷ ys) (set-changed f xs i d (omega arith))
+use Rattle.slot_facts.proofs.Lists.Changed.{get_or-changed, set-changed}
 
 -- one more item is changed
 pub changed-more : {X : Type 0} (f : X → X) (xs now : List X) (i : ℕ) (x y : X) → i < length xs → now ≡ map f (take i xs) ++ drop i xs → x ≡ get_or now i x → y ≡ f x → set now i y ≡ map f (take (i + 1) xs) ++ drop (i + 1) xs
@@ -50,8 +39,3 @@ flat_map-at f xs i x low is =
 pub flat_map-more : {X Y : Type 0} (f : X → List Y) (xs : List X) (i : ℕ) (x : X) → i < length xs → x ≡ get_or xs i x → flat_map f (take i xs) ++ f x ≡ flat_map f (take (i + 1) xs)
 flat_map-more f xs i x low is =
     flat_map_more f [] (take i xs) x ∙ ap (λ y. flat_map f (take i xs ++ y ∷ [])) is ∙ ap (flat_map f) (sym (take_more xs i x low))
-
--- what holds anyhow holds where there is an error
-pub OnErr-anyhow : {T E P : Type 0} (r : Result T E) → P → OnErr r P
-OnErr-anyhow (Ok x) p = tt
-OnErr-anyhow (Err e) p = p

@@ -11,6 +11,7 @@ ghost use Rattle.slot_core.specs.Output.Charts.{chart_of, graph_rows, sporadic_r
 ghost use Rattle.slot_core.specs.Calls.Counts.{Rose};
 ghost use Rattle.slot_core.specs.Sets.Ranges.{is_sound};
 ghost use Rattle.slot_io.specs.Sinks.{AppendsPart};
+ghost use Rattle.gantt_print.specs.declared.labels.TheConstants.{LABEL_LIMIT};
 ghost use Rattle.gantt_print.specs.Drawings.{IsChartOf, MarkedRow, drawing_text, drawing_with, empty_chart, head_line, row_line, rows_text, unmarked, with_runs};
 ghost use Rattle.gantt_print.specs.Rows.{is_row_of};
 
@@ -228,7 +229,7 @@ fn put_rows<K: Sink>(
     tasks: &TaskSet,
     out: &mut K,
 ) -> Result<(), Failed>
-    requires width { width ≤ 49 }
+    requires width { width ≤ LABEL_LIMIT }
     requires named { list_all (λ (r : MarkedRow). is_row_of tasks.now r.row) tracks.now ≡ true }
     requires short { All (λ (r : MarkedRow). length r.marks ≤ CHART_LIMIT) tracks.now }
     ensures ok { OnOk result (Appends (K.written out.old) (K.written out.new)
@@ -250,7 +251,7 @@ fn put_rows<K: Sink>(
 /// Writes the line of the row into an empty line, with a label of this width.
 fn push_row(line: &mut Line, track: &Track, width: usize, tasks: &TaskSet)
     requires empty { line.old ≡ [] }
-    requires width { width ≤ 49 }
+    requires width { width ≤ LABEL_LIMIT }
     requires named { is_row_of tasks.now track.now.row ≡ true }
     requires short { length track.now.marks ≤ CHART_LIMIT }
     ensures { line.new ≡ row_line tasks.now width track.now }

@@ -6,5 +6,5 @@ mod labels;
 mod rows;
 
 pub use chart::Chart;
-pub use labels::push_label;
+pub use labels::{LABEL_LIMIT, push_label};
 pub use rows::Row;

@@ -1,11 +1,12 @@
 -- Spans by their places: where each starts, and the works before it.
-use Rattle.std.proofs.Common.{◌≡◌, ℕ, zero, suc, ◌+◌, ◌-◌, ◌*◌, ◌^◌, ◌<◌, ◌≤◌, pos, ◌+ℤ◌, ◌-ℤ◌, ◌≤ℤ◌, cond, List, [], ◌∷◌, take, Some, refl, sym, ap, ◌∙◌, subst, arith}
+use Rattle.std.proofs.Common.{◌≡◌, ℕ, zero, suc, ◌+◌, ◌-◌, ◌*◌, ◌^◌, ◌<◌, ◌≤◌, pos, ◌+ℤ◌, ◌-ℤ◌, ◌≤ℤ◌, cond, List, [], ◌∷◌, take, Some, refl, sym, ap, ◌∙◌, subst, inl, inr, arith}
 use Rattle.std.specs.Prelude.{nat_lt, slice_get}
 use Rattle.std.specs.Int.{int_min}
-use Rattle.std.proofs.lemmas.Bool.{le-ltb, lt-ltb}
+use Rattle.std.proofs.lemmas.Bool.{cases_lt, le-ltb, lt-ltb}
 use Rattle.std.proofs.lemmas.Int.{ints, clamps}
 use Rattle.std.proofs.lemmas.List.Sums.{sum_by-cons}
 use Rattle.slot_core.specs.declared.jobs.Span.{Span}
+use Rattle.spare_capacity.specs.PlanSpans.{AreProper}
 use Rattle.spare_capacity.specs.Recurrence.{filled, last_end, FollowOn}
 use Rattle.spare_capacity.specs.Laws.{work_until}
 use Rattle.spare_capacity.proofs.Free.{free, free-ended, rest-filled, spare-filled}
@@ -158,6 +159,19 @@ ends_before-at t (suc i) x (r ∷ spans) s follow at low high =
     sum_by-cons (λ (q : Span). cond (nat_lt q.end x) 1 0) r spans
     ∙ ap (λ b. cond b 1 0 + ends_before x spans) (lt-ltb r.end x early)
     ∙ omega (arith, ends_before-at r.end i x spans s follow.4 at low high)
+
+-- of proper spans that follow a time, fewer end before a later time than there are slots up to it
+pub ends_before-few : (t x : ℕ) (spans : List Span) → FollowOn t spans → AreProper spans → t < x → ends_before x spans + 1 + t ≤ x
+ends_before-few t x [] follow proper later = omega (arith, later)
+ends_before-few t x (s ∷ ss) follow proper later =
+    let step = sum_by-cons (λ (q : Span). cond (nat_lt q.end x) 1 0) s ss in
+    elim (cases_lt s.end x) [
+      | inl early ↦
+          let rest = ends_before-few s.end x ss follow.4 proper.1 early in
+          omega (arith, step ∙ ap (λ b. cond b 1 0 + ends_before x ss) (lt-ltb s.end x early), rest, follow.0, proper.0)
+      | inr late ↦
+          omega (arith, step ∙ ap (λ b. cond b 1 0 + ends_before x ss) (le-ltb s.end x late), ends_before-none s.end x ss late follow.4, later)
+    ]
 
 -- a capacity is at most the length
 pub spare-small : (t i : ℕ) (spans : List Span) (s : Span) → FollowOn t spans → spans ≡ filled spans → slice_get spans i ≡ Some s → s.spare ≤ℤ pos (2 ^ 40)

@@ -51,7 +51,7 @@ pub enum SoftRoom {
 /// tells the first time that is too short.
 ///
 /// It reads at most as many spans as there are. Without sporadic tasks an accepted offer reads at
-/// most the spans that end before its deadline, and one more.
+/// most the spans that end before its deadline, and one more; that is at most the slots up to it.
 pub fn test<T: SpareTable, L: Ledger>(
     table: &T,
     reserve: &Reserve,
@@ -70,6 +70,8 @@ pub fn test<T: SpareTable, L: Ledger>(
     ensures steps { steps.old ≤ steps.new }
     ensures accepts_soon { reserve.now.sporadics ≡ [] → result ≡ Answer.Accept
         → steps.new ≤ steps.old + ends_before dl (spans_of_pairs (T.pairs table.now)) + 1 }
+    ensures places { ends_before dl (spans_of_pairs (T.pairs table.now)) + 1 + T.time table.now
+        ≤ dl }
     ensures reads_once { steps.new ≤ steps.old + length (T.pairs table.now) }
 {
     match first_short(table, reserve, table.time(), c, dl, steps) {
@@ -150,6 +152,7 @@ fn has_spare<T: SpareTable, L: Ledger>(table: &T, steps: &mut Steps<L>) -> bool
     ensures one_step { steps.new ≡ steps.old + 1 }
     ensures table { IsTable (T.time table.now) (T.pairs table.now) (T.limit table.now) }
 {
+    // (so that the prover knows what every table is)
     let _count = table.count();
     table.read(table.first(), steps).spare >= 1
 }

@@ -73,6 +73,8 @@ pub(crate) fn first_short<T: SpareTable, L: Ledger>(
     ensures reads_once { steps.new ≤ steps.old + length (T.pairs table.now) }
     ensures none_soon { reserve.now.sporadics ≡ [] → OnOk result (steps.new
         ≤ steps.old + ends_before from (spans_of_pairs (T.pairs table.now)) + 1) }
+    ensures places { ends_before from (spans_of_pairs (T.pairs table.now)) + 1 + T.time table.now
+        ≤ from }
 {
     let ask = Ask {
         now: table.time(),

@@ -56,6 +56,7 @@ fn front<T: SpareTable, L: Ledger>(table: &T, steps: &mut Steps<L>) -> SpanPlace
     ensures first { result.index ≡ 0 }
     ensures one_step { steps.new ≡ steps.old + 1 }
 {
+    // (so that the prover knows what every table is)
     let _count = table.count();
     let at = table.first();
     SpanPlace {
@@ -82,6 +83,7 @@ pub(crate) fn after<T: SpareTable, L: Ledger>(
         (steps.new ≡ steps.old)
         (λ later. steps.new ≡ steps.old + 1) }
 {
+    // (so that the prover knows what every table is)
     let _count = table.count();
     let at = table.next(place.at)?;
     Some(SpanPlace {

@@ -184,9 +184,16 @@ fn reads_files_and_tells_first_faults(rt: HostRuntime) -> Result<(), Fail> {
 fn is_told(alloc: Global, text: &str, tasks: &TaskSet, want: &str) -> Result<bool, Fail>
     requires { is_sound tasks.now ≡ true }
 {
-    let bytes = bytes_of(alloc, text)?;
-    let told = told(alloc, bytes.as_slice(), tasks)?;
+    let told = told_of(alloc, text, tasks)?;
     Ok(told.as_str() == want)
+}
+
+/// What comes of the file that the text writes.
+fn told_of(alloc: Global, text: &str, tasks: &TaskSet) -> Result<String, Fail>
+    requires { is_sound tasks.now ≡ true }
+{
+    let bytes = bytes_of(alloc, text)?;
+    told(alloc, bytes.as_slice(), tasks)
 }
 
 /// So many rows, then the last one.

@@ -73,10 +73,7 @@ fn tells_faults_of_documents(rt: HostRuntime) -> Result<(), Fail> {
         (b"graph = [{}, 1]", TaskFault::WrongKind(GRAPHS)),
     ];
     for (index, (bytes, fault)) in cases.iter().enumerate() {
-        assert!(rt;
-            read_tasks(rt.alloc(), bytes).err() == Some(*fault),
-            "case {index}"
-        );
+        assert!(rt; fault_of(rt.alloc(), bytes) == Some(*fault), "case {index}");
     }
     Ok(())
 }
@@ -109,11 +106,27 @@ fn tells_lists_past_their_limits(rt: HostRuntime) -> Result<(), Fail> {
         ),
     ];
     for (front, item, back, count, place) in cases {
-        let text = repeated(alloc, front, item, count, back)?;
-        let fault = read_tasks(alloc, text.as_bytes()).err();
+        let fault = fault_of_repeated(alloc, front, item, count, back)?;
         assert!(rt; fault == Some(TaskFault::TooMany(place, count)), "{place}");
     }
     Ok(())
+}
+
+/// The fault of a file with an item so many times, between a front and a back.
+fn fault_of_repeated(
+    alloc: Global,
+    front: &str,
+    item: &str,
+    count: u32,
+    back: &str,
+) -> Result<Option<TaskFault>, Fail> {
+    let text = repeated(alloc, front, item, count, back)?;
+    Ok(fault_of(alloc, text.as_bytes()))
+}
+
+/// The fault of a file.
+fn fault_of(alloc: Global, bytes: &[u8]) -> Option<TaskFault> {
+    read_tasks(alloc, bytes).err()
 }
 
 /// The item so many times, between a front and a back.
@@ -164,7 +177,7 @@ fn reads_sets(rt: HostRuntime) -> Result<(), Fail> {
         let told = told(alloc, text)?;
         assert!(rt; told.as_str() == want, "{want}");
     }
-    let fault = read_tasks(alloc, WRONG_ENTRIES.as_bytes()).err();
+    let fault = fault_of(alloc, WRONG_ENTRIES.as_bytes());
     assert!(rt; fault == Some(TaskFault::NoSuchTask(of_task(Field::After))));
     Ok(())
 }

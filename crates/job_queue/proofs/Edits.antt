@@ -1,8 +1,10 @@
 -- What edits leave of an order, and a run of the job at a place.
-use Rattle.std.proofs.Common.{◌≡◌, ℕ, zero, suc, ◌+◌, ◌-◌, ◌<◌, ◌≤◌, List, [], ◌∷◌, ◌++◌, length, get_or, set, refl, ap, ◌∙◌, inl, inr, arith}
+use Rattle.std.proofs.Common.{◌≡◌, ℕ, zero, suc, ◌+◌, ◌-◌, ◌<◌, ◌≤◌, List, [], ◌∷◌, ◌++◌, length, get_or, set, refl, sym, ap, ◌∙◌, inl, inr, arith}
 use Rattle.std.specs.List.{remove}
+use Rattle.std.specs.Prelude.{reverse}
 use Rattle.std.specs.List.Sorted.{IsNonDecreasingBy}
 use Rattle.std.proofs.lemmas.Bool.{cases_lt}
+use Rattle.std.proofs.lemmas.List.{length-reverse, reverse-append}
 use Rattle.std.proofs.lemmas.List.Edits.{length-remove, get_or-remove_below, get_or-remove_above}
 use Rattle.slot_core.specs.declared.jobs.Job.{Job}
 use Rattle.job_queue.specs.Queues.{after_run_at}
@@ -61,6 +63,26 @@ after_run_at-append_right n zero (j ∷ xs) ys long past = absurd (omega arith)
 after_run_at-append_right n (suc i) (j ∷ xs) ys long past =
     let less : i - length xs ≡ suc i - n = omega arith in
     ap (λ js. j ∷ js) (after_run_at-append_right (length xs) i xs ys refl (omega arith) ∙ ap (λ k. xs ++ after_run_at k ys) less)
+
+-- a list with one more job in front, looked at from its last
+reverse-cons : (j : Job) (jobs : List Job) → reverse (j ∷ jobs) ≡ reverse jobs ++ j ∷ []
+reverse-cons j jobs = reverse-append (j ∷ []) jobs
+
+-- a run in a list, and in the list looked at from its last
+pub reverse-after_run_at : (i : ℕ) (jobs : List Job) → i < length jobs → reverse (after_run_at (length jobs - 1 - i) jobs) ≡ after_run_at i (reverse jobs)
+reverse-after_run_at i [] inside = absurd (omega arith)
+reverse-after_run_at i (j ∷ jobs) inside =
+    let back = reverse jobs in
+    let long = length-reverse jobs in
+    elim (cases_lt i (length jobs)) [
+      | inl low ↦
+          let later : length (j ∷ jobs) - 1 - i ≡ suc (length jobs - 1 - i) = omega arith in
+          ap (λ k. reverse (after_run_at k (j ∷ jobs))) later ∙ reverse-cons j (after_run_at (length jobs - 1 - i) jobs) ∙ ap (λ js. js ++ j ∷ []) (reverse-after_run_at i jobs low) ∙ sym (after_run_at-append_left i back (j ∷ []) (omega arith)) ∙ ap (after_run_at i) (sym (reverse-cons j jobs))
+      | inr last ↦
+          let here : length (j ∷ jobs) - 1 - i ≡ zero = omega arith in
+          let none : i - length jobs ≡ zero = omega arith in
+          ap (λ k. reverse (after_run_at k (j ∷ jobs))) here ∙ reverse-cons (record j { left = j.left - 1 }) jobs ∙ sym (after_run_at-append_right (length jobs) i back (j ∷ []) long last ∙ ap (λ k. back ++ after_run_at k (j ∷ [])) none) ∙ ap (after_run_at i) (sym (reverse-cons j jobs))
+    ]
 
 -- the job written at its place with a slot less
 pub set-after_run_at : (i : ℕ) (jobs : List Job) (x : Job) → i < length jobs → x ≡ get_or jobs i x → set jobs i (record x { left = x.left - 1 }) ≡ after_run_at i jobs

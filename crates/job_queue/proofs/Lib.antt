@@ -1,3 +1,4 @@
+pub mod Comes
 pub mod Edits
 pub mod KeptQueues
 pub mod ReadyJobs

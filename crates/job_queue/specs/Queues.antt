@@ -1,10 +1,10 @@
 -- What a queue of jobs is, and what a search in it looks at.
-use Rattle.std.specs.Prelude.{◌≡◌, ℕ, zero, suc, ◌+◌, ◌-◌, ◌≤◌, ◌^◌, false, List, [], ◌∷◌, ◌++◌, length, min, All}
+use Rattle.std.specs.Prelude.{◌≡◌, ℕ, zero, suc, ◌+◌, ◌-◌, ◌<◌, ◌≤◌, ◌^◌, false, List, [], ◌∷◌, ◌++◌, length, min, reverse, slice_index_or, All}
 use Rattle.std.specs.List.{position_or_len}
 use Rattle.std.specs.List.Sorted.{IsNonDecreasingBy}
 use Rattle.slot_core.specs.declared.jobs.Key.{Key}
 use Rattle.slot_core.specs.declared.jobs.Job.{Job}
-use Rattle.slot_core.specs.Offline.Keys.{same_key, is_soft}
+use Rattle.slot_core.specs.Offline.Keys.{is_earlier, same_key, is_soft}
 use Rattle.slot_core.specs.Keeping.Kept.{AreApart}
 
 -- what contracts see of a queue: its jobs, and how many it has places for
@@ -19,14 +19,23 @@ pub record IsQueue (queue : QueueParts) : Type 0 where
   pub left : All (λ (j : Job). 1 ≤ j.left) queue.jobs
   pub few : length queue.jobs ≤ queue.capacity
 
--- what a queue keeps of its jobs beside and of its listed ones: these stand in order of start, and
--- in each part places are reserved for all
+-- no job goes by earliest deadline first before one that stands behind it
+abbrev pub IsEarliestLast : List Job → Type 0
+IsEarliestLast jobs =
+    (i k : ℕ) (d : Job) → i < k → k < length jobs
+    → is_earlier (slice_index_or jobs i d) (slice_index_or jobs k d) ≡ false
+
+-- what a queue keeps of its jobs beside, of those that have come, the earliest last, and of its
+-- listed ones, in order of start: in each part places are reserved for all
 pub record KeepsQueue
-    (beside listed : List Job) (capacity places_beside places_listed : ℕ) : Type 0 where
-  pub queue : IsQueue (record { jobs = beside ++ listed; capacity = capacity })
+    (beside come listed : List Job) (capacity places_beside places_come places_listed : ℕ)
+    : Type 0 where
+  pub queue : IsQueue (record { jobs = beside ++ reverse come ++ listed; capacity = capacity })
+  pub latest_first : IsEarliestLast come
   pub ordered : IsNonDecreasingBy (λ (j : Job). j.est) listed
   pub small : capacity ≤ 2 ^ 20
   pub beside_fits : capacity ≤ places_beside
+  pub come_fits : capacity ≤ places_come
   pub listed_fits : capacity ≤ places_listed
 
 -- how many jobs a search for this key looks at: those up to the one of that key, or all

@@ -25,7 +25,7 @@ pub(crate) fn earlier_of<'a>(best: Option<&'a Job>, job: &'a Job) -> Option<&'a 
 }
 
 /// Whether the first job goes before the second: by deadline, then by key.
-fn is_earlier(a: &Job, b: &Job) -> bool
+pub(crate) fn is_earlier(a: &Job, b: &Job) -> bool
     ensures { result ≡ is_earlier a.now b.now }
 {
     if a.dl == b.dl {

@@ -1,16 +1,16 @@
-//! A queue of jobs in two parts.
+//! A queue of jobs in three parts.
 
-ghost use Rattle.std.specs.Prelude.{◌≡◌, ℕ, ◌+◌, ◌<◌, ◌≤◌, ◌^◌, [], ◌∷◌, ◌++◌, false, not, filter, find, fold, length, count_by, position, remove, slice_get, slice_index_or, None, Some, IfOk, IsTrue};
+ghost use Rattle.std.specs.Prelude.{◌≡◌, ℕ, ◌+◌, ◌-◌, ◌<◌, ◌≤◌, ◌^◌, [], ◌∷◌, ◌++◌, false, true, not, filter, find, fold, length, count_by, position, remove, reverse, slice_get, slice_index_or, vec_capacity, None, Some, IfOk, IsTrue};
 ghost use Rattle.std.specs.List.Sorted.{IsNonDecreasingBy};
 ghost use Rattle.std.specs.Option.{option_copied, option_map};
 ghost use Rattle.slot_core.specs.declared.jobs.Job.{Job};
-ghost use Rattle.slot_core.specs.Offline.Keys.{is_soft, same_key};
+ghost use Rattle.slot_core.specs.Offline.Keys.{is_earlier, is_soft, same_key};
 ghost use Rattle.slot_core.specs.Runs.Choice.{earlier_of, earliest, ready};
 ghost use Rattle.slot_core.specs.Runs.Matches.{HaveSameItems};
 ghost use Rattle.slot_core.specs.Claims.Safety.{after_run};
-ghost use Rattle.job_queue.specs.Queues.{IsQueue, after_run_at, search_steps};
+ghost use Rattle.job_queue.specs.Queues.{IsEarliestLast, IsQueue, after_run_at, search_steps};
 
-use crate::order::{earlier_of, is_same_key};
+use crate::order::{earlier_of, is_earlier, is_same_key};
 use slot_core::{Job, Key, Memory, Steps};
 use std::alloc::Global;
 use std::collections::VecDeque;
@@ -21,29 +21,34 @@ use std::sync::ledger::Ledger;
 /// and with it how many jobs the queue has places for, at most 2^20. All times are in slots.
 ///
 /// The listed jobs stand in order of start. A job that starts no earlier than the last of them is
-/// listed behind it; each other job stands beside, in no order. Places for all jobs are reserved in
-/// both parts when the queue is made, so no later call takes memory.
+/// listed behind it; each other job stands beside, in no order. `come` takes jobs that may start
+/// out of both, and puts them in order of earliest deadline first. Places for all jobs are reserved
+/// in each part when the queue is made, so no later call takes memory.
 ///
 /// A step is a job that is looked at. A search for a key looks at the jobs beside first, then at
-/// the listed ones from the front, and stops at the job of that key.
+/// those that have come and at the listed ones from the front, and stops at the job of that key.
 #[derive(Drop)]
 pub struct JobQueue {
     beside: Vec<Job>,
+    come: Vec<Job>,
     listed: VecDeque<Job>,
     capacity: u32,
 }
 
 impl Model for JobQueue {
-    ghost use Rattle.std.specs.Prelude.{◌++◌, vec_capacity};
+    ghost use Rattle.std.specs.Prelude.{◌++◌, reverse, vec_capacity};
     ghost use Rattle.std.specs.VecDeque.{deque_capacity};
     ghost use Rattle.job_queue.specs.Queues.{KeepsQueue, QueueParts};
 
     ghost Value = { QueueParts };
 
-    ghost view = { λ q. record { jobs = q.beside.items ++ q.listed.items; capacity = q.capacity } };
+    ghost view = { λ q. record {
+      jobs = q.beside.items ++ reverse q.come.items ++ q.listed.items;
+      capacity = q.capacity;
+    } };
 
-    ghost invariant = { λ q. KeepsQueue q.beside.items q.listed.items q.capacity
-        (vec_capacity q.beside) (deque_capacity q.listed) };
+    ghost invariant = { λ q. KeepsQueue q.beside.items q.come.items q.listed.items q.capacity
+        (vec_capacity q.beside) (vec_capacity q.come) (deque_capacity q.listed) };
 }
 
 impl JobQueue {
@@ -55,6 +60,7 @@ impl JobQueue {
     {
         Ok(JobQueue {
             beside: Vec::with_capacity(alloc, n as usize)?,
+            come: Vec::with_capacity(alloc, n as usize)?,
             listed: VecDeque::with_capacity(alloc, n as usize)?,
             capacity: n,
         })
@@ -65,7 +71,7 @@ impl JobQueue {
         ensures count { result ≡ length self.now.jobs }
         ensures queue { IsQueue self.now }
     {
-        (self.beside.len() + self.listed.len()) as u32
+        (self.beside.len() + self.come.len() + self.listed.len()) as u32
     }
 
     /// How many jobs it has places for.
@@ -103,15 +109,67 @@ impl JobQueue {
         }
     }
 
+    /// Slot `now` has come: jobs that may start by then are put in order, so that `earliest` and
+    /// `ran` look at the earliest first. The jobs stay. One step a job looked at.
+    pub fn come<L: Ledger>(&mut self, now: u64, steps: &mut Steps<L>)
+        ensures jobs { HaveSameItems self.new.jobs self.old.jobs }
+        ensures capacity { self.new.capacity ≡ self.old.capacity }
+        ensures steps { steps.old ≤ steps.new }
+    {
+        for _ in 0..self.len() {
+            if !self.beside_comes(now, steps) && !self.listed_comes(now, steps) {
+                break;
+            }
+        }
+    }
+
+    /// The last job beside comes, where it may start by `now`.
+    fn beside_comes<L: Ledger>(&mut self, now: u64, steps: &mut Steps<L>) -> bool
+        ensures jobs { HaveSameItems self.new.jobs self.old.jobs }
+        ensures capacity { self.new.capacity ≡ self.old.capacity }
+        ensures steps { steps.old ≤ steps.new }
+    {
+        let Some(job) = self.beside.last().copied() else {
+            return false;
+        };
+        steps.tick();
+        if now < job.est {
+            return false;
+        }
+        self.beside.pop();
+        put_in_order(&mut self.come, job, steps);
+        true
+    }
+
+    /// The first listed job comes, where it may start by `now`.
+    fn listed_comes<L: Ledger>(&mut self, now: u64, steps: &mut Steps<L>) -> bool
+        ensures jobs { HaveSameItems self.new.jobs self.old.jobs }
+        ensures capacity { self.new.capacity ≡ self.old.capacity }
+        ensures steps { steps.old ≤ steps.new }
+    {
+        let Some(job) = self.listed.front().copied() else {
+            return false;
+        };
+        steps.tick();
+        if now < job.est {
+            return false;
+        }
+        self.listed.pop_front();
+        put_in_order(&mut self.come, job, steps);
+        true
+    }
+
     /// The job that earliest deadline first runs in slot `now`. None exactly where no job may start
-    /// by then. One step a job looked at: those beside, and the listed ones up to the first that
-    /// starts later.
+    /// by then. One step a job looked at: those beside, those that have come up to the first that
+    /// may start, and the listed ones up to the first that starts later. Where `come` has put all
+    /// in order that may start, these are two at most.
     pub fn earliest<L: Ledger>(&self, now: u64, steps: &mut Steps<L>) -> Option<Job>
         ensures job { result ≡ earliest (ready now self.now.jobs) }
-        ensures steps { steps.old + length (ready now self.now.jobs) ≤ steps.new }
+        ensures steps { steps.old ≤ steps.new }
         ensures few_steps { steps.new ≤ steps.old + length self.now.jobs }
     {
         let best = earliest_of(&self.beside, now, steps);
+        let best = earliest_come(best, &self.come, now, steps);
         earliest_listed(best, &self.listed, now, steps).copied()
     }
 
@@ -126,7 +184,8 @@ impl JobQueue {
     }
 
     /// The job of this key, where it may start by `now`. None exactly where no such job has it. One
-    /// step a job looked at: those beside, and the listed ones up to the first that starts later.
+    /// step a job looked at: those beside, those that have come, and the listed ones up to the
+    /// first that starts later.
     pub fn find_ready<L: Ledger>(&self, now: u64, key: Key, steps: &mut Steps<L>) -> Option<Job>
         ensures job { result ≡ find (λ j. same_key j.key key) (ready now self.now.jobs) }
         ensures steps { steps.old + search_steps key (ready now self.now.jobs) ≤ steps.new }
@@ -170,8 +229,8 @@ impl JobQueue {
     }
 
     /// Removes the job of this key, where it may start by `now`, and returns it. None exactly where
-    /// no such job has it. One step a job looked at: those beside, and the listed ones up to the
-    /// first that starts later.
+    /// no such job has it. One step a job looked at: those beside, those that have come, and the
+    /// listed ones up to the first that starts later.
     pub fn take_ready<L: Ledger>(&mut self, now: u64, key: Key, steps: &mut Steps<L>) -> Option<Job>
         ensures job { result ≡ find (λ j. same_key j.key key) (ready now self.old.jobs) }
         ensures jobs { (job : Job) → result ≡ Some job → HaveSameItems self.new.jobs
@@ -202,7 +261,7 @@ impl JobQueue {
                 if is_same_key(job.key, key) {
                     return Some(place);
                 }
-            } else if self.beside.len() <= place {
+            } else if self.beside.len() + self.come.len() <= place {
                 break;
             }
         }
@@ -224,16 +283,20 @@ impl JobQueue {
         None
     }
 
-    /// The job at this place: those beside come first.
+    /// The job at this place: those beside stand first, then those that have come.
     fn job(&self, place: usize) -> &Job
         requires { place < length self.now.jobs }
         ensures { result.now ≡ slice_index_or self.now.jobs place result.now }
     {
         let beside = self.beside.len();
         if place < beside {
-            &self.beside[place]
+            return &self.beside[place];
+        }
+        let come = self.come.len();
+        if place - beside < come {
+            from_end(&self.come, place - beside)
         } else {
-            &self.listed[place - beside]
+            &self.listed[place - beside - come]
         }
     }
 
@@ -247,8 +310,13 @@ impl JobQueue {
         let beside = self.beside.len();
         if place < beside {
             self.beside[place].left -= 1;
+            return;
+        }
+        let come = self.come.len();
+        if place - beside < come {
+            self.come[come - 1 - (place - beside)].left -= 1;
         } else {
-            self.listed[place - beside].left -= 1;
+            self.listed[place - beside - come].left -= 1;
         }
     }
 
@@ -261,9 +329,13 @@ impl JobQueue {
     {
         let beside = self.beside.len();
         if place < beside {
-            Some(self.beside.swap_remove(place))
+            return Some(self.beside.swap_remove(place));
+        }
+        let come = self.come.len();
+        if place - beside < come {
+            Some(self.come.remove(come - 1 - (place - beside)))
         } else {
-            self.listed.remove(place - beside)
+            self.listed.remove(place - beside - come)
         }
     }
 }
@@ -292,6 +364,73 @@ fn earliest_of<'a, L: Ledger>(jobs: &'a [Job], now: u64, steps: &mut Steps<L>) -
     best
 }
 
+/// Puts the job among these, of which the one that earliest deadline first takes first stands last.
+/// One step a job looked at.
+fn put_in_order<L: Ledger>(come: &mut Vec<Job>, job: Job, steps: &mut Steps<L>)
+    requires order { IsEarliestLast come.old.items }
+    requires place { length come.old.items < vec_capacity come.old }
+    ensures jobs { HaveSameItems come.new.items (come.old.items ++ job ∷ []) }
+    ensures order { IsEarliestLast come.new.items }
+    ensures places { vec_capacity come.old ≤ vec_capacity come.new }
+    ensures steps { steps.old ≤ steps.new }
+{
+    let place = place_in_order(come, &job, steps);
+    // There is a place for it.
+    let _ = come.insert(place, job);
+}
+
+/// The place of the job among these: it goes before the one that stands there then, and not before
+/// the next. One step a job looked at.
+fn place_in_order<L: Ledger>(come: &[Job], job: &Job, steps: &mut Steps<L>) -> usize
+    ensures within { result ≤ length come.now }
+    ensures behind { (i : ℕ) (d : Job) → result ≤ i → i < length come.now
+        → is_earlier (slice_index_or come.now i d) job.now ≡ true }
+    ensures before { (d : Job) → 1 ≤ result
+        → is_earlier (slice_index_or come.now (result - 1) d) job.now ≡ false }
+    ensures steps { steps.old ≤ steps.new }
+{
+    for behind in 0..come.len() {
+        let place = come.len() - behind;
+        steps.tick();
+        if !is_earlier(&come[place - 1], job) {
+            return place;
+        }
+    }
+    0
+}
+
+/// The one of this job and these, of which the one that earliest deadline first takes first stands
+/// last, that it runs in slot `now`. One step a job, from the last up to one that may start.
+fn earliest_come<'a, L: Ledger>(
+    best: Option<&'a Job>,
+    come: &'a [Job],
+    now: u64,
+    steps: &mut Steps<L>,
+) -> Option<&'a Job>
+    requires { IsEarliestLast come.now }
+    ensures job { option_copied result
+        ≡ fold earlier_of (option_copied best.entry) (ready now (reverse come.now)) }
+    ensures steps { steps.old ≤ steps.new }
+    ensures few_steps { steps.new ≤ steps.old + length come.now }
+{
+    for behind in 0..come.len() {
+        let job = from_end(come, behind);
+        steps.tick();
+        if job.est <= now {
+            return earlier_of(best, job);
+        }
+    }
+    best
+}
+
+/// The job with so many behind it.
+fn from_end(jobs: &[Job], behind: usize) -> &Job
+    requires { behind < length jobs.now }
+    ensures { result.now ≡ slice_index_or (reverse jobs.now) behind result.now }
+{
+    &jobs[jobs.len() - 1 - behind]
+}
+
 /// The one of this job and these, which stand in order of start, that earliest deadline first runs
 /// in slot `now`. One step a job, up to the first that starts later.
 fn earliest_listed<'a, L: Ledger>(
@@ -303,7 +442,7 @@ fn earliest_listed<'a, L: Ledger>(
     requires { IsNonDecreasingBy (λ j. j.est) listed.now.items }
     ensures job { option_copied result
         ≡ fold earlier_of (option_copied best.entry) (ready now listed.now.items) }
-    ensures steps { steps.old + length (ready now listed.now.items) ≤ steps.new }
+    ensures steps { steps.old ≤ steps.new }
     ensures few_steps { steps.new ≤ steps.old + length listed.now.items }
 {
     let mut best = best;

@@ -2,14 +2,12 @@
 use Rattle.std.proofs.Common.{◌≡◌, ℕ, ◌+◌, ◌<◌, ◌≤◌, ◌^◌, true, false, not, ◌&&◌, ◌||◌, ◌==◌, nat_le, nat_lt, List, [], ◌∷◌, length, get_or, Result, Some, None, Ok, Err, refl, sym, inl, inr, arith, rules}
 use Rattle.std.specs.Char.{is_ascii_digit}
 use Rattle.std.specs.List.{list_all}
-use Rattle.std.specs.Result.{OkIff, result_ok}
-use Rattle.std.specs.Prelude.{decimal, IsUtf8}
-use Rattle.std.specs.Str.Parse.{digits_value, ParsesUnsigned}
+use Rattle.std.specs.Prelude.{decimal}
+use Rattle.std.specs.Str.Parse.{digits_value}
 use Rattle.std.proofs.lemmas.Bool.{and_parts, and_from, cases_Bool, cases_lt, le-leb}
 use Rattle.std.proofs.lemmas.Bool.Decides.{nat_tests}
-use Rattle.std.proofs.lemmas.Fmt.{IsAscii-from_digits, decimal-digits_value, digits_decimal, digits_value-decimal, decimal_digit, decimal_nonempty, first_decimal, length-decimal-le}
-use Rattle.std.proofs.lemmas.Str.{IsUtf8-from_ascii}
-use Rattle.std.proofs.lemmas.Str.Parse.{IsNumeralModel, numerals_by_value, parse_digits}
+use Rattle.std.proofs.lemmas.Fmt.{decimal-digits_value, digits_decimal, digits_value-decimal, decimal_digit, decimal_nonempty, first_decimal, length-decimal-le}
+use Rattle.std.proofs.lemmas.Str.Parse.{IsNumeralModel, numerals_by_value}
 use Rattle.slot_core.specs.declared.TheConstants.{NUMBER_LIMIT}
 use Rattle.slot_core.specs.Sets.Ranges.{is_between}
 use Rattle.key_texts.specs.declared.TheConstants.{DIGIT_LIMIT}
@@ -47,29 +45,6 @@ is_number-from_parts (first ∷ rest) parts =
     let short : nat_lt (length rest) DIGIT_LIMIT ≡ true = grind (arith, nat_tests, parts.few) in
     let plain : (length rest == 0 || not (first == 48)) ≡ true = grind (arith, nat_tests, parts.plain) in
     rw (short, plain, parts.all) refl
-
--- a number is text
-pub is_number-IsUtf8 : (text : List ℕ) → is_number text ≡ true → IsUtf8 text
-is_number-IsUtf8 text number =
-    IsUtf8-from_ascii text (IsAscii-from_digits text (digits.to text (NumberParts-from_test text number).all))
-
--- a value of 32 bits is within the limit
-within-number : (n : ℕ) → n < 2 ^ 32 → within 0 NUMBER_LIMIT n ≡ Some n
-within-number n small = let low : is_between 0 NUMBER_LIMIT n ≡ true = grind (arith, nat_tests) in rw low refl
-
--- a value of more bits is not
-without-number : (n : ℕ) → ¬ (n < 2 ^ 32) → within 0 NUMBER_LIMIT n ≡ None
-without-number n large = let high : is_between 0 NUMBER_LIMIT n ≡ false = grind (arith, nat_tests) in rw high refl
-
--- what `parse` gives of a number
-pub parse-is_number : {E : Type 0} (bs : List ℕ) (r : Result ℕ E) → is_number bs ≡ true → ParsesUnsigned 32 10 bs r → result_ok r ≡ within 0 NUMBER_LIMIT (digits_value 10 bs)
-parse-is_number bs r number parsed =
-    let parts = NumberParts-from_test bs number in
-    by_result r (parse_digits digits 32 bs r parsed parts.all) parts.some
-  where
-    by_result : {E : Type 0} (r : Result ℕ E) → OkIff r ((0 < length bs) × (digits_value 10 bs < 2 ^ 32)) (digits_value 10 bs) → 0 < length bs → result_ok r ≡ within 0 NUMBER_LIMIT (digits_value 10 bs)
-    by_result (Ok x) ((_, small), same) some = rw (same, within-number (digits_value 10 bs) small) refl
-    by_result (Err e) large some = rw (without-number (digits_value 10 bs) (λ small. large (some, small))) refl
 
 -- what a number within bounds says
 pub within-Some : (low high v n : ℕ) → within low high v ≡ Some n → (is_between low high v ≡ true) × (v ≡ n)

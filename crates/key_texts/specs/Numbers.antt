@@ -7,13 +7,15 @@ use Rattle.slot_core.specs.declared.TheConstants.{ARRIVAL_LIMIT, NUMBER_LIMIT}
 use Rattle.slot_core.specs.Sets.Ranges.{is_between}
 use Rattle.key_texts.specs.declared.TheConstants.{DIGIT_LIMIT}
 
--- from one digit to the limit of digits; 0 (byte 48) stands first only where it stands alone
+-- from one byte to the limit of digits; 0 (byte 48) stands first only where it stands alone
+abbrev pub is_plain : List ℕ → Bool
+is_plain [] = false
+is_plain (first ∷ rest) =
+    nat_lt (length rest) DIGIT_LIMIT && (length rest == 0 || not (first == 48))
+
+-- a plain text of digits alone
 abbrev pub is_number : List ℕ → Bool
-is_number [] = false
-is_number (first ∷ rest) =
-    nat_lt (length rest) DIGIT_LIMIT
-    && (length rest == 0 || not (first == 48))
-    && list_all is_ascii_digit (first ∷ rest)
+is_number text = is_plain text && list_all is_ascii_digit text
 
 -- the number, where it is from low to high
 abbrev pub within : ℕ → ℕ → ℕ → Option ℕ

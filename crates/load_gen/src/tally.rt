@@ -1,14 +1,22 @@
 //! The tally of the entries of a trace.
 
-ghost use Rattle.std.specs.Prelude.{◌≡◌, ℕ, ◌≤◌, ◌<◌, ◌+◌, ◌^◌, ◌++◌, List, length};
+ghost use Rattle.std.specs.Prelude.{◌≡◌, ℕ, ◌≤◌, ◌<◌, ◌+◌, ◌*◌, ◌^◌, ◌++◌, List, length};
 ghost use Rattle.slot_core.specs.declared.events.Entry.{Entry};
 ghost use Rattle.slot_core.specs.declared.events.What.TheVariants.{Firm as FirmEntry, Run, Soft as SoftEntry, Sporadic as SporadicEntry};
 ghost use Rattle.slot_core.specs.Output.Charts.{Kind, number_of, tally_line, tally_text};
 ghost use Rattle.slot_core.specs.Output.Texts.{worded};
+ghost use Rattle.trace_text.specs.declared.TheConstants.{LINE_LIMIT};
+ghost use Rattle.load_gen.specs.declared.tally.TheConstants.{COUNT_LIMIT, WORD_LIMIT};
 ghost use Rattle.load_gen.specs.Tallies.{count_of, grown, with_entry};
 
 use slot_core::{Entry, Failed, Firm, Key, Soft, Spo, Taker, TaskSet, What};
-use trace_text::Line;
+use trace_text::{DECIMAL_LIMIT, Line};
+
+/// Most bytes of a word of a tally's line, the space before it among them.
+const WORD_LIMIT: usize = 9;
+
+/// Most bytes of a word, a space and a number.
+const COUNT_LIMIT: usize = WORD_LIMIT + 1 + DECIMAL_LIMIT;
 
 /// How many entries of each kind there were: arrivals by their answers, runs by their keys, and
 /// idle slots. Each count stays at the last value of a `u64` once it is there.
@@ -179,10 +187,10 @@ fn one_more(count: u64) -> u64
 
 /// Appends the word, a space and the number.
 fn push_number(line: &mut Line, word: &[u8], n: u64)
-    requires word { length word.now ≤ 9 }
-    requires room { length line.old + 30 ≤ 1024 }
+    requires word { length word.now ≤ WORD_LIMIT }
+    requires room { length line.old + COUNT_LIMIT ≤ LINE_LIMIT }
     ensures text { line.new ≡ line.old ++ worded word.now n }
-    ensures short { length line.new ≤ length line.old + 30 }
+    ensures short { length line.new ≤ length line.old + COUNT_LIMIT }
 {
     line.push(word);
     line.push(b" ");
@@ -191,10 +199,10 @@ fn push_number(line: &mut Line, word: &[u8], n: u64)
 
 /// Appends the word, and a space before each of the numbers.
 fn push_pair(line: &mut Line, word: &[u8], first: u64, second: u64)
-    requires word { length word.now ≤ 9 }
-    requires room { length line.old + 60 ≤ 1024 }
+    requires word { length word.now ≤ WORD_LIMIT }
+    requires room { length line.old + 2 * COUNT_LIMIT ≤ LINE_LIMIT }
     ensures text { line.new ≡ line.old ++ worded (worded word.now first) second }
-    ensures short { length line.new ≤ length line.old + 60 }
+    ensures short { length line.new ≤ length line.old + 2 * COUNT_LIMIT }
 {
     push_number(line, word, first);
     push_number(line, b"", second);

@@ -1,5 +1,5 @@
 -- The tasks of a set in their order, and a list of their margins.
-use Rattle.std.proofs.Common.{◌≡◌, ℕ, zero, suc, ◌+◌, ◌<◌, List, [], ◌∷◌, ◌++◌, length, map, take, get_or, Some, refl, sym, subst, ap, ◌∙◌, inl, inr, arith}
+use Rattle.std.proofs.Common.{◌≡◌, ℕ, ◌+◌, ◌<◌, List, [], ◌∷◌, ◌++◌, length, map, take, get_or, Some, refl, sym, subst, ap, ◌∙◌, inl, inr, arith}
 use Rattle.std.specs.Prelude.{All, Contains, slice_get, flat_map}
 use Rattle.std.specs.List.{enumerate_from}
 use Rattle.std.proofs.lemmas.List.{get_or-map, length-map, map-append, take_more}
@@ -16,12 +16,7 @@ use Rattle.margin_find.specs.declared.margin.Margin.{Margin}
 use Rattle.margin_find.specs.declared.margin.TaskMargin.{TaskMargin}
 use Rattle.margin_find.specs.Parts.{IsTaskOf}
 use Rattle.margin_find.specs.Texts.{AreMargins, graph_parts, parts_of}
-
--- an item that is there stands within the list
-within-slice_get : {X : Type 0} (xs : List X) (k : ℕ) (x : X) → slice_get xs k ≡ Some x → k < length xs
-within-slice_get [] k x at = absurd (cc at)
-within-slice_get (y ∷ ys) zero x at = omega arith
-within-slice_get (y ∷ ys) (suc k) x at = omega (arith, within-slice_get ys k x at)
+use Rattle.std.proofs.lemmas.Option.{slice_get_within}
 
 -- the tasks in order are tasks of the set
 task-part : (set : TaskSet) (p : Part) → Has (flat_map graph_parts (enumerate_from 0 set.graphs)) p → IsTaskOf set p
@@ -33,14 +28,14 @@ task-part set p h =
     let place : k ≡ g = omega arith in
     let here : slice_get set.graphs g ≡ Some graph = subst (λ n. slice_get set.graphs n ≡ Some graph) place at in
     let tasks : tasks_of set g ≡ graph.tasks = rw here refl in
-    let within : t < length (tasks_of set g) = omega (arith, within-slice_get graph.tasks m task at_task, ap length tasks) in
+    let within : t < length (tasks_of set g) = omega (arith, slice_get_within graph.tasks m task at_task, ap length tasks) in
     subst (IsTaskOf set) is within
 
 sporadic-part : (set : TaskSet) (p : Part) → Has (map (λ (s : ℕ × Sporadic). SporadicPart s.0) (enumerate_from 0 set.sporadics)) p → IsTaskOf set p
 sporadic-part set p h =
     let ((i, s), listed, is) = Has-map_cases (λ (s : ℕ × Sporadic). SporadicPart s.0) (enumerate_from 0 set.sporadics) p h in
     let (k, same, at) = Has-enumerate_from_at 0 set.sporadics i s listed in
-    let within : i < length set.sporadics = omega (arith, within-slice_get set.sporadics k s at) in
+    let within : i < length set.sporadics = omega (arith, slice_get_within set.sporadics k s at) in
     subst (IsTaskOf set) is within
 
 part-of : (set : TaskSet) (p : Part) → Has (parts_of set) p → IsTaskOf set p

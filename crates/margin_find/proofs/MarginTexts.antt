@@ -1,7 +1,6 @@
 -- The margins that were found write the text of their set.
 use Rattle.std.proofs.Common.{◌≡◌, ℕ, zero, suc, ◌+◌, ◌-◌, ◌*◌, ◌≤◌, ◌<◌, true, List, [], ◌∷◌, ◌++◌, map, Option, None, Some, refl, sym, subst, ap, ◌∙◌, arith}
 use Rattle.std.specs.Prelude.{All, flat_map, option_map}
-use Rattle.std.specs.List.{range_with_len}
 use Rattle.std.specs.Option.{option_map_or}
 use Rattle.std.proofs.Math.Nat.{mul-le-mul}
 use Rattle.std.proofs.lemmas.List.Elements.{All-head, All-tail}
@@ -9,7 +8,7 @@ use Rattle.slot_core.specs.declared.faults.Part.{Part}
 use Rattle.slot_core.specs.declared.jobs.Window.{Window}
 use Rattle.slot_core.specs.declared.tasks.TaskSet.{TaskSet}
 use Rattle.slot_core.specs.Claims.Growth.{IsMargin, StillFits, grown}
-use Rattle.slot_core.specs.Feasibility.Feasible.{IsFeasible, counterexample, demand, first_some}
+use Rattle.slot_core.specs.Feasibility.Feasible.{IsFeasible, counterexample, demand}
 use Rattle.slot_core.specs.Sets.Cycles.{cycle_of}
 use Rattle.slot_core.specs.Sets.Ranges.{is_sound}
 use Rattle.slot_facts.proofs.Demand.Feasible.{IsFeasible-from_none, none-from_feasible}
@@ -20,7 +19,6 @@ use Rattle.margin_find.specs.Parts.{IsTaskOf, jobs_in_cycle}
 use Rattle.margin_find.specs.Texts.{AreMargins, margin_line, margin_lines, margin_of, margin_text, parts_of}
 use Rattle.margin_find.specs.Laws.{EachTaskHasItsMargin}
 use Rattle.margin_find.proofs.Growths.{IsMargin-from_search, cycle_stays, fits_itself}
-use Rattle.margin_find.proofs.MarginLists.{parts-of}
 use Rattle.margin_find.proofs.WholeCycle.{jobs_in_cycle-positive, whole-grows}
 
 module _ (set : TaskSet) (sound : is_sound set ≡ true) where

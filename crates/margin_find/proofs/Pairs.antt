@@ -1,6 +1,6 @@
 -- Two lists whose items are related place by place.
 use Rattle.std.proofs.Common.{◌≡◌, ℕ, zero, suc, ◌+◌, ◌≤◌, List, [], ◌∷◌, ◌++◌, length, map, Some, refl, sym, ap, arith}
-use Rattle.std.specs.Prelude.{sum_by, flat_map, slice_get, slice_set, All, ⊤}
+use Rattle.std.specs.Prelude.{sum_by, flat_map, slice_get, slice_set, All}
 use Rattle.std.specs.List.{enumerate_from}
 use Rattle.std.specs.Option.{option_map_or}
 use Rattle.std.proofs.lemmas.List.Elements.{All-nil, All-cons, All-head, All-tail}

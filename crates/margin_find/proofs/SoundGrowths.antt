@@ -21,7 +21,7 @@ use Rattle.slot_core.specs.Offline.Precedence.{after_of, leads_to, is_on_loop}
 use Rattle.slot_core.specs.Claims.Growth.{changed_at, longer_task, with_longer_task, longer_sporadic, grown}
 use Rattle.slot_facts.proofs.Lists.Tests.{find-same, list_any-same}
 use Rattle.slot_facts.proofs.Sets.Ranges.{bounds}
-use Rattle.margin_find.specs.Laws.{Pairwise, WindowsOnlyShrink}
+use Rattle.margin_find.specs.Laws.{Pairwise}
 use Rattle.margin_find.specs.Parts.{wcet_at}
 use Rattle.margin_find.proofs.Growths.{set-pairs}
 use Rattle.margin_find.proofs.LongerChains.{IsNoLonger, after_of-same}

@@ -6,6 +6,7 @@ ghost use Rattle.slot_core.specs.Calls.Counts.{Rose};
 ghost use Rattle.slot_core.specs.Output.Texts.{worded};
 ghost use Rattle.slot_core.specs.Sets.Ranges.{is_sound};
 ghost use Rattle.slot_io.specs.Sinks.{AppendsPart};
+ghost use Rattle.trace_text.specs.declared.TheConstants.{DECIMAL_LIMIT, LINE_LIMIT};
 ghost use Rattle.gantt_print.specs.Rows.{row_of};
 ghost use Rattle.margin_find.specs.declared.margin.TaskMargin.{TaskMargin};
 ghost use Rattle.margin_find.specs.Parts.{IsTaskOf};
@@ -30,9 +31,9 @@ fn row_at(at: Part) -> Row
 
 /// Appends a space and the number.
 fn push_number(line: &mut Line, n: u64)
-    requires { length line.old + 21 ≤ 1024 }
+    requires { length line.old + 1 + DECIMAL_LIMIT ≤ LINE_LIMIT }
     ensures text { line.new ≡ worded line.old n }
-    ensures short { length line.new ≤ length line.old + 21 }
+    ensures short { length line.new ≤ length line.old + 1 + DECIMAL_LIMIT }
 {
     line.push(b" ");
     line.number(n);

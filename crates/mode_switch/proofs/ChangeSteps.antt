@@ -36,9 +36,10 @@ use Rattle.mode_switch.specs.Runs.{IsServedAfter, after_change, ran_in, turn_at,
 use Rattle.mode_switch.specs.declared.turns.Turn.{Turn}
 use Rattle.mode_switch.proofs.ChangeFacts.{front-apart, front-left, own-some, served, sides, turn-is, turn-own, turn-queue}
 use Rattle.mode_switch.proofs.CarriedLeft.{with_run-none}
-use Rattle.mode_switch.proofs.ChangeTurns.{AreSides, Has-same, carried-ran, own-ran, own_after-same}
+use Rattle.mode_switch.proofs.ChangeTurns.{AreSides, carried-ran, own-ran, own_after-same}
 use Rattle.mode_switch.proofs.GrantJobs.{IsSince, IsSince-from_carried}
 use Rattle.mode_switch.proofs.ServedRuns.{executed-ran, none_freed, ran-from_test, time_of-after_change}
+use Rattle.scene_steps.proofs.Same.SameSearches.{Has-same}
 
 -- where each job has ended, none is left
 ended-cons : (h : History) (job : Job) (jobs : List Job) → has_ended h job ≡ true → unended h jobs ≡ [] → unended h (job ∷ jobs) ≡ []

@@ -20,10 +20,7 @@ use Rattle.mode_switch.specs.Keeping.{MayRun, carried_after, carried_left, front
 use Rattle.mode_switch.specs.Runs.{ran_in, turn_between}
 use Rattle.mode_switch.specs.declared.turns.Turn.{Turn}
 use Rattle.mode_switch.specs.declared.turns.Turn.TheVariants.{Idle, Old, New}
-
--- the member of a list with the same items
-pub Has-same : (xs ys : List Job) (job : Job) → HaveSameItems xs ys → Has xs job → Has ys job
-Has-same xs ys job same at = Has-permuted xs ys job ((jobs-same_items xs ys).0 same) at
+use Rattle.scene_steps.proofs.Same.SameSearches.{Has-same}
 
 -- of jobs of distinct keys the earliest is the same, however they are listed
 pub earliest-any_order : (xs ys : List Job) → HaveSameItems xs ys → IsApart (λ (j : Job). j.key) ys → earliest xs ≡ earliest ys

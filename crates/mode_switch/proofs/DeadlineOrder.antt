@@ -13,6 +13,7 @@ use Rattle.slot_facts.proofs.Lists.Members.{Has}
 use Rattle.slot_facts.proofs.Plans.InOrder.{is_earlier-one_way}
 use Rattle.mode_switch.specs.Carried.{since}
 use Rattle.mode_switch.specs.Keeping.{carried_left, with_run}
+use Rattle.interval_build.proofs.Due.{AreInDeadlineOrder-drop}
 
 -- numbers that are lowered by one that they all reach compare as before
 nat_cmp-lowered : (a b c : ℕ) → c ≤ a → c ≤ b → nat_cmp (a - c) (b - c) ≡ nat_cmp a b
@@ -37,12 +38,7 @@ AreInDeadlineOrder-since c (job ∷ jobs) all ordered = (
   AreInDeadlineOrder-since c jobs (λ j at. all j (inr at)) ordered.1,
 )
 
--- without the first ones, and where the first has run, jobs keep their order
-AreInDeadlineOrder-drop : (n : ℕ) (jobs : List Job) → AreInDeadlineOrder jobs → AreInDeadlineOrder (drop n jobs)
-AreInDeadlineOrder-drop zero jobs ordered = ordered
-AreInDeadlineOrder-drop (suc n) [] ordered = ordered
-AreInDeadlineOrder-drop (suc n) (job ∷ jobs) ordered = AreInDeadlineOrder-drop n jobs ordered.1
-
+-- where the first has run, jobs keep their order
 AreInDeadlineOrder-with_run : (ran : ℕ) (jobs : List Job) → AreInDeadlineOrder jobs → AreInDeadlineOrder (with_run ran jobs)
 AreInDeadlineOrder-with_run ran [] ordered = ordered
 AreInDeadlineOrder-with_run ran (job ∷ jobs) ordered = ordered

@@ -12,7 +12,7 @@ use Rattle.slot_core.specs.Claims.Futures.{pattern_jobs}
 use Rattle.slot_facts.proofs.Lists.Members.{Has-range_with_len, Has-range_with_len_bounds}
 use Rattle.slot_facts.proofs.Lists.Tests.{find-Some, None-from_fails}
 use Rattle.slot_facts.proofs.Lists.RangeSearch.{least-from_find}
-use Rattle.slot_facts.proofs.Sets.Faults.{find-None}
+use Rattle.slot_facts.proofs.Sets.Faults.{find-None, option_map-None}
 use Rattle.slot_facts.proofs.Scheduling.Extras.{AreExtra-pattern, separated-from_sound}
 use Rattle.slot_facts.proofs.Scheduling.Beside.{closed_beside}
 use Rattle.slot_facts.proofs.Patterns.Densest.{the_densest_pattern_needs_all}
@@ -29,10 +29,6 @@ evidence until need room = record { until = until; need = need; room = room }
 from_mapped : {X Y : Type 0} (f : X → Y) (o : Option X) (y : Y) → option_map f o ≡ Some y → (x : X) × (o ≡ Some x) × (f x ≡ y)
 from_mapped f None y given = absurd (cc given)
 from_mapped f (Some x) y given = (x, refl, cc given)
-
-none_from_mapped : {X Y : Type 0} (f : X → Y) (o : Option X) → option_map f o ≡ None → o ≡ None
-none_from_mapped f None given = refl
-none_from_mapped f (Some x) given = absurd (cc given)
 
 -- the least number of a range that passes is what a search finds
 found-least : (p : ℕ → Bool) (a n k : ℕ) → a ≤ k → k < a + n → p k ≡ true → ((m : ℕ) → a ≤ m → m < k → p m ≡ false) → (o : Option ℕ) → find p (range_with_len a n) ≡ o → o ≡ Some k
@@ -107,7 +103,7 @@ refusals_are_exact set c row carried sound feasible own =
     let cycles = cycles_of_change (cycle_of set) c carried in
     let exact = changes_are_exact set c row cycles carried sound feasible own in (
       (
-        λ none. exact.1 (fits-from_none set c carried (none_from_mapped (shortage_at set c carried cycles) (first_short set c carried cycles) none)),
+        λ none. exact.1 (fits-from_none set c carried (option_map-None (shortage_at set c carried cycles) (first_short set c carried cycles) none)),
         λ can. ap (λ o. option_map (shortage_at set c carried cycles) o) (none-from_fits set c carried (exact.0 can)),
       ),
       λ e. (shows-from_refusal set c carried e, refusal-from_shows set c carried e),

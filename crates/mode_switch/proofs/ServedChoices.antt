@@ -11,6 +11,7 @@ use Rattle.slot_facts.proofs.Choice.Earliest.{IsEarliest-from_earliest, least_du
 use Rattle.slot_facts.proofs.Choice.SameEarliest.{earliest_of}
 use Rattle.mode_switch.specs.declared.turns.Turn.TheVariants.{Old, New}
 use Rattle.mode_switch.specs.Runs.{turn_between, ran_in}
+use Rattle.slot_facts.proofs.Demand.OneSlot.{none_is_ready}
 
 -- the job may start by t, and is due no later than any other that may
 pub record IsFirst (jobs : List Job) (t : ℕ) (job : Job) : Type 0 where
@@ -29,14 +30,6 @@ IsFirst-from_earliest t jobs job e =
       started = leb-true job.est t own.1;
       first = λ other at early. least_due (ready t jobs) job other most (Has-filter come jobs other at (le-leb other.est t early));
     }
-
--- where there is none, each starts later
-later-from_none : (t : ℕ) (jobs : List Job) (job : Job) → earliest (ready t jobs) ≡ None → Has jobs job → t < job.est
-later-from_none t jobs job none at =
-    elim (cases_lt t job.est) [
-      | inl late ↦ late
-      | inr early ↦ absurd (earliest_of (ready t jobs) job (Has-filter (λ (j : Job). nat_le j.est t) jobs job at (le-leb job.est t early)) none)
-    ]
 
 -- it is the first of two lists where it is due no later than those of the other that are ready
 IsFirst-append_left : (t : ℕ) (xs ys : List Job) (job : Job) → IsFirst xs t job → ((other : Job) → Has ys other → other.est ≤ t → job.dl ≤ other.dl) → IsFirst (xs ++ ys) t job
@@ -78,11 +71,11 @@ pub turn-runs_first : (t : ℕ) (xs ys : List Job) → RunsFirst (xs ++ ys) t (r
 turn-runs_first t xs ys = go (earliest (ready t xs)) (earliest (ready t ys)) refl refl
   where
     none : (jobs : List Job) → earliest (ready t jobs) ≡ None → (bound : ℕ) (job : Job) → Has jobs job → job.est ≤ t → bound ≤ job.dl
-    none jobs e bound job at early = absurd (omega (arith, later-from_none t jobs job e at))
+    none jobs e bound job at early = absurd (omega (arith, none_is_ready t jobs job e at))
 
     go : (a b : Option Job) → earliest (ready t xs) ≡ a → earliest (ready t ys) ≡ b → RunsFirst (xs ++ ys) t (ran_in (turn_between a b))
     go None None e f =
-        inl (refl, λ job at. elim (Has-append_cases xs ys job at) [ inl x ↦ later-from_none t xs job e x | inr y ↦ later-from_none t ys job f y ])
+        inl (refl, λ job at. elim (Has-append_cases xs ys job at) [ inl x ↦ none_is_ready t xs job e x | inr y ↦ none_is_ready t ys job f y ])
     go (Some a) None e f =
         inr (a, IsFirst-append_left t xs ys a (IsFirst-from_earliest t xs a e) (none ys f a.dl), refl)
     go None (Some b) e f =

@@ -60,11 +60,6 @@ lines-part before now after first n k change bytes low so_far told put =
     let line = line_at first second change.at change.carried in
     AppendsPart-more before now after (turn_lines first second change.at change.carried k) (line k) (flat_map line (range_with_len (k + 1) (n - (k + 1)))) (turn_lines first second change.at change.carried n) (turn_lines-split first second change.at n k change.carried low) so_far (subst (AppendsPart now after) told put)
 
--- what holds anyhow holds after an error
-pub OnErr-always : {T E P : Type 0} (r : Result T E) → P → OnErr r P
-OnErr-always (Ok x) p = tt
-OnErr-always (Err e) p = p
-
 -- and one slot more has passed
 pub passed-once : (initial before after : ChangeParts) (n : ℕ) → before ≡ record initial { passed = n } → after ≡ record before { passed = before.passed + 1 } → after ≡ record initial { passed = n + 1 }
 passed-once initial before after n so_far passes =

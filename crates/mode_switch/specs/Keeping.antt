@@ -54,7 +54,8 @@ carried_left c carried ended ran = with_run ran (drop ended (map (since c) carri
 -- the first of these jobs has run a slot; it goes where that was its last one
 abbrev pub front_run : List Job → List Job
 front_run [] = []
-front_run (job ∷ jobs) = if nat_lt 1 job.left then record job { left = job.left - 1 } ∷ jobs else jobs
+front_run (job ∷ jobs) =
+    if nat_lt 1 job.left then record job { left = job.left - 1 } ∷ jobs else jobs
 
 -- the carried jobs that remain after a turn: where one of them ran, it was the first
 abbrev pub carried_after : Turn → List Job → List Job

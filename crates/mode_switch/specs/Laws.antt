@@ -117,7 +117,7 @@ ChangesAtAreExact =
     × (CanChangeAt set c carried (row + 1) cycles ↔ FitsAt set c carried cycles)
     × ((x : ℕ) → due_at set c carried cycles (c + x) ≡ due_after set c carried cycles x)
 
--- after a change that can be served, at every time, each carried job that is due has run exactly its
+-- after a change that can be served, at every time each carried job that is due has run exactly its
 -- slots left and each job of the second set its slots, all inside their windows and in order
 abbrev pub ChangesAreServed : Type 0
 ChangesAreServed =

@@ -12,6 +12,7 @@ ghost use Rattle.mode_switch.specs.Carried.{cycles_of_change};
 use cycle_plan::Plan;
 use job_queue::JobQueue;
 use slot_core::{Job, Memory, Steps};
+use slot_exec::insert_cycle;
 use std::alloc::Global;
 use std::marker::Brand;
 use std::sync::ledger::{Blank, Ledger};
@@ -65,21 +66,8 @@ fn insert_first<L: Ledger>(alloc: Global, plan: &Plan, blank: Blank) -> Result<J
     Ok(queue)
 }
 
-/// The plan's jobs of this cycle come in, in the order in which they start.
-fn insert_cycle<L: Ledger>(queue: &mut JobQueue, plan: &Plan, n: u64, steps: &mut Steps<L>)
-    requires few { n ≤ CYCLES_LIMIT }
-    requires room { length queue.old.jobs + length plan.now.jobs ≤ queue.old.capacity }
-    requires apart { AreApart (queue.old.jobs ++ jobs_in_cycle plan.now n) }
-    ensures jobs { HaveSameItems queue.new.jobs (queue.old.jobs ++ jobs_in_cycle plan.now n) }
-    ensures capacity { queue.new.capacity ≡ queue.old.capacity }
-{
-    for job in plan.jobs_by_start() {
-        queue.insert(plan.later_job(*job, n), steps);
-    }
-}
-
-/// Time goes on to so many slots after the change. At the end of a cycle, which leaves no job, those
-/// of the next one come in.
+/// Time goes on to so many slots after the change. At the end of a cycle, which leaves no job,
+/// those of the next one come in.
 pub(crate) fn pass<L: Ledger>(plan: &Plan, passed: u64, queue: &mut JobQueue, steps: &mut Steps<L>)
     requires few { passed ≤ 2 ^ 32 }
     requires none { passed % plan.now.cycle ≡ 0 → length queue.old.jobs ≡ 0 }

@@ -7,6 +7,8 @@ ghost use Rattle.slot_core.specs.declared.jobs.Job.{Job};
 ghost use Rattle.slot_core.specs.Calls.Counts.{Rose};
 ghost use Rattle.slot_core.specs.Runs.Arrivals.{key_in_set};
 ghost use Rattle.slot_io.specs.Sinks.{AppendsPart};
+ghost use Rattle.trace_text.specs.declared.TheConstants.{LINE_LIMIT};
+ghost use Rattle.mode_switch.specs.declared.text.TheConstants.{TOLD_LIMIT};
 ghost use Rattle.mode_switch.specs.Naming.{turn_in_sets};
 ghost use Rattle.mode_switch.specs.Texts.{change_text, end_line, granted_line, turn_line, turn_lines, turn_text};
 
@@ -14,7 +16,10 @@ use crate::change::Change;
 use crate::turns::Turn;
 use slot_core::{Failed, TaskSet};
 use slot_io::Sink;
-use trace_text::{Line, key_text};
+use trace_text::{KEY_LIMIT, Line, key_text};
+
+/// Most bytes of what a turn tells: a word of 3 bytes, a space and a key.
+const TOLD_LIMIT: usize = 4 + KEY_LIMIT;
 
 /// Writes the text of a change that has just been opened and of the run after it up to time
 /// `slots`: a line for the grant, one for each slot, and one for the end. Keys of carried jobs are
@@ -151,10 +156,10 @@ fn push_turn(line: &mut Line, time: u64, turn: Turn, first: &TaskSet, second: &T
 
 /// Appends what a turn tells.
 fn push_told(line: &mut Line, turn: Turn, first: &TaskSet, second: &TaskSet)
-    requires room { length line.old ≤ 100 }
+    requires room { length line.old + TOLD_LIMIT ≤ LINE_LIMIT }
     requires named { turn_in_sets first.now second.now turn ≡ true }
     ensures text { line.new ≡ line.old ++ turn_text first.now second.now turn }
-    ensures short { length line.new ≤ length line.old + 100 }
+    ensures short { length line.new ≤ length line.old + TOLD_LIMIT }
 {
     match turn {
         Turn::Idle => line.push(b"idle"),

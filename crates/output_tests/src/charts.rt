@@ -172,13 +172,16 @@ const NO_RUNS: Case = Case {
     ],
 };
 
-/// These lines after each other.
-fn text_of(alloc: Global, lines: &[&'static str]) -> Result<String, Fail> {
-    let mut text = String::new(alloc);
+/// Whether the bytes are those of these lines after each other.
+fn are_lines(bytes: &[u8], lines: &[&str]) -> bool {
+    let mut rest = bytes;
     for line in lines {
-        text.push_str(line)?;
+        match rest.strip_prefix(line.as_bytes()) {
+            Some(tail) => rest = tail,
+            None => return false,
+        }
     }
-    Ok(text)
+    rest.is_empty()
 }
 
 #[test]
@@ -194,27 +197,40 @@ fn draws_each_case(rt: HostRuntime) -> Result<(), Fail> {
 
 /// Whether the case has its lines.
 fn is_drawn(alloc: Global, case: &Case) -> Result<bool, Fail> {
-    let text = text_of(alloc, case.lines)?;
     let tasks = set_of(alloc, case.set)?;
-    let chart = taken(alloc, &tasks, case.slots, case.entries)?;
-    is_printed(alloc, &chart, &tasks, text.as_str())
+    is_drawn_of(alloc, &tasks, case)
 }
 
-/// Whether a sink with ample room takes this text of the chart.
-fn is_printed(alloc: Global, chart: &Chart, tasks: &TaskSet, text: &str) -> Result<bool, Fail>
+/// The same over its task set.
+fn is_drawn_of(alloc: Global, tasks: &TaskSet, case: &Case) -> Result<bool, Fail>
+    requires { is_sound tasks.now ≡ true }
+{
+    let chart = taken(alloc, tasks, case.slots, case.entries)?;
+    is_printed(alloc, &chart, tasks, case.lines)
+}
+
+/// Whether a sink with ample room takes these lines of the chart.
+fn is_printed(alloc: Global, chart: &Chart, tasks: &TaskSet, lines: &[&str]) -> Result<bool, Fail>
     requires { IsChartOf tasks.now chart.now }
 {
     let mut sink = MemorySink::with_room(alloc, 4096)?;
     let answer = chart.print(tasks, &mut sink);
-    Ok(answer == Ok(()) && sink.bytes() == text.as_bytes())
+    Ok(answer == Ok(()) && are_lines(sink.bytes(), lines))
 }
 
 #[test]
-fn ends_at_the_put_that_fails(rt: HostRuntime) -> Result<(), Fail> {
-    let alloc = rt.alloc();
-    let tasks = set_of(alloc, EACH_KIND.set)?;
-    let chart = taken(alloc, &tasks, EACH_KIND.slots, EACH_KIND.entries)?;
-    each_put(&rt, alloc, &chart, &tasks)
+fn ends_where_a_put_fails(rt: HostRuntime) -> Result<(), Fail> {
+    let tasks = set_of(rt.alloc(), EACH_KIND.set)?;
+    each_failing_put(&rt, rt.alloc(), &tasks)
+}
+
+/// The chart of each kind ends before the line whose put fails, and where a sink is full.
+fn each_failing_put<R: Abort>(rt: &R, alloc: Global, tasks: &TaskSet) -> Result<(), Fail>
+    requires { is_sound tasks.now ≡ true }
+{
+    let chart = taken(alloc, tasks, EACH_KIND.slots, EACH_KIND.entries)?;
+    each_put(rt, alloc, &chart, tasks)?;
+    each_room(rt, alloc, &chart, tasks)
 }
 
 /// Each put that fails ends the chart before its line.
@@ -222,43 +238,40 @@ fn each_put<R: Abort>(rt: &R, alloc: Global, chart: &Chart, tasks: &TaskSet) -> 
     requires { IsChartOf tasks.now chart.now }
 {
     for index in 0..EACH_KIND.lines.len() {
-        let before = text_of(alloc, &EACH_KIND.lines[..index])?;
+        let front = &EACH_KIND.lines[..index];
         let put = index as u32 + 1;
-        assert!(rt;
-            is_cut_at(alloc, chart, tasks, put, before.as_str())?,
-            "at {index}"
-        );
+        assert!(rt; is_cut_at(alloc, chart, tasks, put, front)?, "at {index}");
     }
     Ok(())
 }
 
-/// Whether this text of the chart is told where the put of this number fails.
+/// Whether these lines of the chart are told where the put of this number fails.
 fn is_cut_at(
     alloc: Global,
     chart: &Chart,
     tasks: &TaskSet,
     put: u32,
-    text: &str,
+    lines: &[&str],
 ) -> Result<bool, Fail>
     requires { IsChartOf tasks.now chart.now }
 {
     let mut sink = MemorySink::with_room(alloc, 4096)?;
     sink.fail_put(put)?;
     let answer = chart.print(tasks, &mut sink);
-    Ok(answer == Err(Failed) && sink.bytes() == text.as_bytes())
-}
-
-#[test]
-fn fills_the_room_of_a_sink(rt: HostRuntime) -> Result<(), Fail> {
-    let alloc = rt.alloc();
-    let text = text_of(alloc, EACH_KIND.lines)?;
-    let tasks = set_of(alloc, EACH_KIND.set)?;
-    let chart = taken(alloc, &tasks, EACH_KIND.slots, EACH_KIND.entries)?;
-    each_room(&rt, alloc, &chart, &tasks, text.as_bytes())
+    Ok(answer == Err(Failed) && are_lines(sink.bytes(), lines))
 }
 
 /// A sink of each room takes so much of the text.
-fn each_room<R: Abort>(
+fn each_room<R: Abort>(rt: &R, alloc: Global, chart: &Chart, tasks: &TaskSet) -> Result<(), Fail>
+    requires { IsChartOf tasks.now chart.now }
+{
+    let mut whole = MemorySink::with_room(alloc, 4096)?;
+    chart.print(tasks, &mut whole).ok().ok_or("no room")?;
+    expect_fronts(rt, alloc, chart, tasks, whole.bytes())
+}
+
+/// A sink with room for a front of the text takes that front.
+fn expect_fronts<R: Abort>(
     rt: &R,
     alloc: Global,
     chart: &Chart,
@@ -268,29 +281,18 @@ fn each_room<R: Abort>(
     requires { IsChartOf tasks.now chart.now }
 {
     for room in 0..text.len() {
-        let front = &text[..room];
-        assert!(rt;
-            is_filled(alloc, chart, tasks, front, Err(Failed))?,
-            "{room}"
-        );
+        assert!(rt; is_filled(alloc, chart, tasks, &text[..room])?, "{room}");
     }
-    assert!(rt; is_filled(alloc, chart, tasks, text, Ok(()))?);
     Ok(())
 }
 
-/// Whether a sink with room for these bytes has them then, after this answer.
-fn is_filled(
-    alloc: Global,
-    chart: &Chart,
-    tasks: &TaskSet,
-    bytes: &[u8],
-    answer: Result<(), Failed>,
-) -> Result<bool, Fail>
+/// Whether a sink with room for these bytes of the chart has them then, and is full.
+fn is_filled(alloc: Global, chart: &Chart, tasks: &TaskSet, bytes: &[u8]) -> Result<bool, Fail>
     requires { IsChartOf tasks.now chart.now }
 {
     let mut sink = MemorySink::with_room(alloc, bytes.len())?;
-    let told = chart.print(tasks, &mut sink);
-    Ok(told == answer && sink.bytes() == bytes)
+    let answer = chart.print(tasks, &mut sink);
+    Ok(answer == Err(Failed) && sink.bytes() == bytes)
 }
 
 /// What each of eight slots has, again and again.
@@ -345,15 +347,32 @@ fn rounds(alloc: Global) -> Result<Vec<(u64, What)>, Fail> {
 
 #[test]
 fn draws_the_most_slots(rt: HostRuntime) -> Result<(), Fail> {
-    assert!(rt; is_round_drawn(rt.alloc())?);
+    let tasks = alarm_set(rt.alloc())?;
+    assert!(rt; is_round_drawn(rt.alloc(), &tasks)?);
     Ok(())
 }
 
 /// Whether 26 rounds have the chart of 25.
-fn is_round_drawn(alloc: Global) -> Result<bool, Fail> {
-    let text = round_text(alloc)?;
+fn is_round_drawn(alloc: Global, tasks: &TaskSet) -> Result<bool, Fail>
+    requires { is_sound tasks.now ≡ true }
+{
+    let chart = rounds_chart(alloc, tasks)?;
+    is_round_printed(alloc, &chart, tasks)
+}
+
+/// The chart of 26 rounds.
+fn rounds_chart(alloc: Global, tasks: &TaskSet) -> Result<Chart, Fail>
+    requires { is_sound tasks.now ≡ true }
+    ensures { IfOk result (λ chart. IsChartOf tasks.now chart) }
+{
     let entries = rounds(alloc)?;
-    let tasks = alarm_set(alloc)?;
-    let chart = taken(alloc, &tasks, 200, entries.as_slice())?;
-    is_printed(alloc, &chart, &tasks, text.as_str())
+    taken(alloc, tasks, 200, entries.as_slice())
+}
+
+/// Whether the chart is that of 25 rounds.
+fn is_round_printed(alloc: Global, chart: &Chart, tasks: &TaskSet) -> Result<bool, Fail>
+    requires { IsChartOf tasks.now chart.now }
+{
+    let text = round_text(alloc)?;
+    is_printed(alloc, chart, tasks, &[text.as_str()])
 }

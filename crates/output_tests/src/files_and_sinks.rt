@@ -61,20 +61,29 @@ fn reads_no_further_than_the_limit(rt: HostRuntime) -> Result<(), Fail> {
 #[test]
 fn writes_to_sinks_of_the_host(rt: HostRuntime) -> Result<(), Fail> {
     let full = fs::OpenOptions::new().write(true).open(&rt, "/dev/full")?;
-    let mut sink = HostSink::new(full);
-    assert!(rt; sink.put(b"") == Ok(()));
-    assert!(rt; sink.put(b"a") == Err(Failed));
+    assert!(rt; is_full(&mut HostSink::new(full)));
+    let (reader, writer) = io::pipe(&rt)?;
+    assert!(rt; is_piped(reader, &mut HostSink::new(writer))?);
+    Ok(())
+}
 
-    let (mut reader, writer) = io::pipe(&rt)?;
-    let mut sink = HostSink::new(writer);
-    assert!(rt; sink.put(b"seven, ") == Ok(()));
-    assert!(rt; sink.put(b"eight") == Ok(()));
+/// Whether the sink takes no byte.
+fn is_full(sink: &mut impl Sink) -> bool {
+    sink.put(b"") == Ok(()) && sink.put(b"a") == Err(Failed)
+}
+
+/// Whether the sink hands on what is put, as long as there is a reader.
+fn is_piped<R: Read + Drop>(reader: R, sink: &mut impl Sink) -> Result<bool, Fail> {
+    let are_put = sink.put(b"seven, ") == Ok(()) && sink.put(b"eight") == Ok(());
+    let are_read = are_put && is_next(reader, b"seven, eight")?;
+    Ok(are_read && sink.put(b"nine") == Err(Failed))
+}
+
+/// Whether these are the next bytes that are read.
+fn is_next<R: Read + Drop>(mut reader: R, bytes: &[u8; 12]) -> Result<bool, Fail> {
     let mut told = [0u8; 12];
     reader.read_exact(&mut told)?;
-    assert!(rt; told == *b"seven, eight");
-    drop(reader);
-    assert!(rt; sink.put(b"nine") == Err(Failed));
-    Ok(())
+    Ok(told == *bytes)
 }
 
 /// What opening gives, and what a read of four bytes and one more answers.
@@ -168,12 +177,14 @@ fn writes_on_until_all_is_taken(rt: HostRuntime) {
     for (index, (turns, flush_fails, answer, taken)) in rows.into_iter().enumerate() {
         let mut script = Script::new(turns, Vec::new(alloc));
         script.flush_fails = flush_fails;
-        let told = HostSink::new(&mut script).put(b"abcd");
-        assert!(rt;
-            told == answer && script.taken.as_slice() == taken,
-            "row {index}"
-        );
+        assert!(rt; is_put_so(&mut script, answer, taken), "row {index}");
     }
+}
+
+/// Whether a put of four bytes answers this, where the file takes these.
+fn is_put_so(script: &mut Script, answer: Result<(), Failed>, taken: &[u8]) -> bool {
+    let told = HostSink::new(&mut *script).put(b"abcd");
+    told == answer && script.taken.as_slice() == taken
 }
 
 #[test]

@@ -143,11 +143,9 @@ fn each_kind_of_entry<R: Abort>(rt: &R, tasks: &TaskSet) -> Result<(), Fail> {
 
 /// The entry has this line.
 fn expect_line<R: Abort>(rt: &R, entry: &Entry, tasks: &TaskSet, want: &str) {
-    assert!(rt; is_what_of(entry.what, tasks));
-    assert!(rt;
-        entry_line(entry, tasks).bytes() == want.as_bytes(),
-        "{want}"
-    );
+    let is_line = is_what_of(entry.what, tasks)
+        && entry_line(entry, tasks).bytes() == want.as_bytes();
+    assert!(rt; is_line, "{want}");
 }
 
 /// The key of the longest text.
@@ -238,8 +236,8 @@ fn writes_each_kind_of_key(rt: HostRuntime) -> Result<(), Fail> {
 /// Each of the keys has its text.
 fn each_kind_of_key<R: Abort>(rt: &R, tasks: &TaskSet) {
     for (key, want) in KEYS {
-        assert!(rt; is_key_of(key, tasks));
-        assert!(rt; key_text(key, tasks).bytes() == want.as_bytes(), "{want}");
+        let is_text = is_key_of(key, tasks) && key_text(key, tasks).bytes() == want.as_bytes();
+        assert!(rt; is_text, "{want}");
     }
 }
 
@@ -268,8 +266,8 @@ fn writes_the_lines_of_a_plan(rt: HostRuntime) -> Result<(), Fail> {
 
 /// The job has this line.
 fn expect_job<R: Abort>(rt: &R, job: &Job, tasks: &TaskSet, want: &str) {
-    assert!(rt; is_key_of(job.key, tasks));
-    assert!(rt; job_line(job, tasks).bytes() == want.as_bytes(), "{want}");
+    let is_line = is_key_of(job.key, tasks) && job_line(job, tasks).bytes() == want.as_bytes();
+    assert!(rt; is_line, "{want}");
 }
 
 #[test]

@@ -11,11 +11,12 @@ use std::test::Fail;
 #[test]
 fn makes_the_largest_set(rt: HostRuntime) -> Result<(), Fail> {
     let tasks = tasks_of(rt.alloc(), 32)?;
-    expect_largest(&rt, &tasks)
+    expect_largest(&rt, &tasks);
+    Ok(())
 }
 
 /// The set has 32 graphs, of which some are as written here.
-fn expect_largest<R: Abort>(rt: &R, tasks: &TaskSet) -> Result<(), Fail> {
+fn expect_largest<R: Abort>(rt: &R, tasks: &TaskSet) {
     let counts = (tasks.soft_limit, tasks.graphs.len(), tasks.sporadics.len());
     assert!(rt; counts == (8, 32, 1));
     for (i, period, name) in [
@@ -24,11 +25,20 @@ fn expect_largest<R: Abort>(rt: &R, tasks: &TaskSet) -> Result<(), Fail> {
         (29, 256, "g29"),
         (31, 128, "g31"),
     ] {
-        let graph = tasks.graphs.items().get(i).ok_or("no such graph")?;
-        assert!(rt; (graph.period, graph.tasks.len()) == (period, 3), "{name}");
-        assert!(rt; graph.name.bytes() == name.as_bytes(), "{name}");
+        assert!(rt; is_graph(tasks, i, period, name), "{name}");
     }
-    Ok(())
+}
+
+/// Whether the graph at this place has three tasks, this period and this name.
+fn is_graph(tasks: &TaskSet, place: usize, period: u32, name: &str) -> bool {
+    match tasks.graphs.items().get(place) {
+        Some(graph) => {
+            graph.period == period
+                && graph.tasks.len() == 3
+                && graph.name.bytes() == name.as_bytes()
+        }
+        None => false,
+    }
 }
 
 #[test]
@@ -77,25 +87,32 @@ const KINDS: [What; 13] = [
 #[test]
 fn counts_each_kind(rt: HostRuntime) -> Result<(), Fail> {
     let tasks = tasks_of(rt.alloc(), 1)?;
-    let tally = counted(&rt, &tasks)?;
+    let tally = counted(&tasks)?;
     let line = "selfrun 1 slots 64 soft 1 2 firm 3 4 5 6 sporadic 7 8 run 9 10 11 12 idle 13\n";
     assert!(rt; tally.line(1, 64).bytes() == line.as_bytes());
     Ok(())
 }
 
 /// The tally that took the first kind once, the second twice, and so on.
-fn counted<R: Abort>(rt: &R, tasks: &TaskSet) -> Result<Tally, Fail> {
+fn counted(tasks: &TaskSet) -> Result<Tally, Fail> {
     let mut tally = Tally::new();
     for (i, what) in KINDS.iter().enumerate() {
         for _ in 0..i + 1 {
-            assert!(rt; is_what_of(*what, tasks));
-            let entry = Entry {
-                time: 0,
-                what: *what,
-                shown: Shown::new(0),
-            };
-            tally.take(&entry, tasks)?;
+            take(&mut tally, *what, tasks)?;
         }
     }
     Ok(tally)
+}
+
+/// The tally takes an entry of this kind.
+fn take(tally: &mut Tally, what: What, tasks: &TaskSet) -> Result<(), Fail> {
+    if !is_what_of(what, tasks) {
+        return Err("not of the set".into());
+    }
+    let entry = Entry {
+        time: 0,
+        what,
+        shown: Shown::new(0),
+    };
+    Ok(tally.take(&entry, tasks)?)
 }

@@ -4,8 +4,6 @@
 #[cfg(test)]
 mod capacities;
 #[cfg(test)]
-mod margins;
-#[cfg(test)]
 mod plans;
 #[cfg(test)]
 mod spans;

@@ -1,9 +1,13 @@
 //! Plans of small sets, and sets that have none.
 
+ghost use Rattle.std.specs.Prelude.{◌≡◌, true};
+ghost use Rattle.slot_core.specs.Sets.Ranges.{is_sound};
+
 use crate::spans::expect_spans;
 use cycle_plan::{Plan, PlanFault, counterexample, make_plan};
 use sample_sets::{crowded_set, overlong_set, unmanned_flight_set};
-use slot_core::{Job, Key, Window};
+use slot_core::{Job, Key, TaskSet, Window};
+use std::alloc::Global;
 use std::process::Abort;
 use std::test::Fail;
 
@@ -67,21 +71,33 @@ fn expect_flight<R: Abort>(rt: &R, plan: &Plan) -> Result<(), Fail> {
 #[test]
 fn refuses_windows_of_too_much_demand(rt: HostRuntime) -> Result<(), Fail> {
     let alloc = rt.alloc();
-    expect_window(&rt, make_plan(alloc, crowded_set(alloc)?).err(), 5, 7, 3);
-    expect_window(&rt, make_plan(alloc, overlong_set(alloc)?).err(), 0, 2, 3);
-    let found = counterexample(alloc, &crowded_set(alloc)?)?;
-    assert!(rt; found == Some(window_of(5, 7, 3)));
-    assert!(rt; counterexample(alloc, &unmanned_flight_set(alloc)?)?.is_none());
+    assert!(rt; window_of(alloc, crowded_set(alloc)?)? == Some(window(5, 7, 3)));
+    assert!(rt; window_of(alloc, overlong_set(alloc)?)? == Some(window(0, 2, 3)));
+    assert!(rt; window_of(alloc, unmanned_flight_set(alloc)?)?.is_none());
     Ok(())
 }
 
-/// The fault is this window with more demand than slots.
-fn expect_window<R: Abort>(rt: &R, fault: Option<PlanFault>, from: u64, until: u64, demand: u64) {
-    assert!(rt; fault == Some(PlanFault::Infeasible(window_of(from, until, demand))));
+/// The window of too much demand that is found, for which there is no plan.
+fn window_of(alloc: Global, tasks: TaskSet) -> Result<Option<Window>, Fail>
+    requires { is_sound tasks ≡ true }
+{
+    let found = counterexample(alloc, &tasks)?;
+    if fault_of(alloc, tasks) == found.map(PlanFault::Infeasible) {
+        Ok(found)
+    } else {
+        Err("another window".into())
+    }
+}
+
+/// The fault of a set that has no plan.
+fn fault_of(alloc: Global, tasks: TaskSet) -> Option<PlanFault>
+    requires { is_sound tasks ≡ true }
+{
+    make_plan(alloc, tasks).err()
 }
 
 /// The window [from, until) with this demand.
-fn window_of(from: u64, until: u64, demand: u64) -> Window {
+fn window(from: u64, until: u64, demand: u64) -> Window {
     Window {
         from,
         until,

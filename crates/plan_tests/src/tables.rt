@@ -2,6 +2,7 @@
 
 ghost use Rattle.std.specs.Prelude.{◌+◌, ◌≤◌, length};
 
+use cycle_plan::Plan;
 use slot_core::{Job, Key, Span};
 use std::alloc::Global;
 use std::test::Fail;
@@ -188,13 +189,29 @@ fn changed(
     Ok(bytes)
 }
 
-/// What is told of a table with one byte changed.
-fn told(alloc: Global, table: &[u8], count: usize, place: usize, byte: u8) -> Result<String, Fail> {
+/// Whether this is told of a table with one byte changed.
+fn is_told(
+    alloc: Global,
+    table: &[u8],
+    count: usize,
+    place: usize,
+    byte: u8,
+    want: &str,
+) -> Result<bool, Fail> {
     let bytes = changed(alloc, table, count, place, byte)?;
-    match decode(alloc, bytes.as_slice()) {
-        Ok(_) => Err("no fault")?,
-        Err(fault) => Ok(format!(in alloc; "{fault}")?),
-    }
+    let fault = fault_of(alloc, bytes.as_slice()).ok_or("no fault")?;
+    is_text(alloc, fault, want)
+}
+
+/// The fault of a table.
+fn fault_of(alloc: Global, table: &[u8]) -> Option<TableFault> {
+    decode(alloc, table).err()
+}
+
+/// Whether the fault has this text.
+fn is_text(alloc: Global, fault: TableFault, want: &str) -> Result<bool, Fail> {
+    let text = format!(in alloc; "{fault}")?;
+    Ok(text.as_str() == want)
 }
 
 /// A table of the pair with the alarm.
@@ -208,28 +225,35 @@ fn with_alarm(alloc: Global, table: &[u8], at: usize, alarm: &[u8]) -> Result<Ve
     Ok(bytes)
 }
 
-/// The table that is written of the plan that a table spells.
-fn written_again(alloc: Global, table: &[u8]) -> Result<Vec<u8>, Fail> {
+/// Whether this table is written of the plan that a table spells.
+fn is_written_of(alloc: Global, table: &[u8], want: &[u8]) -> Result<bool, Fail> {
     let plan = decode(alloc, table)?;
-    Ok(encode(alloc, &plan)?)
+    is_written(alloc, &plan, want)
+}
+
+/// Whether this table is written of the plan.
+fn is_written(alloc: Global, plan: &Plan, want: &[u8]) -> Result<bool, Fail> {
+    let bytes = encode(alloc, plan)?;
+    Ok(bytes.as_slice() == want)
 }
 
 #[test]
 fn reads_the_plan_of_a_pair(rt: HostRuntime) -> Result<(), Fail> {
     let plan = decode(rt.alloc(), &FIRST)?;
-    assert!(rt; plan.cycle() == 8);
-    assert!(rt; plan.jobs() == JOBS.as_slice());
-    assert!(rt; plan.spans() == SPANS.as_slice());
+    assert!(rt; is_pair(&plan));
     Ok(())
+}
+
+/// Whether the plan is that of the pair.
+fn is_pair(plan: &Plan) -> bool {
+    plan.cycle() == 8 && plan.jobs() == JOBS.as_slice() && plan.spans() == SPANS.as_slice()
 }
 
 #[test]
 fn writes_the_second_version_of_both(rt: HostRuntime) -> Result<(), Fail> {
     let alloc = rt.alloc();
-    let of_first = written_again(alloc, &FIRST)?;
-    assert!(rt; of_first.as_slice() == SECOND.as_slice());
-    let of_second = written_again(alloc, &SECOND)?;
-    assert!(rt; of_second.as_slice() == SECOND.as_slice());
+    assert!(rt; is_written_of(alloc, &FIRST, &SECOND)?);
+    assert!(rt; is_written_of(alloc, &SECOND, &SECOND)?);
     Ok(())
 }
 
@@ -237,17 +261,21 @@ fn writes_the_second_version_of_both(rt: HostRuntime) -> Result<(), Fail> {
 fn writes_a_sporadic_task(rt: HostRuntime) -> Result<(), Fail> {
     let alloc = rt.alloc();
     let first = with_alarm(alloc, &FIRST, FIRST_SPORADICS, &FIRST_ALARM)?;
-    let second = with_alarm(alloc, &SECOND, SECOND_SPORADICS, &SECOND_ALARM)?;
-    let written = written_again(alloc, first.as_slice())?;
-    assert!(rt; written.as_slice() == second.as_slice());
+    assert!(rt; is_alarm_written(alloc, first.as_slice())?);
     Ok(())
+}
+
+/// Whether the second version with the alarm is written of the plan that a table spells.
+fn is_alarm_written(alloc: Global, table: &[u8]) -> Result<bool, Fail> {
+    let second = with_alarm(alloc, &SECOND, SECOND_SPORADICS, &SECOND_ALARM)?;
+    is_written_of(alloc, table, second.as_slice())
 }
 
 #[test]
 fn tells_first_faults_of_the_first_version(rt: HostRuntime) -> Result<(), Fail> {
     for (count, place, byte, want) in FIRST_FAULTS {
-        let text = told(rt.alloc(), &FIRST, count, place, byte)?;
-        assert_eq!(rt; text.as_str(), want, "of {count} bytes, at {place}");
+        let is_told = is_told(rt.alloc(), &FIRST, count, place, byte, want)?;
+        assert!(rt; is_told, "of {count} bytes, at {place}");
     }
     Ok(())
 }
@@ -255,8 +283,8 @@ fn tells_first_faults_of_the_first_version(rt: HostRuntime) -> Result<(), Fail> 
 #[test]
 fn tells_first_faults_of_the_second_version(rt: HostRuntime) -> Result<(), Fail> {
     for (count, place, byte, want) in SECOND_FAULTS {
-        let text = told(rt.alloc(), &SECOND, count, place, byte)?;
-        assert_eq!(rt; text.as_str(), want, "of {count} bytes, at {place}");
+        let is_told = is_told(rt.alloc(), &SECOND, count, place, byte, want)?;
+        assert!(rt; is_told, "of {count} bytes, at {place}");
     }
     Ok(())
 }
@@ -264,10 +292,8 @@ fn tells_first_faults_of_the_second_version(rt: HostRuntime) -> Result<(), Fail>
 #[test]
 fn tells_each_shorter_table(rt: HostRuntime) -> Result<(), Fail> {
     for count in 0..SECOND.len() {
-        let Some(TableFault::Short(at)) = decode(rt.alloc(), &SECOND[..count]).err() else {
-            return Err("not short")?;
-        };
-        assert!(rt; at == count as u64);
+        let fault = fault_of(rt.alloc(), &SECOND[..count]);
+        assert!(rt; matches!(fault, Some(TableFault::Short(at)) if at == count as u64));
     }
     Ok(())
 }

@@ -58,7 +58,8 @@ IsPut (Err _) w before after = after ≡ before
 abbrev pub IsPartWriting : {T X : Type 0} → (T → Option (List ℕ)) → (T → ℕ)
     → Bool → Writing → Outcome X → T → T → Type 0
 IsPartWriting written failed in_parts w (Ok done) before after =
-    (rest : List ℕ) × (w.rest ≡ Ok rest) × Appends (written before) (written after) (w.front ++ rest)
+    (rest : List ℕ) × (w.rest ≡ Ok rest)
+    × Appends (written before) (written after) (w.front ++ rest)
 IsPartWriting written failed in_parts w (Err WriteFault) before after =
     AppendsPart (written before) (written after) (all_of w) × Rose (failed before) (failed after)
 IsPartWriting written failed in_parts w (Err Memory) before after =

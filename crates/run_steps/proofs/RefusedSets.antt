@@ -1,5 +1,5 @@
 -- The set of a plan that is refused since it is infeasible.
-use Rattle.std.proofs.Common.{◌≡◌, ℕ, ◌≤◌, Bool, true, false, List, length, Option, None, Some, Result, Ok, Err, refl, sym, ap, subst, ◌∙◌, arith}
+use Rattle.std.proofs.Common.{◌≡◌, ℕ, Bool, true, false, List, length, Option, None, Some, Result, Ok, Err, refl, ap, ◌∙◌}
 use Rattle.std.specs.Prelude.{nat_lt, if◌then◌else◌}
 use Rattle.std.specs.Option.{option_map_or}
 use Rattle.std.specs.Result.{result_map_both}
@@ -20,7 +20,7 @@ use Rattle.task_toml.specs.TomlFields.{Read as TomlRead}
 use Rattle.run_outcome.specs.declared.file.File.{File}
 use Rattle.run_outcome.specs.declared.file.File.TheVariants.{Tasks as TaskFile, Table as TableFile, Second as SecondFile}
 use Rattle.run_outcome.specs.declared.refusal.Refusal.{Refusal}
-use Rattle.run_outcome.specs.declared.refusal.Refusal.TheVariants.{Unreadable, TooLarge, BadTasks, BadTable, Infeasible, BadSecond, SecondInfeasible}
+use Rattle.run_outcome.specs.declared.refusal.Refusal.TheVariants.{Unreadable, TooLarge, BadTasks, BadTable, Infeasible, SecondInfeasible}
 use Rattle.run_outcome.specs.Refusals.{Outcome, name_of, limit_of}
 use Rattle.command_line.specs.declared.Second.{Second}
 use Rattle.command_line.specs.declared.Second.TheVariants.{Unread, Read}

@@ -34,7 +34,7 @@ use Rattle.command_line.specs.declared.Source.{Source}
 use Rattle.command_line.specs.declared.Source.TheVariants.{Tasks, Spelled, Load}
 use Rattle.command_line.specs.Commands.{is_file_of, is_second_of, is_recorded_in}
 use Rattle.command_line.proofs.CommandLemmas.{no-plan, no-plan_of_second, no-plan_of_trace}
-use Rattle.run_steps.specs.Readings.{limited_bytes, bytes_of, sound_set, feasible_plan, planned_plan, spelled_plan, plan_from, of_second, second_plan, second_from, fitting_arrivals, recorded_arrivals, arrivals_from, lawful_trace, recorded_trace, row_among, whole_cycles, check_from}
+use Rattle.run_steps.specs.Readings.{limited_bytes, bytes_of, sound_set, feasible_plan, planned_plan, spelled_plan, plan_from, of_second, second_plan, second_from, fitting_arrivals, recorded_arrivals, arrivals_from, lawful_trace, row_among, whole_cycles, check_from}
 use Rattle.run_steps.specs.Stages.{stage_of, stage_due}
 
 -- the refusal of a step, if it has one, is found in bytes

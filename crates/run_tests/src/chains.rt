@@ -1,6 +1,6 @@
-//! Calls in a row, against a row worked by hand and against a plain list.
+//! Calls in a row, against a plain list.
 
-ghost use Rattle.std.specs.Prelude.{◌≡◌, ◌<◌, [], IsTrue};
+ghost use Rattle.std.specs.Prelude.{◌≡◌, ◌<◌, IsTrue};
 ghost use Rattle.node_chain.specs.Chains.{IsListed};
 
 use node_chain::{Chain, NodeId};
@@ -20,46 +20,9 @@ enum Call {
     Set(usize, Span),
 }
 
-// Three spans are pushed, the first is popped, and one goes in before the last.
-#[test]
-fn inserts_before_the_last(rt: HostRuntime) -> Result<(), Fail> {
-    three_spans::<HostRuntime, Brand>(&rt, rt.alloc(), Blank::new(1))
-}
-
 #[test]
 fn agrees_with_a_list(rt: HostRuntime) -> Result<(), Fail> {
     drawn_calls::<HostRuntime, Brand>(&rt, rt.alloc(), Blank::new(1))
-}
-
-fn three_spans<R: Abort, L: Ledger>(rt: &R, alloc: Global, blank: Blank) -> Result<(), Fail>
-    requires name { blank.name ≡ L.name }
-    requires parts { blank.parts ≡ L.parts }
-    requires some { 0 < L.parts }
-{
-    let mut steps: Steps<L> = Steps::new(blank);
-    let mut chain = Chain::with_capacity(alloc, 3)?;
-    insert_between(rt, &mut chain, &mut steps);
-    Ok(())
-}
-
-/// Makes the calls on a chain of no spans with room for three.
-fn insert_between<R: Abort, L: Ledger>(rt: &R, chain: &mut Chain, steps: &mut Steps<L>)
-    requires empty { chain.old.pairs ≡ [] }
-    requires room { chain.old.capacity ≡ 3 }
-{
-    expect_same(rt, chain, &[], steps);
-    let first = chain.push_back(span(10), steps);
-    let second = chain.push_back(span(20), steps);
-    let third = chain.push_back(span(30), steps);
-    let pushed = [(first, span(10)), (second, span(20)), (third, span(30))];
-    expect_same(rt, chain, &pushed, steps);
-    assert!(rt; chain.pop_front(steps) == span(10));
-    assert!(rt; is_listed(chain, third));
-    assert!(rt; chain.len() < chain.capacity());
-    let between = chain.insert_before(third, span(25), steps);
-    let stayed = [(second, span(20)), (between, span(25)), (third, span(30))];
-    expect_same(rt, chain, &stayed, steps);
-    assert!(rt; (chain.len(), chain.capacity()) == (3, 3));
 }
 
 // Each call is made on a chain and on a list of its ids and spans.

@@ -1,13 +1,14 @@
 //! Executives of small sets, with each kind of arrival.
 
-ghost use Rattle.std.specs.Prelude.{◌≡◌, ◌<◌, true};
+ghost use Rattle.std.specs.Prelude.{◌≡◌, ◌<◌, true, IfOk};
 ghost use Rattle.slot_core.specs.Sets.Ranges.{is_sound};
 
 use cycle_plan::make_plan;
 use interval_row::{ChainTable, RowTable, SpareTable};
 use sample_sets::{alarm_set, borrowing_set, pair_set};
 use slot_core::{
-    Done, Evidence, Firm, Gone, Key, OFFER_LIMIT, Ran, Soft, Span, Spo, Steps, TaskSet, What,
+    Done, Evidence, Firm, Gone, Key, Memory, OFFER_LIMIT, Ran, Soft, Span, Spo, Steps, TaskSet,
+    What,
 };
 use slot_exec::Exec;
 use std::alloc::Global;
@@ -22,124 +23,183 @@ const FIRST: Key = Key::Offline(0, 0, 0);
 /// Its successor.
 const SECOND: Key = Key::Offline(0, 1, 0);
 
-// The first job ends a slot early, and its successor does not start before its time. Soft work
-// takes the slots to spare, first come, first served.
-#[test]
-fn follows_a_plan(rt: HostRuntime) -> Result<(), Fail> {
-    let entries = [
-        (What::Run(FIRST), (span(1, 7, 1, 5), span(7, 8, 1, 0))),
-        (
-            What::Done(1, FIRST, Done::Freed(1)),
-            (span(1, 7, 0, 6), span(7, 8, 1, 0)),
-        ),
-        (
-            What::Done(2, FIRST, Done::NotRunning),
-            (span(1, 7, 0, 6), span(7, 8, 1, 0)),
-        ),
-        (What::Idle, (span(2, 7, 0, 5), span(7, 8, 1, 0))),
-        (What::Run(SECOND), (span(3, 7, 0, 4), span(7, 8, 0, 1))),
-        (
-            What::Soft(3, 1, Soft::Taken),
-            (span(3, 7, 0, 4), span(7, 8, 0, 1)),
-        ),
-        (
-            What::Soft(4, 1, Soft::Taken),
-            (span(3, 7, 0, 4), span(7, 8, 0, 1)),
-        ),
-        (
-            What::Done(5, Key::Soft(4), Done::NotRunning),
-            (span(3, 7, 0, 4), span(7, 8, 0, 1)),
-        ),
-        (
-            What::Run(Key::Soft(3)),
-            (span(4, 7, 0, 3), span(7, 8, 0, 1)),
-        ),
-        (
-            What::Run(Key::Soft(4)),
-            (span(5, 7, 0, 2), span(7, 8, 0, 1)),
-        ),
-    ];
-    let mut exec: Exec<ChainTable> = start(rt.alloc(), pair_set(rt.alloc())?)?;
-    each_entry::<HostRuntime, Brand, ChainTable>(&rt, &mut exec, &entries, Blank::new(1));
-    Ok(())
-}
+/// The start, the end, the work and the capacity of a span.
+type Row = (u64, u64, u64, i64);
 
-#[test]
-fn takes_an_alarm(rt: HostRuntime) -> Result<(), Fail> {
-    let entries = [
-        (
-            What::Sporadic(1, 0, Spo::Taken(2)),
-            (span(0, 2, 1, 1), span(2, 7, 2, 3)),
-        ),
-        (
-            What::Run(Key::Sporadic(0, 1)),
-            (span(1, 2, 0, 1), span(2, 7, 2, 3)),
-        ),
-        (
-            What::Sporadic(2, 0, Spo::Soon(8)),
-            (span(1, 2, 0, 1), span(2, 7, 2, 3)),
-        ),
-    ];
-    let mut exec: Exec<ChainTable> = start(rt.alloc(), alarm_set(rt.alloc())?)?;
-    each_entry::<HostRuntime, Brand, ChainTable>(&rt, &mut exec, &entries, Blank::new(1));
-    Ok(())
-}
+/// What is told of an entry's event, and the first two spans then.
+type Told = (What, Row, Row);
+
+/// The first job ends a slot early, and its successor does not start before its time. Soft work
+/// takes the slots to spare, first come, first served.
+const PLAN: [Told; 10] = [
+    (What::Run(FIRST), (1, 7, 1, 5), (7, 8, 1, 0)),
+    (
+        What::Done(1, FIRST, Done::Freed(1)),
+        (1, 7, 0, 6),
+        (7, 8, 1, 0),
+    ),
+    (
+        What::Done(2, FIRST, Done::NotRunning),
+        (1, 7, 0, 6),
+        (7, 8, 1, 0),
+    ),
+    (What::Idle, (2, 7, 0, 5), (7, 8, 1, 0)),
+    (What::Run(SECOND), (3, 7, 0, 4), (7, 8, 0, 1)),
+    (What::Soft(3, 1, Soft::Taken), (3, 7, 0, 4), (7, 8, 0, 1)),
+    (What::Soft(4, 1, Soft::Taken), (3, 7, 0, 4), (7, 8, 0, 1)),
+    (
+        What::Done(5, Key::Soft(4), Done::NotRunning),
+        (3, 7, 0, 4),
+        (7, 8, 0, 1),
+    ),
+    (What::Run(Key::Soft(3)), (4, 7, 0, 3), (7, 8, 0, 1)),
+    (What::Run(Key::Soft(4)), (5, 7, 0, 2), (7, 8, 0, 1)),
+];
+
+const ALARM: [Told; 3] = [
+    (
+        What::Sporadic(1, 0, Spo::Taken(2)),
+        (0, 2, 1, 1),
+        (2, 7, 2, 3),
+    ),
+    (What::Run(Key::Sporadic(0, 1)), (1, 2, 0, 1), (2, 7, 2, 3)),
+    (
+        What::Sporadic(2, 0, Spo::Soon(8)),
+        (1, 2, 0, 1),
+        (2, 7, 2, 3),
+    ),
+];
+
+/// Up to 7, and up to 14, more is needed than there is room.
+const NO_ROOM: Firm = Firm::NoRoom(Evidence {
+    until: 7,
+    need: 8,
+    room: 7,
+});
+
+const NO_ROOM_AHEAD: Firm = Firm::NoRoom(Evidence {
+    until: 8,
+    need: 14,
+    room: 8,
+});
 
 /// Where a span ends, the slots that fit and one more. Taken back, they leave room for an offer
 /// that is due a cycle ahead. Past a cycle, and now. Then the pair runs; its second job is due with
 /// the offer, so what is borrowed falls.
-fn offers() -> [(What, (Span, Span)); 11] {
-    let free = (span(0, 7, 2, 5), span(7, 8, 1, 0));
-    let full = (span(0, 7, 7, 0), span(7, 8, 1, 0));
-    let borrowed = (span(0, 7, 2, 0), span(7, 8, 6, -5));
-    [
-        (What::Firm(1, 6, 7, no_room(7, 8, 7)), free),
-        (What::Firm(2, 5, 7, Firm::Accepted), full),
-        (What::Withdraw(3, 2, Gone::Freed(5)), free),
-        (What::Withdraw(4, 2, Gone::NoJob), free),
-        (What::Firm(5, 5, 8, Firm::Accepted), borrowed),
-        (What::Firm(6, 6, 8, no_room(8, 14, 8)), borrowed),
-        (What::Firm(7, 1, 9, Firm::Far), borrowed),
-        (What::Firm(8, 1, 0, Firm::Late), borrowed),
-        (What::Run(FIRST), (span(1, 7, 1, 0), span(7, 8, 6, -5))),
-        (What::Run(FIRST), (span(2, 7, 0, 0), span(7, 8, 6, -5))),
-        (What::Run(SECOND), (span(3, 7, 0, 0), span(7, 8, 5, -4))),
-    ]
-}
+const OFFERS: [Told; 11] = [
+    (What::Firm(1, 6, 7, NO_ROOM), (0, 7, 2, 5), (7, 8, 1, 0)),
+    (
+        What::Firm(2, 5, 7, Firm::Accepted),
+        (0, 7, 7, 0),
+        (7, 8, 1, 0),
+    ),
+    (
+        What::Withdraw(3, 2, Gone::Freed(5)),
+        (0, 7, 2, 5),
+        (7, 8, 1, 0),
+    ),
+    (
+        What::Withdraw(4, 2, Gone::NoJob),
+        (0, 7, 2, 5),
+        (7, 8, 1, 0),
+    ),
+    (
+        What::Firm(5, 5, 8, Firm::Accepted),
+        (0, 7, 2, 0),
+        (7, 8, 6, -5),
+    ),
+    (
+        What::Firm(6, 6, 8, NO_ROOM_AHEAD),
+        (0, 7, 2, 0),
+        (7, 8, 6, -5),
+    ),
+    (What::Firm(7, 1, 9, Firm::Far), (0, 7, 2, 0), (7, 8, 6, -5)),
+    (What::Firm(8, 1, 0, Firm::Late), (0, 7, 2, 0), (7, 8, 6, -5)),
+    (What::Run(FIRST), (1, 7, 1, 0), (7, 8, 6, -5)),
+    (What::Run(FIRST), (2, 7, 0, 0), (7, 8, 6, -5)),
+    (What::Run(SECOND), (3, 7, 0, 0), (7, 8, 5, -4)),
+];
+
+/// A deadline inside a span that borrows, and inside the first one.
+const CUTS: [Told; 3] = [
+    (
+        What::Firm(1, 1, 5, Firm::Accepted),
+        (0, 4, 1, 0),
+        (4, 5, 1, -3),
+    ),
+    (
+        What::Withdraw(2, 1, Gone::Freed(1)),
+        (0, 4, 1, 1),
+        (4, 5, 0, -2),
+    ),
+    (
+        What::Firm(3, 1, 2, Firm::Accepted),
+        (0, 2, 1, 0),
+        (2, 4, 1, -1),
+    ),
+];
 
 #[test]
-fn answers_firm_offers(rt: HostRuntime) -> Result<(), Fail> {
-    let mut exec: Exec<RowTable> = start(rt.alloc(), pair_set(rt.alloc())?)?;
-    each_entry::<HostRuntime, Brand, RowTable>(&rt, &mut exec, &offers(), Blank::new(1));
-    Ok(())
+fn tells_each_entry(rt: HostRuntime) -> Result<(), Fail> {
+    let alloc = rt.alloc();
+    expect_entries::<HostRuntime, Brand, ChainTable>(&rt, alloc, Set::Pair, &PLAN, Blank::new(1))?;
+    expect_entries::<HostRuntime, Brand, ChainTable>(
+        &rt,
+        alloc,
+        Set::Alarm,
+        &ALARM,
+        Blank::new(1),
+    )?;
+    expect_entries::<HostRuntime, Brand, RowTable>(&rt, alloc, Set::Pair, &OFFERS, Blank::new(1))?;
+    expect_entries::<HostRuntime, Brand, ChainTable>(
+        &rt,
+        alloc,
+        Set::Pair,
+        &OFFERS,
+        Blank::new(1),
+    )?;
+    expect_entries::<HostRuntime, Brand, ChainTable>(
+        &rt,
+        alloc,
+        Set::Borrowing,
+        &CUTS,
+        Blank::new(1),
+    )
 }
 
-#[test]
-fn answers_firm_offers_over_a_chain(rt: HostRuntime) -> Result<(), Fail> {
-    let mut exec: Exec<ChainTable> = start(rt.alloc(), pair_set(rt.alloc())?)?;
-    each_entry::<HostRuntime, Brand, ChainTable>(&rt, &mut exec, &offers(), Blank::new(1));
-    Ok(())
+/// The sets of the entries.
+#[derive(Clone, Copy)]
+enum Set {
+    Pair,
+    Alarm,
+    Borrowing,
 }
 
-// A deadline inside a span that borrows, and inside the first one.
-#[test]
-fn cuts_spans(rt: HostRuntime) -> Result<(), Fail> {
-    let entries = [
-        (
-            What::Firm(1, 1, 5, Firm::Accepted),
-            (span(0, 4, 1, 0), span(4, 5, 1, -3)),
-        ),
-        (
-            What::Withdraw(2, 1, Gone::Freed(1)),
-            (span(0, 4, 1, 1), span(4, 5, 0, -2)),
-        ),
-        (
-            What::Firm(3, 1, 2, Firm::Accepted),
-            (span(0, 2, 1, 0), span(2, 4, 1, -1)),
-        ),
-    ];
-    let mut exec: Exec<ChainTable> = start(rt.alloc(), borrowing_set(rt.alloc())?)?;
-    each_entry::<HostRuntime, Brand, ChainTable>(&rt, &mut exec, &entries, Blank::new(1));
+/// The task set of this name.
+fn set_of(alloc: Global, set: Set) -> Result<TaskSet, Memory>
+    ensures { IfOk result (λ tasks. is_sound tasks ≡ true) }
+{
+    match set {
+        Set::Pair => pair_set(alloc),
+        Set::Alarm => alarm_set(alloc),
+        Set::Borrowing => borrowing_set(alloc),
+    }
+}
+
+/// An executive of the set that has just started tells these entries.
+fn expect_entries<R: Abort, L: Ledger, T: SpareTable>(
+    rt: &R,
+    alloc: Global,
+    set: Set,
+    entries: &[Told],
+    blank: Blank,
+) -> Result<(), Fail>
+    requires name { blank.name ≡ L.name }
+    requires parts { blank.parts ≡ L.parts }
+    requires some { 0 < L.parts }
+{
+    let mut exec: Exec<T> = start(alloc, set_of(alloc, set)?)?;
+    each_entry::<R, L, T>(rt, &mut exec, entries, blank);
     Ok(())
 }
 
@@ -154,7 +214,7 @@ fn tells_what_it_keeps(rt: HostRuntime) -> Result<(), Fail> {
 fn each_entry<R: Abort, L: Ledger, T: SpareTable>(
     rt: &R,
     exec: &mut Exec<T>,
-    entries: &[(What, (Span, Span))],
+    entries: &[Told],
     blank: Blank,
 )
     requires name { blank.name ≡ L.name }
@@ -162,9 +222,10 @@ fn each_entry<R: Abort, L: Ledger, T: SpareTable>(
     requires some { 0 < L.parts }
 {
     let mut steps: Steps<L> = Steps::new(blank);
-    for (entry, spans) in entries {
-        assert!(rt; told(exec, *entry, &mut steps) == Some(*entry));
-        assert!(rt; first_two(exec, &mut steps) == Some(*spans));
+    for (entry, first, second) in entries {
+        let told = told(exec, *entry, &mut steps);
+        let spans = first_two(exec, &mut steps);
+        assert!(rt; told == Some(*entry) && spans == Some((*first, *second)));
     }
 }
 
@@ -264,10 +325,16 @@ fn at_start<R: Abort, L: Ledger, T: SpareTable>(rt: &R, exec: &Exec<T>, blank: B
     requires some { 0 < L.parts }
 {
     let mut steps: Steps<L> = Steps::new(blank);
-    assert!(rt; (exec.now(), exec.last_row(), exec.span_count()) == (0, 0, 6));
-    assert!(rt; exec.tasks().graphs.len() == 1);
-    let last = exec.span_count() - 1;
-    assert!(rt; exec.span(last, &mut steps) == span(23, 24, 1, 0));
+    let count = exec.span_count();
+    assert!(rt;
+        (
+            exec.now(),
+            exec.last_row(),
+            count,
+            exec.tasks().graphs.len()
+        ) == (0, 0, 6, 1)
+    );
+    assert!(rt; row_of(&exec.span(count - 1, &mut steps)) == (23, 24, 1, 0));
 }
 
 /// The executive of a set before the first slot.
@@ -279,28 +346,15 @@ fn start<T: SpareTable>(alloc: Global, tasks: TaskSet) -> Result<Exec<T>, Fail>
 }
 
 /// The first two of its spans, where there are two.
-fn first_two<L: Ledger, T: SpareTable>(
-    exec: &Exec<T>,
-    steps: &mut Steps<L>,
-) -> Option<(Span, Span)> {
+fn first_two<L: Ledger, T: SpareTable>(exec: &Exec<T>, steps: &mut Steps<L>) -> Option<(Row, Row)> {
     let shown = exec.shown(steps);
     match shown.spans() {
-        [first, second, ..] => Some((*first, *second)),
+        [first, second, ..] => Some((row_of(first), row_of(second))),
         _ => None,
     }
 }
 
-/// The answer that by `until` more is needed than there is room.
-fn no_room(until: u64, need: u64, room: u64) -> Firm {
-    Firm::NoRoom(Evidence { until, need, room })
-}
-
-/// A span with its work and its spare capacity.
-fn span(start: u64, end: u64, work: u64, spare: i64) -> Span {
-    Span {
-        start,
-        end,
-        work,
-        spare,
-    }
+/// The start, the end, the work and the capacity of the span.
+fn row_of(span: &Span) -> Row {
+    (span.start, span.end, span.work, span.spare)
 }

@@ -12,8 +12,6 @@ mod offers;
 #[cfg(test)]
 mod queues;
 #[cfg(test)]
-mod replays;
-#[cfg(test)]
 mod reserves;
 #[cfg(test)]
 mod tables;

@@ -1,10 +1,12 @@
 //! Offers and soft work over small tables, with values from the definitions.
 
-ghost use Rattle.std.specs.Prelude.{◌≡◌, ◌<◌};
+ghost use Rattle.std.specs.Prelude.{◌≡◌, ◌<◌, ◌≤◌, pos, ◌≤ℤ◌};
+ghost use Rattle.spare_capacity.specs.Recurrence.{first_spare};
+ghost use Rattle.interval_row.specs.Tables.{spans_of_pairs};
 
 use guarantee::{Answer, SoftRoom, may_run_soft, soft_room, test};
 use interval_row::{RowTable, SpareTable};
-use slot_core::{Evidence, Name, Span, Sporadic, Steps};
+use slot_core::{Evidence, Name, OFFER_LIMIT, Span, Sporadic, Steps};
 use sporadic_reserve::Reserve;
 use std::alloc::Global;
 use std::marker::Brand;
@@ -42,8 +44,6 @@ fn without_arrivals<R: Abort, L: Ledger>(rt: &R, alloc: Global, blank: Blank) ->
         span(20, 24, 1, 1),
         span(24, 30, 8, -2),
     ];
-    let table = RowTable::with_room(alloc, &spans, 1, 6)?;
-    let reserve = Reserve::new(&[]);
     let offers = [
         (2, 1, Answer::Accept),
         (2, 2, refused(10, 11, 10)),
@@ -53,29 +53,12 @@ fn without_arrivals<R: Abort, L: Ledger>(rt: &R, alloc: Global, blank: Blank) ->
         (30, 3, Answer::Accept),
         (30, 4, refused(30, 31, 30)),
     ];
-    for (dl, c, answer) in offers {
-        assert!(rt;
-            test(&table, &reserve, dl, c, &mut steps) == answer,
-            "{c} by {dl}"
-        );
-    }
-    let may_run = may_run_soft(&table, &reserve, &mut steps);
-    let room = soft_room(&table, &reserve, &mut steps);
-    assert!(rt; may_run && room == SoftRoom::Free(1));
-    full_span(rt, alloc, &reserve, &mut steps)
-}
-
-/// A span that is full.
-fn full_span<R: Abort, L: Ledger>(
-    rt: &R,
-    alloc: Global,
-    reserve: &Reserve,
-    steps: &mut Steps<L>,
-) -> Result<(), Fail> {
+    let reserve = Reserve::new(&[]);
+    let table = RowTable::with_room(alloc, &spans, 1, 6)?;
+    expect_offers(rt, &table, &reserve, &offers, &mut steps);
+    expect_room(rt, &table, &reserve, SoftRoom::Free(1), &mut steps);
     let full = RowTable::with_room(alloc, &[span(0, 4, 4, 0)], 1, 1)?;
-    let may_run = may_run_soft(&full, reserve, steps);
-    let room = soft_room(&full, reserve, steps);
-    assert!(rt; !may_run && room == short(4, 4));
+    expect_room(rt, &full, &reserve, short(4, 4), &mut steps);
     Ok(())
 }
 
@@ -86,77 +69,120 @@ fn with_an_alarm<R: Abort, L: Ledger>(rt: &R, alloc: Global, blank: Blank) -> Re
     requires some { 0 < L.parts }
 {
     let mut steps: Steps<L> = Steps::new(blank);
-    let spans = [span(0, 7, 2, 5), span(7, 8, 1, 0)];
-    let table = RowTable::with_room(alloc, &spans, 3, 6)?;
-    let alarm = Sporadic {
-        name: Name::of(b"alarm").ok_or("no name")?,
-        wcet: 1,
-        separation: 8,
-        deadline: 2,
-    };
-    let reserve = Reserve::new(&[alarm]);
     let offers = [
         (7, 5, refused(7, 8, 7)),
         (7, 4, Answer::Accept),
         (8, 4, Answer::Accept),
         (8, 5, refused(8, 9, 8)),
     ];
-    for (dl, c, answer) in offers {
-        assert!(rt;
-            test(&table, &reserve, dl, c, &mut steps) == answer,
-            "{c} by {dl}"
-        );
-    }
-    let may_run = may_run_soft(&table, &reserve, &mut steps);
-    let room = soft_room(&table, &reserve, &mut steps);
-    assert!(rt; may_run && room == SoftRoom::Free(2));
+    let reserve = reserve_of(1, 2).ok_or("no name")?;
+    let spans = [span(0, 7, 2, 5), span(7, 8, 1, 0)];
+    let table = RowTable::with_room(alloc, &spans, 3, 6)?;
+    expect_offers(rt, &table, &reserve, &offers, &mut steps);
+    expect_room(rt, &table, &reserve, SoftRoom::Free(2), &mut steps);
     Ok(())
 }
 
 /// A span without work, and a task of four slots every 8 within 4, whose demand rises at 4, 12
-/// and 20.
+/// and 20. Such a task may take the other half of a span that is half full.
 fn with_a_rise<R: Abort, L: Ledger>(rt: &R, alloc: Global, blank: Blank) -> Result<(), Fail>
     requires name { blank.name ≡ L.name }
     requires parts { blank.parts ≡ L.parts }
     requires some { 0 < L.parts }
 {
     let mut steps: Steps<L> = Steps::new(blank);
-    let table = RowTable::with_room(alloc, &[span(0, 24, 0, 24)], 1, 1)?;
-    let radio = Sporadic {
-        name: Name::of(b"radio").ok_or("no name")?,
-        wcet: 4,
-        separation: 8,
-        deadline: 4,
-    };
-    let reserve = Reserve::new(&[radio]);
     let offers = [
         (11, 4, Answer::Accept),
         (11, 5, refused(12, 13, 12)),
         (13, 5, Answer::Accept),
     ];
+    let reserve = reserve_of(4, 4).ok_or("no name")?;
+    let table = RowTable::with_room(alloc, &[span(0, 24, 0, 24)], 1, 1)?;
+    expect_offers(rt, &table, &reserve, &offers, &mut steps);
+    expect_room(rt, &table, &reserve, SoftRoom::Free(1), &mut steps);
+    let half = RowTable::with_room(alloc, &[span(0, 24, 12, 12)], 1, 1)?;
+    expect_room(rt, &half, &reserve, short(24, 12), &mut steps);
+    Ok(())
+}
+
+/// A task of so many slots, every 8 within this deadline.
+fn reserve_of(wcet: u32, deadline: u32) -> Option<Reserve>
+    requires some { 1 ≤ wcet }
+    requires fits { wcet ≤ deadline }
+    requires close { deadline ≤ 8 }
+{
+    let task = Sporadic {
+        name: Name::of(b"alarm")?,
+        wcet,
+        separation: 8,
+        deadline,
+    };
+    Some(Reserve::new(&[task]))
+}
+
+/// The offers of so many slots by these times have these answers.
+fn expect_offers<R: Abort, T: SpareTable, L: Ledger>(
+    rt: &R,
+    table: &T,
+    reserve: &Reserve,
+    offers: &[(u64, u32, Answer)],
+    steps: &mut Steps<L>,
+)
+    requires { pos 0 ≤ℤ first_spare (spans_of_pairs (T.pairs table.now)) }
+{
     for (dl, c, answer) in offers {
         assert!(rt;
-            test(&table, &reserve, dl, c, &mut steps) == answer,
+            answer_of(table, reserve, *dl, *c, steps) == Some(*answer),
             "{c} by {dl}"
         );
     }
-    let may_run = may_run_soft(&table, &reserve, &mut steps);
-    let room = soft_room(&table, &reserve, &mut steps);
-    assert!(rt; may_run && room == SoftRoom::Free(1));
-    half_full_span(rt, alloc, &reserve, &mut steps)
 }
 
-/// A span half full, whose other half such a task may take.
-fn half_full_span<R: Abort, L: Ledger>(
+/// The answer to an offer, where its numbers are in their ranges.
+fn answer_of<T: SpareTable, L: Ledger>(
+    table: &T,
+    reserve: &Reserve,
+    dl: u64,
+    c: u32,
+    steps: &mut Steps<L>,
+) -> Option<Answer>
+    requires { pos 0 ≤ℤ first_spare (spans_of_pairs (T.pairs table.now)) }
+{
+    let end = table.last_end();
+    if dl <= table.time() || end < dl || 1 << 41 <= end || c < 1 || OFFER_LIMIT < c {
+        return None;
+    }
+    Some(test(table, reserve, dl, c, steps))
+}
+
+/// There is this room for soft work.
+fn expect_room<R: Abort, T: SpareTable, L: Ledger>(
     rt: &R,
-    alloc: Global,
+    table: &T,
+    reserve: &Reserve,
+    room: SoftRoom,
+    steps: &mut Steps<L>,
+) {
+    assert!(rt; room_of(table, reserve, steps) == Some(room));
+}
+
+/// The room for soft work, where both calls tell the same.
+fn room_of<T: SpareTable, L: Ledger>(
+    table: &T,
     reserve: &Reserve,
     steps: &mut Steps<L>,
-) -> Result<(), Fail> {
-    let table = RowTable::with_room(alloc, &[span(0, 24, 12, 12)], 1, 1)?;
-    let room = soft_room(&table, reserve, steps);
-    assert!(rt; room == short(24, 12));
-    Ok(())
+) -> Option<SoftRoom> {
+    let end = table.last_end();
+    if end <= table.time() || 1 << 41 <= end {
+        return None;
+    }
+    let may_run = may_run_soft(table, reserve, steps);
+    let room = soft_room(table, reserve, steps);
+    if may_run == matches!(room, SoftRoom::Free(_)) {
+        Some(room)
+    } else {
+        None
+    }
 }
 
 /// The answer that up to a time more is needed than there is room.

@@ -18,6 +18,7 @@ const OFFER: Key = Key::Firm(2);
 #[derive(Clone, Copy)]
 enum Call {
     Insert(Job),
+    Come(u64),
     Earliest(u64),
     Find(Key),
     FindReady(u64, Key),
@@ -39,6 +40,7 @@ fn answers_calls_in_a_row(rt: HostRuntime) -> Result<(), Fail> {
         (insert(OFFER, 0, 7, 4), None, 6),
         (Call::Earliest(0), some(ALARM, 0, 2, 1), 6),
         (Call::Ran(ALARM), None, 5),
+        (Call::Come(1), None, 5),
         (Call::Earliest(1), some(first(0), 0, 7, 2), 5),
         (Call::Ran(first(0)), None, 5),
         // the offer is due at the same time
@@ -47,6 +49,7 @@ fn answers_calls_in_a_row(rt: HostRuntime) -> Result<(), Fail> {
         (Call::Earliest(3), some(OFFER, 0, 7, 4), 4),
         (Call::Ran(OFFER), None, 4),
         (Call::Find(OFFER), some(OFFER, 0, 7, 3), 4),
+        (Call::Come(4), None, 4),
         (Call::FindReady(4, OFFER), some(OFFER, 0, 7, 3), 4),
         (Call::FindReady(4, second(0)), some(second(0), 2, 8, 1), 4),
         (Call::FindReady(4, first(1)), None, 4),
@@ -67,6 +70,18 @@ fn answers_calls_in_a_row(rt: HostRuntime) -> Result<(), Fail> {
         (Call::TakeReady(8, first(1)), some(first(1), 8, 15, 2), 3),
         (Call::Earliest(17), some(first(2), 16, 23, 2), 3),
         (Call::Earliest(30), some(first(2), 16, 23, 2), 3),
+        // all have come, of which not all may start at an earlier time
+        (Call::Come(30), None, 3),
+        (Call::Earliest(17), some(first(2), 16, 23, 2), 3),
+        (Call::Earliest(15), None, 3),
+        (insert(OFFER, 17, 21, 1), None, 4),
+        (Call::Earliest(16), some(first(2), 16, 23, 2), 4),
+        (Call::Earliest(17), some(OFFER, 17, 21, 1), 4),
+        (Call::Come(17), None, 4),
+        (Call::Ran(first(3)), None, 4),
+        (Call::Ran(OFFER), None, 3),
+        (Call::Take(first(2)), some(first(2), 16, 23, 2), 2),
+        (Call::Earliest(30), some(second(2), 18, 24, 1), 2),
     ];
     each_call::<HostRuntime, Brand>(&rt, rt.alloc(), &calls, Blank::new(1))
 }
@@ -98,6 +113,10 @@ fn answer_of<L: Ledger>(queue: &mut JobQueue, call: Call, steps: &mut Steps<L>) 
     match call {
         Call::Insert(job) => {
             insert_new(queue, job, steps);
+            None
+        }
+        Call::Come(now) => {
+            queue.come(now, steps);
             None
         }
         Call::Earliest(now) => queue.earliest(now, steps),

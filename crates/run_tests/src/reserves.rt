@@ -28,8 +28,7 @@ fn two_tasks() -> Option<Reserve>
 #[test]
 fn demand_is_counted_and_rises(rt: HostRuntime) -> Result<(), Fail> {
     let reserve = two_tasks().ok_or("no name")?;
-    assert!(rt; Reserve::new(&[]).is_empty());
-    assert!(rt; !reserve.is_empty());
+    assert!(rt; Reserve::new(&[]).is_empty() && !reserve.is_empty());
     // From r on: the demand by x, and where it rises next.
     let rows = [
         (0, 1, 0, 2),
@@ -39,14 +38,11 @@ fn demand_is_counted_and_rises(rt: HostRuntime) -> Result<(), Fail> {
         (4, 8, 3, 12),
     ];
     for (r, x, slots, later) in rows {
-        assert!(rt; reserve.demand(r, x) == slots, "from {r} by {x}");
+        let told = (reserve.demand(r, x), reserve.next_deadline(r, x));
+        let both = reserve.demand_and_rise(r, x);
         assert!(rt;
-            reserve.next_deadline(r, x) == Some(later),
-            "from {r} after {x}"
-        );
-        assert!(rt;
-            reserve.demand_and_rise(r, x) == (slots, Some(later)),
-            "from {r} at {x}"
+            told == (slots, Some(later)) && both == told,
+            "from {r} by {x}"
         );
     }
     Ok(())
@@ -64,8 +60,9 @@ fn arrivals_keep_their_separation(rt: HostRuntime) -> Result<(), Fail> {
         (1, 9, Ok(12), 3),
     ];
     for (index, t, answer, slots) in rows {
-        assert!(rt; reserve.arrive(index, t) == answer, "task {index} at {t}");
-        assert!(rt; reserve.demand(t, 20) == slots, "after task {index} at {t}");
+        let told = reserve.arrive(index, t);
+        let demand = reserve.demand(t, 20);
+        assert!(rt; (told, demand) == (answer, slots), "task {index} at {t}");
     }
     Ok(())
 }

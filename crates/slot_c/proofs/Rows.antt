@@ -1,7 +1,6 @@
 -- The rows of an executive in a box, of its parts and of its handle: all three own the same.
 use mathlib.Core.List.{[]}
 use mir.Syntax.{impl, tnil, dnil}
-use denote.RattleType.{RattleType}
 use denote.Signature.{Slot, plain}
 use Rattle.std.proofs.BoxSteps.Form.{Bx}
 use Rattle.std.specs.contracts.alloc.Global as heap

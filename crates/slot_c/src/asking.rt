@@ -1,14 +1,13 @@
 //! What is asked of an executive, which stays as it is.
 
-ghost use Rattle.std.specs.Prelude.{◌≡◌, ◌≢◌, ◌++◌, true, false, drop as beyond, length as count_of, slice_get, Some};
+ghost use Rattle.std.specs.Prelude.{◌≡◌, ◌≢◌, ◌≤◌, ◌++◌, true, false, drop as beyond, length as count_of, slice_get, Some};
 ghost use Rattle.slot_core.specs.declared.jobs.Key.{Key};
-ghost use Rattle.slot_core.specs.declared.jobs.Span.{Span};
 ghost use Rattle.slot_core.specs.Output.Texts.{key_text};
-ghost use Rattle.slot_core.specs.Runs.Spans.{spans_of};
 ghost use Rattle.key_texts.specs.KeyTexts.{sporadic_named};
+ghost use Rattle.slot_port.specs.declared.TheConstants.{KEY_TEXT_LIMIT};
 ghost use Rattle.slot_port.specs.declared.status.TheConstants.{CLOSED, OK};
 ghost use Rattle.slot_port.specs.Keys.{key_named};
-ghost use Rattle.slot_port.specs.Spans.{span_numbers};
+ghost use Rattle.slot_port.specs.Spans.{spans_in};
 ghost use Rattle.slot_port.specs.Statuses.{name_status, span_status, text_status};
 
 use crate::handle::Slots;
@@ -94,12 +93,8 @@ pub extern "C" fn ss_get_span(
     ensures silent { result ≢ OK → span.new ≡ span.old }
     ensures status { slots.old.open ≡ true → result
         ≡ span_status slots.old.handle.value place }
-    ensures tells { result ≡ OK → (s : Span)
-        → slice_get
-        (spans_of slots.old.handle.value.plan.cycle slots.old.handle.value.scene)
-        place
-        ≡ Some s
-        → span.new ≡ span_numbers s }
+    ensures tells { result ≡ OK
+        → slice_get (spans_in slots.old.handle.value) place ≡ Some span.new }
 {
     if !slots.open {
         return CLOSED;
@@ -133,6 +128,7 @@ pub extern "C" fn ss_key_text(
         ≡ key_text slots.old.handle.value.plan.tasks k ++ beyond length.new text.old }
     ensures tells { (k : Key) → key_named key.now ≡ Some k → result ≡ OK
         → length.new ≡ count_of (key_text slots.old.handle.value.plan.tasks k) }
+    ensures short { result ≡ OK → length.new ≤ KEY_TEXT_LIMIT }
 {
     if !slots.open {
         return CLOSED;

@@ -1,11 +1,11 @@
 //! An executive is opened and closed.
 
-ghost use Rattle.std.specs.Prelude.{◌≡◌, ◌≢◌, true, false, IfErr, IfOk};
+ghost use Rattle.std.specs.Prelude.{◌≡◌, ◌≢◌, true, false, IfErr, IfOk, MatchResult};
 ghost use Rattle.slot_core.specs.Keeping.Executives.{StandsFor};
-ghost use Rattle.slot_core.specs.Keeping.Plans.{IsPlan};
+ghost use Rattle.slot_core.specs.Keeping.Plans.{IsPlan, PlanParts};
 ghost use Rattle.slot_core.specs.Runs.Traces.{started};
 ghost use Rattle.table_codec.specs.Grammar.{Spells};
-ghost use Rattle.slot_port.specs.declared.status.TheConstants.{CLOSED, OK, STILL_OPEN};
+ghost use Rattle.slot_port.specs.declared.status.TheConstants.{CLOSED, MEMORY, OK, STILL_OPEN};
 ghost use Rattle.slot_port.specs.Faults.{IsRefused};
 
 use crate::handle::Slots;
@@ -26,7 +26,11 @@ pub extern "C" fn ss_open(slots: &mut Slots, alloc: Global, table: &[u8], fault:
     ensures plan { result ≡ OK → IsPlan slots.new.handle.value.plan }
     ensures spelled { result ≡ OK → Spells table.now slots.new.handle.value.plan }
     ensures started { result ≡ OK → StandsFor slots.new.handle.value started }
+    ensures every { (plan : PlanParts) → IsPlan plan → Spells table.now plan
+        → slots.old.open ≡ false → result ≢ MEMORY
+        → (result ≡ OK) × (slots.new.handle.value.plan ≡ plan) }
     ensures silent { result ≡ OK → fault.new ≡ fault.old }
+    ensures unsaid { slots.old.open ≡ true → fault.new ≡ fault.old }
     ensures refused { slots.old.open ≡ false → result ≢ OK
         → IsRefused table.now fault.old fault.new result }
 {
@@ -47,6 +51,8 @@ fn open_boxed(alloc: Global, table: &[u8], fault: &mut Told) -> Result<Box<Exec<
     ensures plan { IfOk result (λ exec. IsPlan exec.value.plan) }
     ensures spelled { IfOk result (λ exec. Spells table.now exec.value.plan) }
     ensures started { IfOk result (λ exec. StandsFor exec.value started) }
+    ensures every { (plan : PlanParts) → IsPlan plan → Spells table.now plan
+        → MatchResult result (λ exec. exec.value.plan ≡ plan) (λ status. status ≡ MEMORY) }
     ensures silent { IfOk result (λ exec. fault.new ≡ fault.old) }
     ensures refused { IfErr result (IsRefused table.now fault.old fault.new) }
 {
@@ -63,6 +69,7 @@ pub extern "C" fn ss_close(slots: &mut Slots, alloc: Global) -> u32
     ensures valid { slots.new.open ≡ slots.new.handle.there }
     ensures closes { slots.new.open ≡ false }
     ensures closed { slots.old.open ≡ false → result ≡ CLOSED }
+    ensures stays { slots.old.open ≡ false → slots.new ≡ slots.old }
     ensures done { slots.old.open ≡ true → result ≡ OK }
 {
     if !slots.open {

@@ -27,7 +27,7 @@ use Rattle.slot_core.specs.Runs.Scenes.{Scene, horizon, scene_of}
 use Rattle.slot_core.specs.Runs.Traces.{IsDue, IsLegal, MayCome, arrive, slot, told_of_slot, trace}
 use Rattle.slot_core.specs.Sets.Ranges.{is_between}
 use Rattle.slot_facts.proofs.Offers.Answers.{short-from_no_room}
-use Rattle.slot_facts.proofs.Offers.Exact.{offered-from_due}
+use Rattle.slot_facts.proofs.Offers.Exact.{offered-from_due, not_a_slot}
 use Rattle.slot_facts.proofs.Sets.Ranges.{bounds}
 use Rattle.arrival_replay.specs.Replays.{StandsBefore, entries_before, entry_of, history_before}
 use Rattle.run_outcome.specs.Writings.{Writing, in_whole}
@@ -56,10 +56,6 @@ few-from_arrival set cycle h row slots within r a (Soft c) may e = absurd (cc e)
 few-from_arrival set cycle h row slots within r a (Sporadic i) may e = absurd (cc e)
 few-from_arrival set cycle h row slots within r a (Done k) may e = absurd (cc e)
 few-from_arrival set cycle h row slots within r a (Withdraw f) may e = absurd (cc e)
-
-not_a_slot : (row slots within : ℕ) (a : FirmAnswer) (ran : Ran) → FirmEntry row slots within a ≡ told_of_slot ran → ⊥
-not_a_slot row slots within a RanIdle e = cc e
-not_a_slot row slots within a (RanKey key) e = cc e
 
 few-from_due : (set : TaskSet) (cycle : ℕ) (h : History) (row slots within : ℕ) (a : FirmAnswer) → IsDue set cycle h (FirmEntry row slots within a) → slots ≤ OFFER_LIMIT
 few-from_due set cycle h row slots within a (arrive r event, may, e) = few-from_arrival set cycle h row slots within r a event may e

@@ -94,6 +94,7 @@ work-refused {Y = Y} held faults blamed written failed old new out words command
       writes = λ files told w is. put_of_nothing Y e w (written out) (λ evidence. not_change may e evidence reading.refuses);
       early = λ files told other is. refl;
       counts = λ is. absurd (not_write may e reading.refuses (Err_of e WriteFault is));
+      reads_well = tt;
       output = λ leaves. refl;
       files = λ is. absurd (not_usage may e reading.refuses (Err_of e Usage is));
     }
@@ -215,8 +216,8 @@ parts-of_whole written failed parts text (Err (NoRow row)) before after writing 
 parts-of_whole written failed parts text (Err (NotCycleEnd cycle)) before after writing = absurd writing
 
 -- where what is due is written the work ends so
-pub work-writing : {S T X : Type 0} (held : S → Option Held) (faults : S → ℕ) (blamed : S → Option (List ℕ)) (written : T → Option (List ℕ)) (failed : T → ℕ) (old new : S) (out_old out_new : T) (words : List (List ℕ)) (command : Command) (w : Writing) (result : Outcome X) → ((files : Held) → held old ≡ Some files → writing_of files words command ≡ Ok w) → IsPartWriting written failed (writes_in_parts command.output) w result out_old out_new → IsWork held faults blamed written failed old new out_old out_new words (Some command) result
-work-writing {X = X} held faults blamed written failed old new out_old out_new words command w (Ok done) due (rest, is_rest, put) =
+pub work-writing : {S T X : Type 0} (held : S → Option Held) (faults : S → ℕ) (blamed : S → Option (List ℕ)) (written : T → Option (List ℕ)) (failed : T → ℕ) (old new : S) (out_old out_new : T) (words : List (List ℕ)) (command : Command) (w : Writing) (result : Outcome X) → ((files : Held) → held old ≡ Some files → writing_of files words command ≡ Ok w) → IsPartWriting written failed (writes_in_parts command.output) w result out_old out_new → faults new ≡ faults old → IsWork held faults blamed written failed old new out_old out_new words (Some command) result
+work-writing {X = X} held faults blamed written failed old new out_old out_new words command w (Ok done) due (rest, is_rest, put) same =
     record {
       answers = λ files told. (w.front ++ rest, whole-rest (writing_of files words command) w rest (due files told) is_rest);
       usage = ((λ is. cc), (λ none. cc));
@@ -224,10 +225,11 @@ work-writing {X = X} held faults blamed written failed old new out_old out_new w
       writes = λ files told other is. put-due {X = X} (Ok done) (writing_of files words command) w other (written out_old) (written out_new) (due files told) is (subst (λ t. Appends (written out_old) (written out_new) t) (sym (ap (all_after w.front) is_rest)) put);
       early = λ files told e is. absurd (no_refusal (writing_of files words command) w e (due files told) is);
       counts = λ is. cc;
+      reads_well = same;
       output = tt;
       files = λ is. cc;
     }
-work-writing {X = X} held faults blamed written failed old new out_old out_new words command w (Err WriteFault) due writing =
+work-writing {X = X} held faults blamed written failed old new out_old out_new words command w (Err WriteFault) due writing same =
     record {
       answers = λ files told. inr (inr (tt, late (writing_of files words command) w (due files told)));
       usage = ((λ is. cc), (λ none. cc));
@@ -235,10 +237,11 @@ work-writing {X = X} held faults blamed written failed old new out_old out_new w
       writes = λ files told other is. put-due {X = X} (Err WriteFault) (writing_of files words command) w other (written out_old) (written out_new) (due files told) is writing.0;
       early = λ files told e is. absurd (no_refusal (writing_of files words command) w e (due files told) is);
       counts = λ is. writing.1;
+      reads_well = tt;
       output = λ leaves. cc;
       files = λ is. cc;
     }
-work-writing {X = X} held faults blamed written failed old new out_old out_new words command w (Err Memory) due writing =
+work-writing {X = X} held faults blamed written failed old new out_old out_new words command w (Err Memory) due writing same =
     record {
       answers = λ files told. inr (inl refl);
       usage = ((λ is. cc), (λ none. cc));
@@ -246,10 +249,11 @@ work-writing {X = X} held faults blamed written failed old new out_old out_new w
       writes = λ files told other is. put-due {X = X} (Err Memory) (writing_of files words command) w other (written out_old) (written out_new) (due files told) is (front_or_same written (writes_in_parts command.output) w out_old out_new writing);
       early = λ files told e is. absurd (no_refusal (writing_of files words command) w e (due files told) is);
       counts = λ is. cc;
+      reads_well = tt;
       output = λ leaves. part_or_same (writes_in_parts command.output) (Appends (written out_old) (written out_new) w.front) out_old out_new writing leaves;
       files = λ is. cc;
     }
-work-writing {X = X} held faults blamed written failed old new out_old out_new words command w (Err (NoChange evidence)) due (in_parts, refused, put) =
+work-writing {X = X} held faults blamed written failed old new out_old out_new words command w (Err (NoChange evidence)) due (in_parts, refused, put) same =
     record {
       answers = λ files told. inl (whole-refused (writing_of files words command) w evidence (due files told) refused);
       usage = ((λ is. cc), (λ none. cc));
@@ -257,21 +261,22 @@ work-writing {X = X} held faults blamed written failed old new out_old out_new w
       writes = λ files told other is. put-due {X = X} (Err (NoChange evidence)) (writing_of files words command) w other (written out_old) (written out_new) (due files told) is put;
       early = λ files told e is. absurd (no_refusal (writing_of files words command) w e (due files told) is);
       counts = λ is. cc;
+      reads_well = tt;
       output = λ leaves. absurd (in_parts_not_whole (writes_in_parts command.output) in_parts leaves);
       files = λ is. cc;
     }
-work-writing {X = X} held faults blamed written failed old new out_old out_new words command w (Err Usage) due writing = absurd writing
-work-writing {X = X} held faults blamed written failed old new out_old out_new words command w (Err (Unreadable file)) due writing = absurd writing
-work-writing {X = X} held faults blamed written failed old new out_old out_new words command w (Err (TooLarge file)) due writing = absurd writing
-work-writing {X = X} held faults blamed written failed old new out_old out_new words command w (Err (BadTasks fault)) due writing = absurd writing
-work-writing {X = X} held faults blamed written failed old new out_old out_new words command w (Err (Infeasible window)) due writing = absurd writing
-work-writing {X = X} held faults blamed written failed old new out_old out_new words command w (Err (BadTable fault)) due writing = absurd writing
-work-writing {X = X} held faults blamed written failed old new out_old out_new words command w (Err (BadArrivals fault)) due writing = absurd writing
-work-writing {X = X} held faults blamed written failed old new out_old out_new words command w (Err (NotVerified reason)) due writing = absurd writing
-work-writing {X = X} held faults blamed written failed old new out_old out_new words command w (Err (BadSecond fault)) due writing = absurd writing
-work-writing {X = X} held faults blamed written failed old new out_old out_new words command w (Err (SecondInfeasible window)) due writing = absurd writing
-work-writing {X = X} held faults blamed written failed old new out_old out_new words command w (Err (NoRow row)) due writing = absurd writing
-work-writing {X = X} held faults blamed written failed old new out_old out_new words command w (Err (NotCycleEnd cycle)) due writing = absurd writing
+work-writing {X = X} held faults blamed written failed old new out_old out_new words command w (Err Usage) due writing same = absurd writing
+work-writing {X = X} held faults blamed written failed old new out_old out_new words command w (Err (Unreadable file)) due writing same = absurd writing
+work-writing {X = X} held faults blamed written failed old new out_old out_new words command w (Err (TooLarge file)) due writing same = absurd writing
+work-writing {X = X} held faults blamed written failed old new out_old out_new words command w (Err (BadTasks fault)) due writing same = absurd writing
+work-writing {X = X} held faults blamed written failed old new out_old out_new words command w (Err (Infeasible window)) due writing same = absurd writing
+work-writing {X = X} held faults blamed written failed old new out_old out_new words command w (Err (BadTable fault)) due writing same = absurd writing
+work-writing {X = X} held faults blamed written failed old new out_old out_new words command w (Err (BadArrivals fault)) due writing same = absurd writing
+work-writing {X = X} held faults blamed written failed old new out_old out_new words command w (Err (NotVerified reason)) due writing same = absurd writing
+work-writing {X = X} held faults blamed written failed old new out_old out_new words command w (Err (BadSecond fault)) due writing same = absurd writing
+work-writing {X = X} held faults blamed written failed old new out_old out_new words command w (Err (SecondInfeasible window)) due writing same = absurd writing
+work-writing {X = X} held faults blamed written failed old new out_old out_new words command w (Err (NoRow row)) due writing same = absurd writing
+work-writing {X = X} held faults blamed written failed old new out_old out_new words command w (Err (NotCycleEnd cycle)) due writing same = absurd writing
 
 -- words that write no command are refused for them
 pub work-usage : {S T X : Type 0} (held : S → Option Held) (faults : S → ℕ) (blamed : S → Option (List ℕ)) (written : T → Option (List ℕ)) (failed : T → ℕ) (files : S) (out : T) (words : List (List ℕ)) → IsWork {X = X} held faults blamed written failed files files out out words None (Err Usage)
@@ -283,6 +288,7 @@ work-usage held faults blamed written failed files out words =
       writes = λ held told w is. cc;
       early = λ held told e is. refl;
       counts = λ is. cc;
+      reads_well = tt;
       output = λ leaves. refl;
       files = λ is. refl;
     }

@@ -53,7 +53,7 @@ abbrev pub HasFrontAtMost : Outcome Writing → Option (List ℕ) → Option (Li
 HasFrontAtMost (Ok w) before after = (after ≡ before) ⊎ Appends before after w.front
 HasFrontAtMost (Err e) before after = after ≡ before
 
--- a change of plan is refused: no cycle ends there, and nothing is written; or there is no room, and
+-- a change of plan is refused: no cycle ends there, and nothing is written, or there is no room and
 -- the front of what is due is written
 abbrev pub IsRefusedChange :
     List (List ℕ) → Held → Option (List ℕ) → Option (List ℕ) → Type 0

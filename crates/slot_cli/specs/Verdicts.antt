@@ -27,7 +27,8 @@ set_of_run held words =
 -- a run that is refused since the set that is made does not fit: the set, and what the window that
 -- fails shows
 pub record IsInfeasibleRun (words : List (List ℕ)) (held : Held) (made : Outcome TaskSet)
-    (refusal : Refusal) (window : Window) (err_before err_after : Option (List ℕ)) (faults_before faults_after : ℕ)
+    (refusal : Refusal) (window : Window) (err_before err_after : Option (List ℕ))
+    (faults_before faults_after : ℕ)
     : Type 0 where
   -- the set, before the cycle test
   pub set : TaskSet

@@ -1,5 +1,5 @@
 -- What the work of a command answers.
-use Rattle.std.specs.Prelude.{◌≡◌, ◌↔◌, ℕ, true, List, Option, None, Some, Ok, Err, IfErr}
+use Rattle.std.specs.Prelude.{◌≡◌, ◌↔◌, ℕ, true, List, Option, None, Some, Ok, Err, IfOk, IfErr}
 use Rattle.slot_core.specs.Calls.Counts.{Rose}
 use Rattle.slot_io.specs.Files.{Held}
 use Rattle.run_outcome.specs.declared.file.File.{File}
@@ -34,7 +34,9 @@ pub record IsWork {S T X : Type 0} (held : S → Option Held) (faults : S → �
       → writing_for files words command ≡ Err e → out_after ≡ out_before
   -- a write that fails is counted
   pub counts : result ≡ Err WriteFault → Rose (failed out_before) (failed out_after)
-  -- what stays untouched: the output on a refusal that leaves it, and the files on one for the words
+  -- where it is done no read has failed
+  pub reads_well : IfOk result (λ _. faults files_after ≡ faults files_before)
+  -- what stays untouched: the output on a refusal that leaves it, the files on one for the words
   pub output : IfErr result (λ e. leaves_output (in_parts command) e ≡ true
       → out_after ≡ out_before)
   pub files : result ≡ Err Usage → files_after ≡ files_before

@@ -42,8 +42,8 @@ use work::work;
 /// Does what the words ask for: reads the files that they name, writes to `out`, and puts one line
 /// on `err` where it ends otherwise than Done. The order of work is that of `expected`: the plan is
 /// read and tested, then a second one, then the arrivals are read, then what is asked of them is
-/// checked, as that a recorded trace is lawful, then the text is written. All memory is taken before
-/// the first put on `out`; of a text in two parts, that of each part before its first put.
+/// checked, as that a recorded trace is lawful, then the text is written. All memory is taken
+/// before the first put on `out`; of a text in two parts, that of each part before its first put.
 pub fn run<F: Files, K: Sink, E: Sink>(
     alloc: Global,
     words: &Words,
@@ -88,6 +88,7 @@ pub fn run<F: Files, K: Sink, E: Sink>(
 
     // What stays untouched.
     ensures done_says_nothing { result ≡ Status.Done → err.new ≡ err.old }
+    ensures done_reads_well { result ≡ Status.Done → F.faults files.new ≡ F.faults files.old }
     ensures usage_touches_nothing { result ≡ Status.Usage
         → (files.new ≡ files.old) × (out.new ≡ out.old) }
     ensures refusal_writes_nothing { leaves_output_at (in_parts (command_of words.now)) result ≡ true

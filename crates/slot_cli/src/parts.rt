@@ -137,8 +137,8 @@ fn tell_offer<K: Sink>(
     }
 }
 
-/// Writes the trace of the plan with these arrivals, and then the run up to the time `until` after a
-/// change to the second plan. Both parts take their memory before their first put.
+/// Writes the trace of the plan with these arrivals, and then the run up to the time `until` after
+/// a change to the second plan. Both parts take their memory before their first put.
 pub(crate) fn change_plan<K: Sink>(
     alloc: Global,
     plan: Plan,

@@ -44,7 +44,8 @@ RemembersSpans spans reserve time room =
 
 -- the spans may be searched in this slot: the last one ends after it and before 2^41, and this is
 -- remembered
-pub record MaySearch (spans : List Span) (reserve : Reserved) (time : ℕ) (kept : Room) : Type 0 where
+pub record MaySearch
+    (spans : List Span) (reserve : Reserved) (time : ℕ) (kept : Room) : Type 0 where
   pub after : time < last_end time spans
   pub near : last_end time spans < 2 ^ 41
   pub room : RemembersSpans spans reserve time kept

@@ -46,7 +46,7 @@ fn insert_first<L: Ledger>(alloc: Global, plan: &Plan, blank: Blank) -> Result<J
 }
 
 /// Time goes on by one slot. At the end of a cycle the plan's spans and jobs of one more cycle come
-/// in; that it has ended is told.
+/// in; that it has ended is told. The jobs that may start then are put in order.
 pub(crate) fn pass<T: SpareTable, L: Ledger>(
     plan: &Plan,
     table: &mut T,
@@ -81,13 +81,15 @@ pub(crate) fn pass<T: SpareTable, L: Ledger>(
     if time % cycle == 0 {
         table.append_cycle(plan.spans(), steps);
         insert_cycle(queue, plan, time / cycle + 2, steps);
+        queue.come(time, steps);
         return true;
     }
+    queue.come(time, steps);
     false
 }
 
 /// The plan's jobs of this cycle come in, in the order in which they start.
-fn insert_cycle<L: Ledger>(queue: &mut JobQueue, plan: &Plan, n: u64, steps: &mut Steps<L>)
+pub fn insert_cycle<L: Ledger>(queue: &mut JobQueue, plan: &Plan, n: u64, steps: &mut Steps<L>)
     requires few { n ≤ CYCLES_LIMIT }
     requires room { length queue.old.jobs + length plan.now.jobs ≤ queue.old.capacity }
     requires apart { AreApart (queue.old.jobs ++ jobs_in_cycle plan.now n) }

@@ -14,4 +14,5 @@ mod shown;
 mod sporadic_arrivals;
 mod withdrawals;
 
+pub use cycles::insert_cycle;
 pub use exec::Exec;

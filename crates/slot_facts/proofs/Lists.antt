@@ -1,6 +1,7 @@
 -- Lists: members, tests, sums, and lists with the same items.
 pub mod Apart
 pub mod ApartKeys
+pub mod Changed
 pub mod FirstSome
 pub mod Maps
 pub mod Matched

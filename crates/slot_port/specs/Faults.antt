@@ -8,8 +8,8 @@ use Rattle.slot_port.specs.declared.numbers.Told.{Told}
 use Rattle.slot_port.specs.declared.status.TheConstants.{MEMORY, BAD_TABLE}
 use Rattle.slot_port.specs.Answers.{one_number, three_numbers}
 
--- the number of a fault, and what it tells: a count of bytes, a version, the number of the fault of
--- a task set, a window, two counts, or a place
+-- the number of a fault, and of what it tells up to three numbers: a count of bytes, a version, the
+-- number of the fault of a task set, a window, two counts, or a place
 abbrev pub fault_numbers : TableFault → Told
 fault_numbers Memory = one_number 1 0
 fault_numbers (Short at) = one_number 2 at

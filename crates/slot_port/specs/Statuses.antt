@@ -1,5 +1,5 @@
 -- The statuses of the calls, by cases.
-use Rattle.std.specs.Prelude.{ℕ, Bool, false, ◌&&◌, List, length, nat_le, nat_lt, if◌then◌else◌, Option, is_some}
+use Rattle.std.specs.Prelude.{ℕ, Bool, false, ◌&&◌, List, length, nat_le, nat_lt, if◌then◌else◌, is_some}
 use Rattle.std.specs.Option.{option_map_or}
 use Rattle.slot_core.specs.declared.events.Event.{Event}
 use Rattle.slot_core.specs.declared.jobs.Key.{Key}

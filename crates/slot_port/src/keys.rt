@@ -6,6 +6,7 @@ ghost use Rattle.slot_core.specs.Offline.OfflineJobs.{tasks_of};
 ghost use Rattle.slot_core.specs.Output.Texts.{key_text as text_of_key};
 ghost use Rattle.slot_core.specs.Runs.Arrivals.{key_in_set};
 ghost use Rattle.key_texts.specs.KeyTexts.{sporadic_named};
+ghost use Rattle.slot_port.specs.declared.TheConstants.{KEY_TEXT_LIMIT};
 ghost use Rattle.slot_port.specs.declared.status.TheConstants.{OK};
 ghost use Rattle.slot_port.specs.Keys.{key_named};
 ghost use Rattle.slot_port.specs.Statuses.{name_status, text_status};
@@ -19,7 +20,8 @@ use slot_exec::Exec;
 use trace_text::key_text as line_of_key;
 
 /// Writes the text of a key, as a trace has it, to the front of `text`, and tells its length: at
-/// most 70 bytes. `BAD_NUMBER` where the numbers name no key of the set or the text has no room.
+/// most `KEY_TEXT_LIMIT` bytes. `BAD_NUMBER` where the numbers name no key of the set or the text
+/// has no room.
 pub fn key_text<T: SpareTable>(
     exec: &Exec<T>,
     key: KeyNumbers,
@@ -33,6 +35,7 @@ pub fn key_text<T: SpareTable>(
         → text.new ≡ text_of_key exec.now.plan.tasks k ++ drop written.new text.old }
     ensures tells { (k : Key) → key_named key ≡ Some k → result ≡ OK
         → written.new ≡ length (text_of_key exec.now.plan.tasks k) }
+    ensures short { result ≡ OK → written.new ≤ KEY_TEXT_LIMIT }
 {
     let Some(key) = key_named(key) else {
         return BAD_NUMBER;

@@ -4,11 +4,11 @@
 //! or a row does not rise, the call says so and changes nothing. All times are in slots.
 #![tactic(auto)]
 
-pub mod arrivals;
-pub mod keys;
+mod arrivals;
+mod keys;
 pub mod numbers;
-pub mod opening;
-pub mod passing;
+mod opening;
+mod passing;
 pub mod status;
 
 pub use arrivals::{done, firm, soft, sporadic, withdraw};
@@ -17,6 +17,7 @@ pub use numbers::{KeyNumbers, SpanNumbers, Told};
 pub use opening::open;
 pub use passing::{slot, span};
 pub use status::{AT_END, BAD_NUMBER, BAD_ROW, BAD_TABLE, CLOSED, MEMORY, OK, STILL_OPEN, Status};
+use trace_text::KEY_LIMIT;
 
 /// The time at which no more slot passes.
 pub const TIME_LIMIT: u64 = 4_294_967_296;
@@ -26,3 +27,6 @@ pub const INDEX_LIMIT: u32 = 65_535;
 
 /// The greatest index of a sporadic task that a key has room for.
 pub const SPORADIC_INDEX_LIMIT: u32 = 255;
+
+/// The most bytes of the text of a key.
+pub const KEY_TEXT_LIMIT: usize = KEY_LIMIT;

@@ -80,7 +80,7 @@ fn three_numbers(answer: u32, first: u64, second: u64, third: u64) -> Told
 }
 
 /// The answer to soft work: 0 taken; 1 full, with the limit.
-pub fn soft_numbers(answer: Soft) -> Told
+pub(crate) fn soft_numbers(answer: Soft) -> Told
     ensures { result ≡ soft_numbers answer }
 {
     match answer {
@@ -91,7 +91,7 @@ pub fn soft_numbers(answer: Soft) -> Told
 
 /// The answer to a firm task: 0 accepted; 1 late; 2 far; 3 no room, with the time, the need and the
 /// room.
-pub fn firm_numbers(answer: Firm) -> Told
+pub(crate) fn firm_numbers(answer: Firm) -> Told
     ensures { result ≡ firm_numbers answer }
 {
     match answer {
@@ -104,7 +104,7 @@ pub fn firm_numbers(answer: Firm) -> Told
 
 /// The answer to a sporadic arrival: 0 taken, with its deadline; 1 too soon, with its next legal
 /// arrival.
-pub fn sporadic_numbers(answer: Spo) -> Told
+pub(crate) fn sporadic_numbers(answer: Spo) -> Told
     ensures { result ≡ sporadic_numbers answer }
 {
     match answer {
@@ -114,7 +114,7 @@ pub fn sporadic_numbers(answer: Spo) -> Told
 }
 
 /// The answer to an early end: 0 freed, with the slots; 1 not running.
-pub fn done_numbers(answer: Done) -> Told
+pub(crate) fn done_numbers(answer: Done) -> Told
     ensures { result ≡ done_numbers answer }
 {
     match answer {
@@ -124,7 +124,7 @@ pub fn done_numbers(answer: Done) -> Told
 }
 
 /// The answer to a withdrawal: 0 freed, with the slots; 1 no job.
-pub fn gone_numbers(answer: Gone) -> Told
+pub(crate) fn gone_numbers(answer: Gone) -> Told
     ensures { result ≡ gone_numbers answer }
 {
     match answer {
@@ -134,7 +134,7 @@ pub fn gone_numbers(answer: Gone) -> Told
 }
 
 /// The fault of a table: its number, and up to three of the numbers that it tells.
-pub fn fault_numbers(fault: TableFault) -> Told
+pub(crate) fn fault_numbers(fault: TableFault) -> Told
     ensures { result ≡ fault_numbers fault }
 {
     match fault {
@@ -157,7 +157,7 @@ pub fn fault_numbers(fault: TableFault) -> Told
 }
 
 /// A span in numbers.
-pub fn span_numbers(span: Span) -> SpanNumbers
+pub(crate) fn span_numbers(span: Span) -> SpanNumbers
     ensures { result ≡ span_numbers span }
 {
     SpanNumbers {
@@ -169,7 +169,7 @@ pub fn span_numbers(span: Span) -> SpanNumbers
 }
 
 /// What ran in numbers, none of which is above 0 where no job did.
-pub fn ran_numbers(ran: Ran) -> KeyNumbers
+pub(crate) fn ran_numbers(ran: Ran) -> KeyNumbers
     ensures { result ≡ ran_numbers ran }
 {
     match ran {
@@ -179,7 +179,7 @@ pub fn ran_numbers(ran: Ran) -> KeyNumbers
 }
 
 /// A key in numbers.
-pub fn key_numbers(key: Key) -> KeyNumbers
+pub(crate) fn key_numbers(key: Key) -> KeyNumbers
     ensures { result ≡ key_numbers key }
 {
     match key {
@@ -205,7 +205,7 @@ fn named(kind: u32, group: u32, task: u32, number: u64) -> KeyNumbers
 }
 
 /// The key that these numbers name, where they name one.
-pub fn key_named(key: KeyNumbers) -> Option<Key>
+pub(crate) fn key_named(key: KeyNumbers) -> Option<Key>
     ensures { result ≡ key_named key }
 {
     match key.kind {

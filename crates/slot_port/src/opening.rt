@@ -1,8 +1,8 @@
 //! An executive from the bytes of a table.
 
-ghost use Rattle.std.specs.Prelude.{◌≡◌, ◌≢◌, Ok, IfOk, IfErr};
+ghost use Rattle.std.specs.Prelude.{◌≡◌, ◌≢◌, Ok, IfOk, IfErr, MatchResult};
 ghost use Rattle.slot_core.specs.Keeping.Executives.{StandsFor};
-ghost use Rattle.slot_core.specs.Keeping.Plans.{IsPlan};
+ghost use Rattle.slot_core.specs.Keeping.Plans.{IsPlan, PlanParts};
 ghost use Rattle.slot_core.specs.Runs.Traces.{started};
 ghost use Rattle.table_codec.specs.Grammar.{Spells};
 ghost use Rattle.table_faults.specs.declared.faults.TableFault.TheVariants.{Memory as NoMemory};
@@ -24,6 +24,8 @@ pub fn open<T: SpareTable>(alloc: Global, table: &[u8], fault: &mut Told) -> Res
     ensures plan { IfOk result (λ exec. IsPlan exec.plan) }
     ensures spelled { IfOk result (λ exec. Spells table.now exec.plan) }
     ensures started { IfOk result (λ exec. StandsFor exec started) }
+    ensures every { (plan : PlanParts) → IsPlan plan → Spells table.now plan
+        → MatchResult result (λ exec. exec.plan ≡ plan) (λ status. status ≡ MEMORY) }
     ensures silent { IfOk result (λ exec. fault.new ≡ fault.old) }
     ensures refused { IfErr result (IsRefused table.now fault.old fault.new) }
 {

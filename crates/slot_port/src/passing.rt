@@ -1,7 +1,6 @@
 //! Slots that pass, and the spans ahead.
 
 ghost use Rattle.std.specs.Prelude.{◌≡◌, ◌≢◌, ◌<◌, ◌^◌, length, slice_get, Some};
-ghost use Rattle.slot_core.specs.declared.jobs.Span.{Span};
 ghost use Rattle.slot_core.specs.Keeping.Executives.{Does};
 ghost use Rattle.slot_core.specs.Runs.Choice.{choice};
 ghost use Rattle.slot_core.specs.Runs.Spans.{spans_of};
@@ -9,7 +8,7 @@ ghost use Rattle.slot_core.specs.Runs.Traces.{slot as slot_passes, told_of_slot}
 ghost use Rattle.slot_port.specs.declared.status.TheConstants.{OK};
 ghost use Rattle.slot_port.specs.Calls.{Passes, ran_in};
 ghost use Rattle.slot_port.specs.Keys.{ran_numbers};
-ghost use Rattle.slot_port.specs.Spans.{span_numbers};
+ghost use Rattle.slot_port.specs.Spans.{spans_in};
 ghost use Rattle.slot_port.specs.Statuses.{slot_status, span_status};
 
 use crate::TIME_LIMIT;
@@ -40,9 +39,7 @@ pub fn slot<T: SpareTable>(exec: &mut Exec<T>, ran: &mut KeyNumbers) -> Status
 pub fn span<T: SpareTable>(exec: &Exec<T>, place: u32, span: &mut SpanNumbers) -> Status
     ensures status { result ≡ span_status exec.now place }
     ensures silent { result ≢ OK → span.new ≡ span.old }
-    ensures tells { result ≡ OK → (s : Span)
-        → slice_get (spans_of exec.now.plan.cycle exec.now.scene) place ≡ Some s
-        → span.new ≡ span_numbers s }
+    ensures tells { result ≡ OK → slice_get (spans_in exec.now) place ≡ Some span.new }
 {
     if place >= exec.span_count() {
         return BAD_NUMBER;

@@ -1,6 +1,6 @@
 //! The statuses of the calls.
 
-/// How a call ended. Where it is not `OK`, nothing has changed.
+/// How a call ended. Where it is not `OK`, nothing has changed but the fault that opening tells.
 pub type Status = u32;
 
 /// The call did what it says.
@@ -15,7 +15,7 @@ pub const BAD_TABLE: Status = 2;
 /// The row of an arrival is not above the row of the last one.
 pub const BAD_ROW: Status = 3;
 
-/// A number, an index or a key is out of its range.
+/// A number, an index, a key or a name is none that may come, or a text has no room.
 pub const BAD_NUMBER: Status = 4;
 
 /// The time is at its limit.

@@ -3,7 +3,7 @@
 ghost use Rattle.std.specs.Prelude.{◌≡◌, ◌≤◌, [], length, map};
 ghost use Rattle.std.specs.List.{list_any};
 ghost use Rattle.std.specs.Str.{bytes_eq};
-ghost use Rattle.slot_core.specs.declared.TheConstants.{TASK_LIMIT};
+ghost use Rattle.slot_core.specs.declared.TheConstants.{SPORADIC_LIMIT, TASK_LIMIT};
 ghost use Rattle.slot_core.specs.Sets.Faults.{graph_names_fault, names_fault};
 ghost use Rattle.source_check.specs.Checks.{AreFew, Tells};
 
@@ -38,7 +38,7 @@ fn check_task_names(graph: u16, tasks: &[Task]) -> Result<(), TaskFault>
 
 /// Whether the sporadic tasks have distinct names.
 pub(crate) fn check_sporadic_names(sporadics: &[Sporadic]) -> Result<(), TaskFault>
-    requires { length sporadics.now ≤ 255 }
+    requires { length sporadics.now ≤ SPORADIC_LIMIT }
     ensures { Tells result (names_fault Part.Sporadic [] 0 (map (λ s. s.name) sporadics.now)) }
 {
     for (place, sporadic) in sporadics.iter().enumerate() {

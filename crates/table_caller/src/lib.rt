@@ -48,6 +48,7 @@ pub fn pass<L: Ledger>(exec: &mut Exec<ChainTable>, count: u32, steps: &mut Step
 pub fn first_span<L: Ledger>(exec: &Exec<ChainTable>, steps: &mut Steps<L>) -> Span
     ensures { slice_get (spans_of exec.now.plan.cycle exec.now.scene) 0 ≡ Some result }
 {
+    // (so that the prover knows what every executive is)
     let _count = exec.span_count();
     exec.span(0, steps)
 }

@@ -1,3 +1,4 @@
+pub mod Extents
 pub mod RunLines
 pub mod TakerLaws
 pub mod Takers

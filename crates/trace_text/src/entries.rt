@@ -3,7 +3,9 @@
 ghost use Rattle.std.specs.Prelude.{◌≡◌, ◌≤◌, ◌+◌, [], ◌++◌, true, length};
 ghost use Rattle.slot_core.specs.Runs.Arrivals.{key_in_set, what_in_set};
 ghost use Rattle.slot_core.specs.Output.Texts.{entry_line, key_text, spans_text};
+ghost use Rattle.trace_text.specs.declared.TheConstants.{KEY_LIMIT, LINE_LIMIT, SPANS_LIMIT};
 
+use crate::extents::{Anew, ExtentWriter};
 use crate::keys::push_key;
 use crate::line::Line;
 use crate::spans::push_shown;
@@ -16,12 +18,17 @@ pub fn entry_line(entry: &Entry, tasks: &TaskSet) -> Line
     ensures { result ≡ entry_line tasks.now entry.now }
 {
     let mut line = Line::new();
-    push_entry(&mut line, entry, tasks);
+    push_entry(&mut line, &mut Anew, entry, tasks);
     line
 }
 
 /// Writes the line of an entry into an empty line.
-pub(crate) fn push_entry(line: &mut Line, entry: &Entry, tasks: &TaskSet)
+pub(crate) fn push_entry<W: ExtentWriter>(
+    line: &mut Line,
+    writer: &mut W,
+    entry: &Entry,
+    tasks: &TaskSet,
+)
     requires empty { line.old ≡ [] }
     requires named { what_in_set tasks.now entry.now.what ≡ true }
     ensures { line.new ≡ entry_line tasks.now entry.now }
@@ -29,19 +36,18 @@ pub(crate) fn push_entry(line: &mut Line, entry: &Entry, tasks: &TaskSet)
     line.number(entry.time);
     line.push(b" ");
     push_what(line, entry.what, tasks);
-    push_tail(line, entry.what, &entry.shown);
+    push_tail(line, writer, entry.what, &entry.shown);
     line.push(b"\n");
 }
 
 /// Appends what stands after the words of an entry: nothing at the end, else the spans.
-fn push_tail(line: &mut Line, what: What, shown: &Shown)
-    requires { length line.old + 536 ≤ 1024 }
+fn push_tail<W: ExtentWriter>(line: &mut Line, writer: &mut W, what: What, shown: &Shown)
+    requires { length line.old + SPANS_LIMIT ≤ LINE_LIMIT }
     ensures text { line.new ≡ line.old ++ spans_text what shown.now }
-    ensures short { length line.new ≤ length line.old + 536 }
+    ensures short { length line.new ≤ length line.old + SPANS_LIMIT }
 {
     if what != What::End {
-        line.push(b" |");
-        push_shown(line, shown);
+        push_shown(line, writer, shown);
     }
 }
 
@@ -49,7 +55,7 @@ fn push_tail(line: &mut Line, what: What, shown: &Shown)
 pub fn key_text(key: Key, tasks: &TaskSet) -> Line
     requires { key_in_set tasks.now key ≡ true }
     ensures text { result ≡ key_text tasks.now key }
-    ensures short { length result ≤ 70 }
+    ensures short { length result ≤ KEY_LIMIT }
 {
     let mut line = Line::new();
     push_key(&mut line, key, tasks);

@@ -5,13 +5,14 @@ ghost use Rattle.slot_core.specs.declared.TheConstants.{NAME_LIMIT};
 ghost use Rattle.slot_core.specs.Runs.Arrivals.{key_in_set};
 ghost use Rattle.slot_core.specs.Offline.OfflineJobs.{tasks_of};
 ghost use Rattle.slot_core.specs.Output.Texts.{key_text, graph_name, task_name, sporadic_name};
+ghost use Rattle.trace_text.specs.declared.TheConstants.{KEY_LIMIT, LINE_LIMIT};
 
 use crate::line::Line;
 use slot_core::{Graph, Key, Name, TaskSet};
 
 /// Appends the name.
 fn push_name(line: &mut Line, name: &Name)
-    requires { length line.old + NAME_LIMIT ≤ 1024 }
+    requires { length line.old + NAME_LIMIT ≤ LINE_LIMIT }
     ensures text { line.new ≡ line.old ++ name.now }
     ensures short { length line.new ≤ length line.old + NAME_LIMIT }
 {
@@ -29,7 +30,7 @@ fn graph_at(tasks: &TaskSet, graph: u16) -> &Graph
 /// Appends the name of the graph of this index.
 fn push_graph(line: &mut Line, graph: u16, tasks: &TaskSet)
     requires named { nat_lt graph (length tasks.now.graphs) ≡ true }
-    requires room { length line.old + NAME_LIMIT ≤ 1024 }
+    requires room { length line.old + NAME_LIMIT ≤ LINE_LIMIT }
     ensures text { line.new ≡ line.old ++ graph_name tasks.now graph }
     ensures short { length line.new ≤ length line.old + NAME_LIMIT }
 {
@@ -40,7 +41,7 @@ fn push_graph(line: &mut Line, graph: u16, tasks: &TaskSet)
 fn push_task(line: &mut Line, graph: u16, task: u16, tasks: &TaskSet)
     requires graph { nat_lt graph (length tasks.now.graphs) ≡ true }
     requires task { nat_lt task (length (tasks_of tasks.now graph)) ≡ true }
-    requires room { length line.old + NAME_LIMIT ≤ 1024 }
+    requires room { length line.old + NAME_LIMIT ≤ LINE_LIMIT }
     ensures text { line.new ≡ line.old ++ task_name tasks.now graph task }
     ensures short { length line.new ≤ length line.old + NAME_LIMIT }
 {
@@ -51,7 +52,7 @@ fn push_task(line: &mut Line, graph: u16, task: u16, tasks: &TaskSet)
 /// Appends the name of the sporadic task of this index.
 pub(crate) fn push_sporadic(line: &mut Line, index: u8, tasks: &TaskSet)
     requires named { nat_lt index (length tasks.now.sporadics) ≡ true }
-    requires room { length line.old + NAME_LIMIT ≤ 1024 }
+    requires room { length line.old + NAME_LIMIT ≤ LINE_LIMIT }
     ensures text { line.new ≡ line.old ++ sporadic_name tasks.now index }
     ensures short { length line.new ≤ length line.old + NAME_LIMIT }
 {
@@ -62,10 +63,10 @@ pub(crate) fn push_sporadic(line: &mut Line, index: u8, tasks: &TaskSet)
 fn push_offline(line: &mut Line, graph: u16, task: u16, instance: u64, tasks: &TaskSet)
     requires named { (nat_lt graph (length tasks.now.graphs)
         && nat_lt task (length (tasks_of tasks.now graph))) ≡ true }
-    requires room { length line.old + 70 ≤ 1024 }
+    requires room { length line.old + KEY_LIMIT ≤ LINE_LIMIT }
     ensures text { line.new ≡ line.old ++ (graph_name tasks.now graph ++ codes "."
         ++ task_name tasks.now graph task ++ codes "#" ++ decimal instance) }
-    ensures short { length line.new ≤ length line.old + 70 }
+    ensures short { length line.new ≤ length line.old + KEY_LIMIT }
 {
     push_graph(line, graph, tasks);
     line.push(b".");
@@ -74,12 +75,12 @@ fn push_offline(line: &mut Line, graph: u16, task: u16, instance: u64, tasks: &T
     line.number(instance);
 }
 
-/// Appends the key, which takes at most 70 bytes.
+/// Appends the key.
 pub(crate) fn push_key(line: &mut Line, key: Key, tasks: &TaskSet)
     requires named { key_in_set tasks.now key ≡ true }
-    requires room { length line.old + 70 ≤ 1024 }
+    requires room { length line.old + KEY_LIMIT ≤ LINE_LIMIT }
     ensures text { line.new ≡ line.old ++ key_text tasks.now key }
-    ensures short { length line.new ≤ length line.old + 70 }
+    ensures short { length line.new ≤ length line.old + KEY_LIMIT }
 {
     match key {
         Key::Offline(graph, task, instance) => push_offline(line, graph, task, instance, tasks),

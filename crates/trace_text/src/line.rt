@@ -1,26 +1,33 @@
 //! A line in the making.
 
-ghost use Rattle.std.specs.Prelude.{◌≡◌, ◌≤◌, ◌+◌, [], ◌++◌, length, decimal};
+ghost use Rattle.std.specs.Prelude.{◌≡◌, ◌≤◌, ◌+◌, [], ◌++◌, length, take, decimal};
 ghost use Rattle.std.specs.Fmt.{signed_decimal};
+ghost use Rattle.trace_text.specs.declared.TheConstants.{DECIMAL_LIMIT, LINE_LIMIT};
+ghost use Rattle.trace_text.specs.declared.line.TheConstants.{BLOCK_SIZE};
 
+use crate::LINE_LIMIT;
 use itoa::write_digits;
 use std::marker::Model;
 
-/// Bytes of one line, at most 1024, which contracts see as a list. It takes no memory.
+/// The bytes of a block, which is copied by a few moves.
+pub(crate) const BLOCK_SIZE: usize = 48;
+
+/// Bytes of one line, at most `LINE_LIMIT`, which contracts see as a list. It takes no memory.
 #[derive(Drop)]
 pub struct Line {
-    bytes: [u8; 1024],
+    bytes: [u8; LINE_LIMIT],
     len: usize,
 }
 
 impl Model for Line {
     ghost use Rattle.std.specs.Prelude.{ℕ, List, ◌≤◌, take};
+    ghost use Rattle.trace_text.specs.declared.TheConstants.{LINE_LIMIT};
 
     ghost Value = { List ℕ };
 
     ghost view = { λ l. take l.len l.bytes };
 
-    ghost invariant = { λ l. l.len ≤ 1024 };
+    ghost invariant = { λ l. l.len ≤ LINE_LIMIT };
 }
 
 impl Line {
@@ -29,7 +36,7 @@ impl Line {
         ensures { result ≡ [] }
     {
         Line {
-            bytes: [0; 1024],
+            bytes: [0; LINE_LIMIT],
             len: 0,
         }
     }
@@ -44,7 +51,7 @@ impl Line {
     /// Appends the bytes.
     #[inline]
     pub fn push(&mut self, bytes: &[u8])
-        requires { length self.old + length bytes.now ≤ 1024 }
+        requires { length self.old + length bytes.now ≤ LINE_LIMIT }
         ensures { self.new ≡ self.old ++ bytes.now }
     {
         let start = self.len;
@@ -54,20 +61,32 @@ impl Line {
         self.len = start + bytes.len();
     }
 
+    /// Appends the first `len` bytes of the block, for all of which there is room.
+    #[inline]
+    pub(crate) fn push_block(&mut self, block: &[u8; BLOCK_SIZE], len: usize)
+        requires len { len ≤ BLOCK_SIZE }
+        requires room { length self.old + BLOCK_SIZE ≤ LINE_LIMIT }
+        ensures { self.new ≡ self.old ++ take len block.now }
+    {
+        let end = self.len + BLOCK_SIZE;
+        self.bytes[self.len..end].copy_from_slice(block);
+        self.len += len;
+    }
+
     /// Appends the number in decimal digits.
     pub fn number(&mut self, n: u64)
-        requires { length self.old + 20 ≤ 1024 }
+        requires { length self.old + DECIMAL_LIMIT ≤ LINE_LIMIT }
         ensures text { self.new ≡ self.old ++ decimal n }
-        ensures short { length self.new ≤ length self.old + 20 }
+        ensures short { length self.new ≤ length self.old + DECIMAL_LIMIT }
     {
         self.push_decimal(n);
     }
 
     /// Appends the number in decimal digits, after a `-` where it is below 0.
     pub fn signed_number(&mut self, n: i64)
-        requires { length self.old + 20 ≤ 1024 }
+        requires { length self.old + DECIMAL_LIMIT ≤ LINE_LIMIT }
         ensures text { self.new ≡ self.old ++ signed_decimal n }
-        ensures short { length self.new ≤ length self.old + 20 }
+        ensures short { length self.new ≤ length self.old + DECIMAL_LIMIT }
     {
         if n < 0 {
             self.push(b"-");
@@ -78,7 +97,7 @@ impl Line {
     /// Appends the number in decimal digits, for which there is room. Each count of digits up to
     /// six, as most numbers of a line have, gets code of its own without a loop.
     fn push_decimal(&mut self, n: u64)
-        requires { length self.old + length (decimal n) ≤ 1024 }
+        requires { length self.old + length (decimal n) ≤ LINE_LIMIT }
         ensures { self.new ≡ self.old ++ decimal n }
     {
         match n {
@@ -96,7 +115,7 @@ impl Line {
     #[inline(always)]
     fn push_digits(&mut self, n: u64, count: usize)
         requires counted { length (decimal n) ≡ count }
-        requires room { length self.old + length (decimal n) ≤ 1024 }
+        requires room { length self.old + length (decimal n) ≤ LINE_LIMIT }
         ensures { self.new ≡ self.old ++ decimal n }
     {
         let end = self.len + count;

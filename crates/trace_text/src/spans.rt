@@ -1,46 +1,45 @@
 //! Spans at the end of a line.
 
-ghost use Rattle.std.specs.Prelude.{◌≡◌, ◌≤◌, ◌+◌, length, codes, ◌++◌, ◌∷◌, flat_map};
+ghost use Rattle.std.specs.Prelude.{◌≡◌, ◌≤◌, ◌+◌, ◌*◌, length, codes, ◌++◌, ◌∷◌, flat_map};
 ghost use Rattle.slot_core.specs.declared.TheConstants.{SHOWN_LIMIT};
 ghost use Rattle.slot_core.specs.declared.jobs.Span.{Span};
 ghost use Rattle.slot_core.specs.Output.Texts.{span_text, shown_text};
+ghost use Rattle.trace_text.specs.declared.TheConstants.{LINE_LIMIT, SPAN_LIMIT, SPANS_LIMIT};
 
+use crate::extents::ExtentWriter;
 use crate::line::Line;
 use slot_core::{Shown, Span};
 
 /// Appends a space and the span.
-fn push_span(line: &mut Line, span: Span)
-    requires { length line.old + 64 ≤ 1024 }
+fn push_span<W: ExtentWriter>(line: &mut Line, writer: &mut W, span: Span)
+    requires { length line.old + SPAN_LIMIT ≤ LINE_LIMIT }
     ensures text { line.new ≡ line.old ++ 32 ∷ span_text span }
-    ensures short { length line.new ≤ length line.old + 64 }
+    ensures short { length line.new ≤ length line.old + SPAN_LIMIT }
 {
-    line.push(b" ");
-    line.number(span.start);
-    line.push(b"-");
-    line.number(span.end);
-    line.push(b":");
+    writer.push_extent(line, span);
     line.signed_number(span.spare);
 }
 
 /// Appends the spans, a space before each.
-fn push_spans(line: &mut Line, spans: &[Span])
+fn push_spans<W: ExtentWriter>(line: &mut Line, writer: &mut W, spans: &[Span])
     requires few { length spans.now ≤ SHOWN_LIMIT }
-    requires room { length line.old + 512 ≤ 1024 }
+    requires room { length line.old + SHOWN_LIMIT * SPAN_LIMIT ≤ LINE_LIMIT }
     ensures text { line.new ≡ line.old ++ flat_map (λ (s : Span). 32 ∷ span_text s) spans.now }
-    ensures short { length line.new ≤ length line.old + 512 }
+    ensures short { length line.new ≤ length line.old + SHOWN_LIMIT * SPAN_LIMIT }
 {
     for span in spans {
-        push_span(line, *span);
+        push_span(line, writer, *span);
     }
 }
 
-/// Appends the spans that an entry shows, and how many more there are.
-pub(crate) fn push_shown(line: &mut Line, shown: &Shown)
-    requires { length line.old + 534 ≤ 1024 }
-    ensures text { line.new ≡ line.old ++ shown_text shown.now }
-    ensures short { length line.new ≤ length line.old + 534 }
+/// Appends a bar, the spans that an entry shows, and how many more there are.
+pub(crate) fn push_shown<W: ExtentWriter>(line: &mut Line, writer: &mut W, shown: &Shown)
+    requires { length line.old + SPANS_LIMIT ≤ LINE_LIMIT }
+    ensures text { line.new ≡ line.old ++ codes " |" ++ shown_text shown.now }
+    ensures short { length line.new ≤ length line.old + SPANS_LIMIT }
 {
-    push_spans(line, shown.spans());
+    line.push(b" |");
+    push_spans(line, writer, shown.spans());
     let more = shown.more();
     if more > 0 {
         line.push(b" +");

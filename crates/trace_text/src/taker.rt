@@ -3,6 +3,7 @@
 ghost use Rattle.std.specs.Prelude.{◌≡◌};
 
 use crate::entries::push_entry;
+use crate::extents::Cells;
 use crate::line::Line;
 use slot_core::{Entry, Failed, Taker, TaskSet};
 use slot_io::Sink;
@@ -13,6 +14,8 @@ pub struct TextTaker<'s, K: Sink> {
     out: &'s mut K,
     /// Kept so that no line has to be moved.
     line: Line,
+    /// Texts that stay from line to line.
+    cells: Cells,
 }
 
 impl<'s, K: Sink> TextTaker<'s, K> {
@@ -24,6 +27,7 @@ impl<'s, K: Sink> TextTaker<'s, K> {
         TextTaker {
             out,
             line: Line::new(),
+            cells: Cells::new(),
         }
     }
 }
@@ -51,7 +55,7 @@ impl<'s, K: Sink> Taker for TextTaker<'s, K> {
 
     fn take(&mut self, entry: &Entry, tasks: &TaskSet) -> Result<(), Failed> {
         self.line.clear();
-        push_entry(&mut self.line, entry, tasks);
+        push_entry(&mut self.line, &mut self.cells, entry, tasks);
         self.out.put(self.line.bytes())
     }
 

@@ -4,6 +4,7 @@ ghost use Rattle.std.specs.Prelude.{◌≡◌, ◌≤◌, ◌+◌, true, length,
 ghost use Rattle.slot_core.specs.declared.jobs.Key.TheVariants.{Firm as FirmKey};
 ghost use Rattle.slot_core.specs.Runs.Arrivals.{key_in_set, what_in_set};
 ghost use Rattle.slot_core.specs.Output.Texts.{key_text, sporadic_name, worded, soft_text, firm_text, sporadic_text, done_text, gone_text, what_text};
+ghost use Rattle.trace_text.specs.declared.TheConstants.{ANSWER_LIMIT, DECIMAL_LIMIT, LINE_LIMIT, WORDS_LIMIT};
 
 use crate::keys::{push_key, push_sporadic};
 use crate::line::Line;
@@ -11,9 +12,9 @@ use slot_core::{Done, Firm, Gone, Key, Soft, Spo, TaskSet, What};
 
 /// Appends a space and the number.
 pub(crate) fn push_number(line: &mut Line, n: u64)
-    requires { length line.old + 21 ≤ 1024 }
+    requires { length line.old + 1 + DECIMAL_LIMIT ≤ LINE_LIMIT }
     ensures text { line.new ≡ line.old ++ 32 ∷ decimal n }
-    ensures short { length line.new ≤ length line.old + 21 }
+    ensures short { length line.new ≤ length line.old + 1 + DECIMAL_LIMIT }
 {
     line.push(b" ");
     line.number(n);
@@ -21,9 +22,9 @@ pub(crate) fn push_number(line: &mut Line, n: u64)
 
 /// Appends the answer to soft work.
 fn push_soft(line: &mut Line, answer: Soft)
-    requires { length line.old + 25 ≤ 1024 }
+    requires { length line.old + ANSWER_LIMIT ≤ LINE_LIMIT }
     ensures text { line.new ≡ line.old ++ soft_text answer }
-    ensures short { length line.new ≤ length line.old + 25 }
+    ensures short { length line.new ≤ length line.old + ANSWER_LIMIT }
 {
     match answer {
         Soft::Taken => line.push(b"taken"),
@@ -36,9 +37,9 @@ fn push_soft(line: &mut Line, answer: Soft)
 
 /// Appends the answer to a firm task.
 fn push_firm(line: &mut Line, answer: Firm)
-    requires { length line.old + 69 ≤ 1024 }
+    requires { length line.old + ANSWER_LIMIT ≤ LINE_LIMIT }
     ensures text { line.new ≡ line.old ++ firm_text answer }
-    ensures short { length line.new ≤ length line.old + 69 }
+    ensures short { length line.new ≤ length line.old + ANSWER_LIMIT }
 {
     match answer {
         Firm::Accepted => line.push(b"accepted"),
@@ -55,9 +56,9 @@ fn push_firm(line: &mut Line, answer: Firm)
 
 /// Appends the answer to a sporadic arrival.
 fn push_spo(line: &mut Line, answer: Spo)
-    requires { length line.old + 26 ≤ 1024 }
+    requires { length line.old + ANSWER_LIMIT ≤ LINE_LIMIT }
     ensures text { line.new ≡ line.old ++ sporadic_text answer }
-    ensures short { length line.new ≤ length line.old + 26 }
+    ensures short { length line.new ≤ length line.old + ANSWER_LIMIT }
 {
     match answer {
         Spo::Taken(due) => {
@@ -73,9 +74,9 @@ fn push_spo(line: &mut Line, answer: Spo)
 
 /// Appends the answer to an early end.
 fn push_done(line: &mut Line, answer: Done)
-    requires { length line.old + 26 ≤ 1024 }
+    requires { length line.old + ANSWER_LIMIT ≤ LINE_LIMIT }
     ensures text { line.new ≡ line.old ++ done_text answer }
-    ensures short { length line.new ≤ length line.old + 26 }
+    ensures short { length line.new ≤ length line.old + ANSWER_LIMIT }
 {
     match answer {
         Done::Freed(slots) => {
@@ -88,10 +89,10 @@ fn push_done(line: &mut Line, answer: Done)
 
 /// Appends the words of soft work.
 fn push_soft_words(line: &mut Line, row: u32, slots: u32, answer: Soft)
-    requires { length line.old + 72 ≤ 1024 }
+    requires { length line.old + WORDS_LIMIT ≤ LINE_LIMIT }
     ensures text { line.new ≡ line.old
         ++ (worded (worded (codes "soft") row) slots ++ 32 ∷ soft_text answer) }
-    ensures short { length line.new ≤ length line.old + 72 }
+    ensures short { length line.new ≤ length line.old + WORDS_LIMIT }
 {
     line.push(b"soft");
     push_number(line, u64::from(row));
@@ -102,10 +103,10 @@ fn push_soft_words(line: &mut Line, row: u32, slots: u32, answer: Soft)
 
 /// Appends the words of a firm task.
 fn push_firm_words(line: &mut Line, row: u32, slots: u32, within: u32, answer: Firm)
-    requires { length line.old + 137 ≤ 1024 }
+    requires { length line.old + WORDS_LIMIT ≤ LINE_LIMIT }
     ensures text { line.new ≡ line.old
         ++ (worded (worded (worded (codes "firm") row) slots) within ++ 32 ∷ firm_text answer) }
-    ensures short { length line.new ≤ length line.old + 137 }
+    ensures short { length line.new ≤ length line.old + WORDS_LIMIT }
 {
     line.push(b"firm");
     push_number(line, u64::from(row));
@@ -118,10 +119,10 @@ fn push_firm_words(line: &mut Line, row: u32, slots: u32, within: u32, answer: F
 /// Appends the words of a sporadic arrival.
 fn push_sporadic_words(line: &mut Line, row: u32, index: u8, answer: Spo, tasks: &TaskSet)
     requires named { nat_lt index (length tasks.now.sporadics) ≡ true }
-    requires room { length line.old + 81 ≤ 1024 }
+    requires room { length line.old + WORDS_LIMIT ≤ LINE_LIMIT }
     ensures text { line.new ≡ line.old ++ (worded (codes "sporadic") row
         ++ 32 ∷ sporadic_name tasks.now index ++ 32 ∷ sporadic_text answer) }
-    ensures short { length line.new ≤ length line.old + 81 }
+    ensures short { length line.new ≤ length line.old + WORDS_LIMIT }
 {
     line.push(b"sporadic");
     push_number(line, u64::from(row));
@@ -134,10 +135,10 @@ fn push_sporadic_words(line: &mut Line, row: u32, index: u8, answer: Spo, tasks:
 /// Appends the words of an early end.
 fn push_done_words(line: &mut Line, row: u32, key: Key, answer: Done, tasks: &TaskSet)
     requires named { key_in_set tasks.now key ≡ true }
-    requires room { length line.old + 123 ≤ 1024 }
+    requires room { length line.old + WORDS_LIMIT ≤ LINE_LIMIT }
     ensures text { line.new ≡ line.old ++ (worded (codes "done") row
         ++ 32 ∷ key_text tasks.now key ++ 32 ∷ done_text answer) }
-    ensures short { length line.new ≤ length line.old + 123 }
+    ensures short { length line.new ≤ length line.old + WORDS_LIMIT }
 {
     line.push(b"done");
     push_number(line, u64::from(row));
@@ -149,9 +150,9 @@ fn push_done_words(line: &mut Line, row: u32, key: Key, answer: Done, tasks: &Ta
 
 /// Appends the answer to a withdrawal.
 fn push_gone(line: &mut Line, answer: Gone)
-    requires { length line.old + 26 ≤ 1024 }
+    requires { length line.old + ANSWER_LIMIT ≤ LINE_LIMIT }
     ensures text { line.new ≡ line.old ++ gone_text answer }
-    ensures short { length line.new ≤ length line.old + 26 }
+    ensures short { length line.new ≤ length line.old + ANSWER_LIMIT }
 {
     match answer {
         Gone::Freed(slots) => {
@@ -164,10 +165,10 @@ fn push_gone(line: &mut Line, answer: Gone)
 
 /// Appends the words of a withdrawal.
 fn push_withdraw_words(line: &mut Line, row: u32, firm: u32, answer: Gone, tasks: &TaskSet)
-    requires { length line.old + 127 ≤ 1024 }
+    requires { length line.old + WORDS_LIMIT ≤ LINE_LIMIT }
     ensures text { line.new ≡ line.old ++ (worded (codes "withdraw") row
         ++ 32 ∷ key_text tasks.now (FirmKey firm) ++ 32 ∷ gone_text answer) }
-    ensures short { length line.new ≤ length line.old + 127 }
+    ensures short { length line.new ≤ length line.old + WORDS_LIMIT }
 {
     line.push(b"withdraw");
     push_number(line, u64::from(row));
@@ -180,9 +181,9 @@ fn push_withdraw_words(line: &mut Line, row: u32, firm: u32, answer: Gone, tasks
 /// Appends the words of an entry.
 pub(crate) fn push_what(line: &mut Line, what: What, tasks: &TaskSet)
     requires named { what_in_set tasks.now what ≡ true }
-    requires room { length line.old + 137 ≤ 1024 }
+    requires room { length line.old + WORDS_LIMIT ≤ LINE_LIMIT }
     ensures text { line.new ≡ line.old ++ what_text tasks.now what }
-    ensures short { length line.new ≤ length line.old + 137 }
+    ensures short { length line.new ≤ length line.old + WORDS_LIMIT }
 {
     match what {
         What::Start => line.push(b"start"),

@@ -24,7 +24,7 @@ use Rattle.scene_steps.proofs.Same.SameLawful.{may_run-same, same_scene-ran, ans
 use Rattle.scene_steps.proofs.Same.SameScenes.{same_scene-trans}
 use Rattle.trace_verify.specs.Checked.{IsChecked}
 use Rattle.trace_verify.specs.SceneLines.{IsCheckedAfter}
-use Rattle.trace_verify.proofs.LineFacts.{scene_after-ran}
+use Rattle.scene_steps.proofs.Slots.Turns.{scene_after-slot}
 
 -- a scene that is that of a history in which few slots have passed is checked, whatever ran in them
 pub checked-entries : {S : Slots} (set : TaskSet) (h : History) (a : Scene) → is_sound set ≡ true → IsFeasible set (cycle_of set) → Entries S set (cycle_of set) h → IsSameScene a (scene_of set (cycle_of set) h) → time_of h ≤ 2 ^ 32 → last_row h ≤ ARRIVAL_LIMIT → IsChecked set (cycle_of set) a
@@ -55,7 +55,7 @@ module _ (set : TaskSet) (h : History) (a : Scene) (sound : is_sound set ≡ tru
       let longer = told_of_slot ran ∷ h in
       let permitted : IsPermitted set cycle h ran = sym (may_run-same set a (scene_of set cycle h) ran same) ∙ may in
       let told = permitted-longer set cycle h ran (lawful-as_data set cycle h lawful) permitted in
-      let own = subst (IsSameScene after) (sym (scene_after-ran set cycle ran a)) is in
+      let own = subst (IsSameScene after) (sym (scene_after-slot set cycle ran a)) is in
       let here = same_scene-trans after _ (scene_of set cycle longer) own (same_scene-ran set h a sound feasible lawful same ran may) in
       checked-entries set longer after sound feasible told here (omega (arith, time_of-ran ran h)) (omega (arith, last_row-ran ran h))
 

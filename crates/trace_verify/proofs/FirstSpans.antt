@@ -23,6 +23,7 @@ use Rattle.interval_build.proofs.Filled.{AreDueAt, filled-rows_between, last_poi
 use Rattle.interval_build.proofs.Least.{IsLeast-least}
 use Rattle.trace_verify.specs.Lacks.{lack}
 use Rattle.trace_verify.proofs.LackFacts.{AreDueFrom, AreDueBy, least-lack}
+use Rattle.scene_steps.proofs.Rows.Cycles.{at_most_last}
 
 -- a span of one slot that borrows so many
 abbrev pub lacking_span : ℕ → ℕ → Span
@@ -93,12 +94,6 @@ Has-from_first next points x rising (inl same) = omega arith
 Has-from_first next [] x rising (inr among) = absurd among
 Has-from_first next (p ∷ points) x rising (inr among) = omega (arith, rising.0, Has-from_first p points x rising.1 among)
 
--- and at most the last
-Has-by_last : (s : ℕ) (points : List ℕ) (x : ℕ) → AreRising s points → Has points x → x ≤ last_point s points
-Has-by_last s [] x rising at = absurd at
-Has-by_last s (p ∷ points) x rising (inl same) = omega (arith, last_point-above p points rising.1)
-Has-by_last s (p ∷ points) x rising (inr among) = Has-by_last p points x rising.1 among
-
 -- the jobs due after a time are due at one of the points
 each_later : (e : ℕ) (points : List ℕ) (jobs : List Job) → AreRising e points → AreDueAt jobs e points → AllByRecursion (λ (j : Job). Has points j.dl) (filter (is_due_after e) jobs)
 each_later e points [] rising due = tt
@@ -147,7 +142,7 @@ module _ (jobs : List Job) (e : ℕ) (ordered : AreInDeadlineOrder (filter (is_d
 
       by_last : (js : List Job) → AllByRecursion (λ (j : Job). Has (next ∷ points) j.dl) js → AreDueBy (last_point next points) js
       by_last [] all = tt
-      by_last (j ∷ js) all = (Has-by_last e (next ∷ points) j.dl rising all.0, by_last js all.1)
+      by_last (j ∷ js) all = (at_most_last e (next ∷ points) j.dl rising all.0, by_last js all.1)
 
 module _ (jobs : List Job) (t : ℕ) (front later : List ℕ) (rising : AreRising t (front ++ later)) (due : AreDueAt jobs t (front ++ later)) where
   -- the last of the first points

@@ -74,11 +74,6 @@ pub known-in_set : (set : TaskSet) (ran : Ran) → is_known set ran ≡ true →
 known-in_set set RanIdle known = refl
 known-in_set set (RanKey key) known = (and_parts (key_in_set set key) (key_in_range key) known).0
 
--- the scene after what is told of a slot is the scene after what ran
-pub scene_after-ran : (set : TaskSet) (cycle : ℕ) (ran : Ran) (scene : Scene) → scene_after set cycle (told_of_slot ran) scene ≡ after_ran set cycle ran scene
-scene_after-ran set cycle RanIdle scene = refl
-scene_after-ran set cycle (RanKey key) scene = refl
-
 -- what is told is shown the same with the spans of a scene that is the same as the one after it
 shown-same : (set : TaskSet) (cycle time n : ℕ) (what : What) (line : List ℕ) (scene after : Scene) → time ≡ scene.time → IsSameScene after (scene_after set cycle what scene) → same_line set (record { time = time; what = what; shown = shown_of cycle after }) n line ≡ same_line set (entry_in cycle scene what (scene_after set cycle what scene)) n line
 shown-same set cycle time n what line scene after now same =

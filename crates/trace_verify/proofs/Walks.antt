@@ -46,13 +46,7 @@ use Rattle.trace_verify.proofs.CheckedScenes.{checked-lawful, checked-after, fol
 use Rattle.trace_verify.proofs.SameVerdicts.{line_told-same}
 use Rattle.trace_verify.proofs.ToldLines.{passed, told-may}
 use Rattle.verify_faults.specs.declared.faults.VerifyFault.{VerifyFault}
-
--- the key of an offline job names no row
-row-offline : (key : Key) → is_offline key ≡ true → row_of key ≡ 0
-row-offline (Offline g t k) offline = refl
-row-offline (Sporadic index row) offline = cc
-row-offline (Firm row) offline = cc
-row-offline (Soft row) offline = cc
+use Rattle.slot_facts.proofs.Legal.Kept.{no_row}
 
 -- a row above the last one is above those of the remaining jobs
 rows-past : {S : Slots} (set : TaskSet) (h : History) (a : Scene) (row : ℕ) → is_sound set ≡ true → Entries S set (cycle_of set) h → IsSameScene a (scene_of set (cycle_of set) h) → last_row h < row → All (λ (j : Job). row_of j.key < row) a.jobs
@@ -67,7 +61,7 @@ rows-past set h a row sound told same above =
         let own = unended_own h (guaranteed_in set (cycle_of set) cycles h) job at in
         let key : job.key ≡ own.0.key = ap (λ (j : Job). j.key) own.1.same in
         elim (guaranteed-cases set cycles h own.0 sound told own.1.listed) [
-          | inl planned ↦ omega (arith, ap row_of key, row-offline own.0.key (offline-key set (cycle_of set) cycles own.0 planned), above)
+          | inl planned ↦ omega (arith, ap row_of key, no_row own.0.key (offline-key set (cycle_of set) cycles own.0 planned), above)
           | inr come ↦ omega (arith, ap row_of key, come.row_at_most, above)
         ]
 

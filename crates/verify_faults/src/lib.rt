@@ -5,4 +5,4 @@ pub mod faults;
 pub mod texts;
 
 pub use faults::VerifyFault;
-pub use texts::fault_text;
+pub use texts::{FAULT_LIMIT, fault_text};

@@ -3,9 +3,9 @@ use Rattle.std.proofs.Common.{◌≤◌, ◌^◌, ◌∙◌, subst}
 use Rattle.std.specs.Io.KnownBytes.{Appends}
 use Rattle.slot_io.specs.Sinks.{AppendsPart}
 use Rattle.future_check.proofs.Comings.{until-near}
-use Rattle.future_check.proofs.LineTexts.{OnErr-anyhow}
 use Rattle.future_check.proofs.SameShown.{arrivals-named, keys-named, lines-told, none-at, sum-at}
 use Rattle.future_check.proofs.explain.Goals as goal
+use Rattle.slot_io.proofs.SinkParts.{OnErr-anyhow}
 
 pub due_arrivals-requires : goal.due_arrivals-requires
 due_arrivals-requires g c =

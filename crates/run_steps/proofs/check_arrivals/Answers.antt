@@ -1,4 +1,4 @@
-use Rattle.std.proofs.Common.{◌≡◌, Ok, refl}
+use Rattle.std.proofs.Common.{◌≡◌, refl}
 use Rattle.run_outcome.specs.declared.file.File.TheVariants.{Trace as TraceFile}
 use Rattle.run_outcome.specs.Refusals.{same_file}
 use Rattle.command_line.specs.declared.Check.TheVariants.{Verified, HasRow, AtCycleEnd}

@@ -1,4 +1,3 @@
-use Rattle.std.specs.Prelude.{⊤}
 use Rattle.std.proofs.lemmas.Result.{err_from_is_err_and}
 use Rattle.run_outcome.specs.declared.file.File.TheVariants.{Trace}
 use Rattle.run_steps.specs.Readings.{bytes_of, lawful_trace}

@@ -47,7 +47,7 @@ record IsDueInCycle (set : TaskSet) (n : ℕ) (job : Job) : Type 0 where
   point : Has (points_in_cycle set (cycle_of set) n) job.dl
 
 -- no point is above the last
-at_most_last : (s : ℕ) (points : List ℕ) (x : ℕ) → AreRising s points → Has points x → x ≤ last_point s points
+pub at_most_last : (s : ℕ) (points : List ℕ) (x : ℕ) → AreRising s points → Has points x → x ≤ last_point s points
 at_most_last s [] x rising at = absurd at
 at_most_last s (e ∷ points) x rising (inl same) = omega (arith, last_point-above e points rising.1)
 at_most_last s (e ∷ points) x rising (inr at) = at_most_last e points x rising.1 at

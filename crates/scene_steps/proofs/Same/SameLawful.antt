@@ -32,6 +32,7 @@ use Rattle.scene_steps.proofs.Model.Lawful.{scene-follows_answer, scene-follows_
 use Rattle.scene_steps.proofs.Same.SameAnswers.{answer-same}
 use Rattle.scene_steps.proofs.Same.SameScenes.{same_scene-sym, same_scene-trans}
 use Rattle.scene_steps.proofs.Same.SameSteps.{scene_after-same}
+use Rattle.scene_steps.proofs.Slots.Turns.{scene_after-slot}
 
 -- one of the same items passes a test, or none
 any-same : {X : Type 0} (p : X → Bool) (xs ys : List X) → HaveSameItems xs ys → list_any p xs ≡ list_any p ys
@@ -74,11 +75,6 @@ is_in_time-same a b same =
     let later = λ (t : ℕ) (j : Job). nat_lt t j.dl in
     all_pass-same (later a.time) a.jobs b.jobs same.jobs ∙ ap (λ t. list_all (later t) b.jobs) same.time
 
--- a slot changes a scene by what ran in it
-scene_after-ran : (set : TaskSet) (cycle : ℕ) (ran : Ran) (scene : Scene) → scene_after set cycle (told_of_slot ran) scene ≡ after_ran set cycle ran scene
-scene_after-ran set cycle RanIdle scene = refl
-scene_after-ran set cycle (RanKey key) scene = refl
-
 module _ (set : TaskSet) (h : History) (a : Scene) (sound : is_sound set ≡ true) (feasible : IsFeasible set (cycle_of set)) (lawful : IsLawful set (cycle_of set) h) (same : IsSameScene a (scene_of set (cycle_of set) h)) where
   -- where a scene is that of a lawful history, it is so after a slot in which anything ran that may
   pub same_scene-ran : (ran : Ran) → may_run set a ran ≡ true → IsSameScene (scene_after set (cycle_of set) (told_of_slot ran) a) (scene_of set (cycle_of set) (told_of_slot ran ∷ h))
@@ -86,7 +82,7 @@ module _ (set : TaskSet) (h : History) (a : Scene) (sound : is_sound set ≡ tru
       let cycle = cycle_of set in
       let scene = scene_of set cycle h in
       let permitted = sym (may_run-same set a scene ran same) ∙ may in
-      let follows = subst (λ s. IsSameScene s (scene_of set cycle (told_of_slot ran ∷ h))) (sym (scene_after-ran set cycle ran scene)) (scene-follows_ran set h ran sound feasible lawful permitted) in
+      let follows = subst (λ s. IsSameScene s (scene_of set cycle (told_of_slot ran ∷ h))) (sym (scene_after-slot set cycle ran scene)) (scene-follows_ran set h ran sound feasible lawful permitted) in
       same_scene-trans _ _ _ (scene_after-same set cycle (told_of_slot ran) a scene same) follows
 
   -- what is answered to an arrival is what is told of it

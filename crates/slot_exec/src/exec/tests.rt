@@ -146,12 +146,44 @@ fn searches<R: Abort, L: Ledger>(rt: &R, alloc: Global, blank: Blank) -> Result<
     let mut exec: Exec<ReadTable<RowTable>> = Exec::start(alloc, plan)?;
     assert!(rt; exec.firm(1, 4, 8, &mut steps) == Firm::Accepted);
     assert!(rt; exec.soft(2, 3) == Soft::Taken);
-    for (runs, reads) in slots {
+    expect_slots(rt, &mut exec, 2, &slots, &mut steps);
+    Ok(())
+}
+
+#[test]
+fn free_slots_are_remembered(rt: HostRuntime) -> Result<(), Fail> {
+    remembers::<HostRuntime, Brand>(&rt, rt.alloc(), Blank::new(1))
+}
+
+/// The same cycle without the offer. By 3, when an alarm of slot 1 would be due, two slots are free
+/// at 0, so the search at 0 serves slot 1 too; at 2 two are free again by 5.
+fn remembers<R: Abort, L: Ledger>(rt: &R, alloc: Global, blank: Blank) -> Result<(), Fail>
+    requires name { blank.name ≡ L.name }
+    requires parts { blank.parts ≡ L.parts }
+    requires some { 0 < L.parts }
+{
+    let mut steps: Steps<L> = Steps::new(blank);
+    let plan = make_plan(alloc, alarm_set(alloc)?).ok().ok_or("no plan")?;
+    let mut exec: Exec<ReadTable<RowTable>> = Exec::start(alloc, plan)?;
+    assert!(rt; exec.soft(1, 3) == Soft::Taken);
+    let slots = [(true, true), (true, false), (true, true)];
+    expect_slots(rt, &mut exec, 1, &slots, &mut steps);
+    Ok(())
+}
+
+/// For each slot: whether the soft work of this row runs, and whether spans are read.
+fn expect_slots<R: Abort, L: Ledger>(
+    rt: &R,
+    exec: &mut Exec<ReadTable<RowTable>>,
+    row: u32,
+    slots: &[(bool, bool)],
+    steps: &mut Steps<L>,
+) {
+    for &(runs, reads) in slots {
         exec.table.reads.set(0);
-        let ran = slot(&mut exec, &mut steps) == Some(Ran::Key(Key::Soft(2)));
+        let ran = slot(exec, steps) == Some(Ran::Key(Key::Soft(row)));
         assert!(rt; (ran, exec.table.reads.get() > 0) == (runs, reads));
     }
-    Ok(())
 }
 
 /// A slot, where the time is in its range.

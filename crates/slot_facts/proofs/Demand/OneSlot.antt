@@ -141,7 +141,7 @@ idle_keeps_safe sporadics nexts jobs t end safe late =
     }
 
 -- where none is the earliest of the ready jobs, each starts later
-none_is_ready : (t : ℕ) (jobs : List Job) (job : Job) → earliest (ready t jobs) ≡ None → Has jobs job → t < job.est
+pub none_is_ready : (t : ℕ) (jobs : List Job) (job : Job) → earliest (ready t jobs) ≡ None → Has jobs job → t < job.est
 none_is_ready t jobs job none at = by_test (nat_le job.est t) refl
   where
     by_test : (b : Bool) → nat_le job.est t ≡ b → t < job.est

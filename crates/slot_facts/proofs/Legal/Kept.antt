@@ -23,7 +23,7 @@ use Rattle.slot_facts.proofs.Legal.SoftOrder.{soft_order-kept}
 use Rattle.slot_facts.proofs.Legal.Steps.{waiting_own}
 
 -- an offline key names no row
-no_row : (key : Key) → is_offline key ≡ true → row_of key ≡ 0
+pub no_row : (key : Key) → is_offline key ≡ true → row_of key ≡ 0
 no_row (Offline g t k) e = refl
 no_row (Sporadic i r) e = absurd (cc e)
 no_row (Firm r) e = absurd (cc e)

@@ -45,7 +45,7 @@ IsLegal-earlier set cycle (what ∷ later) h legal =
     IsLegal-earlier set cycle later h (IsLegal-tail set cycle what (later ++ h) legal)
 
 -- no slot tells of an offer
-not_a_slot : (row slots within : ℕ) (a : FirmAnswer) (ran : Ran) → FirmEntry row slots within a ≡ told_of_slot ran → ⊥
+pub not_a_slot : (row slots within : ℕ) (a : FirmAnswer) (ran : Ran) → FirmEntry row slots within a ≡ told_of_slot ran → ⊥
 not_a_slot row slots within a Idle e = cc e
 not_a_slot row slots within a (KeyRan key) e = cc e
 

@@ -1,5 +1,6 @@
 -- What the ranges say of the sizes and of the lengths of the cycle.
-use Rattle.std.proofs.Common.{rules, ◌≡◌, ◌≤◌, [], length, map, None, Some, Err, sym, subst, arith}
+use Rattle.std.proofs.Common.{rules, ◌≡◌, ◌≤◌, [], length, map, None, Some, Err, sym, subst}
+use Rattle.slot_core.specs.declared.TheConstants.{SPORADIC_LIMIT}
 use Rattle.slot_core.specs.declared.faults.Part.TheVariants.{Sporadic as SporadicPart}
 use Rattle.slot_core.specs.declared.tasks.Sporadic.{Sporadic}
 use Rattle.slot_core.specs.Sets.Faults.{after_fault, first_fault, graph_names_fault, loop_fault, names_fault, set_fault}
@@ -16,8 +17,7 @@ check_graph_names-requires c =
 
 pub check_sporadic_names-requires : goal.check_sporadic_names-requires
 check_sporadic_names-requires c =
-    let few = few_sporadics c.args.tasks.now c.requires in
-    subst (λ s. length s ≤ 255) (sym c.items.ensures) (omega arith)
+    subst (λ s. length s ≤ SPORADIC_LIMIT) (sym c.items.ensures) (few_sporadics c.args.tasks.now c.requires)
 
 pub check_entries-requires : goal.check_entries-requires
 check_entries-requires c =

@@ -4,9 +4,8 @@ use Rattle.std.specs.Prelude.{flat_map}
 use Rattle.std.proofs.KnownBytes.{Appends-nil}
 use Rattle.std.proofs.lemmas.Result.{on_err_weaker}
 use Rattle.slot_io.specs.Sinks.{AppendsPart}
-use Rattle.slot_io.proofs.SinkParts.{AppendsPart-more, AppendsPart-on}
+use Rattle.slot_io.proofs.SinkParts.{AppendsPart-more, AppendsPart-on, OnErr-anyhow}
 use Rattle.gantt_print.specs.Drawings.{head_line, row_line, rows_text}
-use Rattle.gantt_print.proofs.RowLemmas.{OnErr-anyhow}
 use Rattle.gantt_print.proofs.chart.put_chart.Goals as goal
 
 pub returns-in_err-put_head-clause-part : goal.returns-in_err-put_head-clause-part

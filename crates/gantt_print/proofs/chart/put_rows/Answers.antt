@@ -4,9 +4,9 @@ use Rattle.std.specs.Prelude.{flat_map}
 use Rattle.std.proofs.KnownBytes.{Appends-trans}
 use Rattle.std.specs.Io.KnownBytes.{Appends}
 use Rattle.slot_io.specs.Sinks.{AppendsPart}
-use Rattle.slot_io.proofs.SinkParts.{AppendsPart-more}
+use Rattle.slot_io.proofs.SinkParts.{AppendsPart-more, OnErr-anyhow}
 use Rattle.gantt_print.specs.Drawings.{MarkedRow, row_line}
-use Rattle.gantt_print.proofs.RowLemmas.{OnErr-anyhow, flat_map-at, flat_map-more}
+use Rattle.gantt_print.proofs.RowLemmas.{flat_map-at, flat_map-more}
 use Rattle.gantt_print.proofs.chart.put_rows.Goals as goal
 
 pub returns-in_err-put-clause-part : goal.returns-in_err-put-clause-part

@@ -1,7 +1,7 @@
 use Rattle.std.proofs.Common.{arith}
 use Rattle.interval_row.specs.Tables.{spans_of_pairs}
 use Rattle.guarantee.proofs.Decisions.{OnOk-map}
-use Rattle.guarantee.proofs.Places.{ends_before-at}
+use Rattle.guarantee.proofs.Places.{ends_before-at, ends_before-few}
 use Rattle.guarantee.proofs.search.first_short.Goals as goal
 
 pub returns-clause-none_soon : goal.returns-clause-none_soon
@@ -11,3 +11,9 @@ returns-clause-none_soon g c none =
     let is = c.place_of-place.ensures in
     let count = ends_before-at t place.index c.args.from (spans_of_pairs (g.T.SpareTable.pairs c.args.table.now)) place.span is.table.consecutive is.place.span is.early is.reached in
     OnOk-map c.first_short_on.result _ _ (c.first_short_on.ensures.none_soon none) (λ same. omega (arith, is.steps, same))
+
+pub returns-clause-places : goal.returns-clause-places
+returns-clause-places g c =
+    let t = g.T.SpareTable.time c.args.table.now in
+    let table = c.place_of-place.ensures.table in
+    ends_before-few t c.args.from (spans_of_pairs (g.T.SpareTable.pairs c.args.table.now)) table.consecutive table.proper c.requires.after

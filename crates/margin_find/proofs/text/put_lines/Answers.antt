@@ -6,8 +6,8 @@ use Rattle.std.proofs.lemmas.List.{get_or_default}
 use Rattle.std.specs.Io.KnownBytes.{Appends}
 use Rattle.slot_core.specs.declared.tasks.TaskSet.{TaskSet}
 use Rattle.slot_io.specs.Sinks.{AppendsPart}
-use Rattle.slot_io.proofs.SinkParts.{AppendsPart-more}
-use Rattle.gantt_print.proofs.RowLemmas.{OnErr-anyhow, flat_map-at, flat_map-more}
+use Rattle.slot_io.proofs.SinkParts.{AppendsPart-more, OnErr-anyhow}
+use Rattle.gantt_print.proofs.RowLemmas.{flat_map-at, flat_map-more}
 use Rattle.margin_find.specs.declared.margin.TaskMargin.{TaskMargin}
 use Rattle.margin_find.specs.Texts.{margin_line, margin_lines}
 use Rattle.margin_find.proofs.text.put_lines.Goals as goal

@@ -81,4 +81,4 @@ returns g c =
     let checked = rw (c.as_slice-rows.ensures.value, c.slots-slots.ensures) at c.in_ok-check_arrivals.ensures.reading in
     let Writes : ℕ → List Arrival → Type 0 = λ slots arrivals. IsPartWriting g.K.Sink.written g.K.Sink.faults (writes_in_parts command.output) (output_due command.output slots plan second arrivals) c.write.result c.args.out.now c.write.new.out in
     let writing = subst (Writes (slots_of command)) c.as_slice-rows.ensures.value (subst (λ slots. Writes slots c.as_slice-rows.result.now) c.slots-slots.ensures c.write.ensures) in
-    work-writing _ _ _ _ _ _ _ _ _ words command _ c.write.result (λ held told. let from = planned.answers held told in let others = seconded.answers held (planned.keeps ∙ told) in let made = gathered.answers held (seconded.keeps ∙ planned.keeps ∙ told) in writing-is_due held words command plan second c.in_ok-arrivals.arrivals.items from others made (checked.answers held (gathered.keeps ∙ seconded.keeps ∙ planned.keeps ∙ told))) writing
+    work-writing _ _ _ _ _ _ _ _ _ words command _ c.write.result (λ held told. let from = planned.answers held told in let others = seconded.answers held (planned.keeps ∙ told) in let made = gathered.answers held (seconded.keeps ∙ planned.keeps ∙ told) in writing-is_due held words command plan second c.in_ok-arrivals.arrivals.items from others made (checked.answers held (gathered.keeps ∙ seconded.keeps ∙ planned.keeps ∙ told))) writing (checked.counts ∙ gathered.counts ∙ seconded.counts ∙ planned.counts)

@@ -10,13 +10,14 @@ use Rattle.slot_core.specs.Runs.Scenes.{Scene}
 use Rattle.slot_core.specs.Runs.Traces.{slot, told_of_slot}
 use Rattle.scene_steps.specs.Steps.{after_ran, scene_after}
 use Rattle.trace_verify.specs.Verdicts.{told_by}
-use Rattle.trace_verify.proofs.LineFacts.{line_in-untold, line_in-differs, line_in-late, line_in-told, scene_after-ran}
+use Rattle.trace_verify.proofs.LineFacts.{line_in-untold, line_in-differs, line_in-late, line_in-told}
 use Rattle.trace_verify.proofs.lines.slot_line.Goals as goal
+use Rattle.scene_steps.proofs.Slots.Turns.{scene_after-slot}
 
 -- what a line tells of a slot, and the scene after it, are those of what ran
 told_slot : (set : TaskSet) (cycle : ℕ) (scene after : Scene) (n : ℕ) (line : List ℕ) (ran : Ran) (what : What) → what ≡ told_of_slot ran → told_by set cycle scene n slot line ≡ Ok (told_of_slot ran) → IsSameScene after (after_ran set cycle ran scene) → (told_by set cycle scene n slot line ≡ Ok what) × IsSameScene after (scene_after set cycle what scene)
 told_slot set cycle scene after n line ran what is told same =
-    (told ∙ ap Ok (sym is), rw (is, scene_after-ran set cycle ran scene) same)
+    (told ∙ ap Ok (sym is), rw (is, scene_after-slot set cycle ran scene) same)
 
 pub returns-in_err-ran-clause-told : goal.returns-in_err-ran-clause-told
 returns-in_err-ran-clause-told c =

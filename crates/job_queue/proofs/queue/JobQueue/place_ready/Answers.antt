@@ -1,6 +1,6 @@
-use Rattle.std.proofs.Common.{◌≡◌, ◌<◌, length, Some, sym, ap, ◌∙◌, arith}
-use Rattle.std.specs.Prelude.{find}
-use Rattle.std.proofs.lemmas.List.{get_or_read}
+use Rattle.std.proofs.Common.{◌≡◌, ◌+◌, ◌<◌, ◌++◌, length, Some, sym, ap, ◌∙◌, arith}
+use Rattle.std.specs.Prelude.{find, reverse}
+use Rattle.std.proofs.lemmas.List.{get_or_read, length-append, length-reverse}
 use Rattle.slot_core.specs.declared.jobs.Job.{Job}
 use Rattle.job_queue.specs.Queues.{QueueParts}
 use Rattle.job_queue.proofs.Searches.{has_key}
@@ -41,7 +41,10 @@ pub returns-then-len-place : goal.returns-then-len-place
 returns-then-len-place g c =
     let jobs = c.args.self.now.jobs in
     let parts = ap (λ (q : QueueParts). q.jobs) c.self.view_is in
-    let rest = ready-rest c.args.now c.self.inside.beside.items c.self.inside.listed.items jobs c.len.result c.loop-place.place c.job-job.result.now parts c.self.invariant.ordered (omega arith) c.if-len-place.true (omega arith) c.job-job.ensures c.if-job-now.false in
+    let beside = c.self.inside.beside.items in
+    let back = reverse c.self.inside.come.items in
+    let long : length (beside ++ back) ≡ length beside + length c.self.inside.come.items = omega (arith, length-append beside back, length-reverse c.self.inside.come.items) in
+    let rest = ready-rest c.args.now (beside ++ back) c.self.inside.listed.items jobs (length beside + length c.self.inside.come.items) c.loop-place.place c.job-job.result.now parts c.self.invariant.ordered long (omega arith) (omega arith) c.job-job.ensures c.if-job-now.false in
     record {
       job = λ d. ap (find (has_key c.args.key)) rest ∙ c.loop-place.invariant.passed;
       within = λ place e. absurd (cc e);

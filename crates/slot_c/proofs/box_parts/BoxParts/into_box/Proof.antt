@@ -7,7 +7,7 @@ use lib.Dec.{T}
 use base.Logic.{SProp, ent, id⊢}
 use base.Fml.{ftrue, fsep, flft}
 use prog.Wp.{WpFn}
-use types.Kit.{Item, ‵, raw, ◌⊛◌, some, later, ◌$◌, ◌∵◌, !, qed, by, move, drop, use1, join, split, split3, pick, rewrite, fsplit, fjoin, feq_i, suffices, await, at_ret, done}
+use types.Kit.{Item, ‵, raw, ◌⊛◌, some, later, ◌$◌, ◌∵◌, !, qed, move, drop, use1, join, split, split3, pick, rewrite, fsplit, fjoin, feq_i, suffices, await, at_ret, done}
 use types.Part.{whole, sub}
 use types.Run.{stop, fld, no_more, and_then, of_opd, first, blocks, exec, returns, enter}
 use types.ByLocal.{alloc_all, pass_all, free_all, look_at, get, get_in, sets, lands_last, env}
@@ -15,13 +15,12 @@ use contract.Monad.{fact}
 use contract.BorrowLft.{◌⊑◌}
 use contract.Running.{tables}
 use denote.Exit.{no}
-use denote.RattleType.{RattleType, owns}
+use denote.RattleType.{RattleType}
 use denote.Param.{bounded}
 use denote.RawPtr.{block_ptr}
-use denote.Signature.{plain, types_at}
+use denote.Signature.{plain}
 use denote.Steps.{heard, nothing, only}
 use denote.Triple.Call.{calls_at_last}
-use denote.Triple.Clauses.{Lasts, lasts}
 use denote.Triple.Spec.{triple_of}
 use denote.Triple.Table.{framed}
 use denote.Triple.Walked.{says, Stays, stay_dropped, walk_of, ends_at}

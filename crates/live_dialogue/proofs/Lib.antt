@@ -1,0 +1,5 @@
+pub mod DialogueLemmas
+pub mod Lines
+pub mod PassedSlots
+pub mod ReplayLemmas
+pub mod StreamLemmas

@@ -1,0 +1,4 @@
+pub mod Dialogues
+pub mod FaultTexts
+pub mod Replays
+pub mod Streams

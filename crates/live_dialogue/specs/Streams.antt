@@ -1,0 +1,138 @@
+-- What a dialogue puts on its streams: the answers, the rows of the record, and the faults.
+use Rattle.std.specs.Prelude.{◌≡◌, ◌<◌, ◌≤◌, ◌⊎◌, ℕ, ◌+◌, ◌-◌, ◌^◌, true, List, ◌++◌, length, Option, Ok, Err, ⊤}
+use Rattle.std.specs.Io.KnownBytes.{Appends}
+use Rattle.slot_core.specs.Calls.Counts.{Rose}
+use Rattle.slot_core.specs.declared.tasks.TaskSet.{TaskSet}
+use Rattle.slot_core.specs.declared.TheConstants.{ARRIVAL_LIMIT}
+use Rattle.slot_core.specs.Keeping.Executives.{Executive}
+use Rattle.slot_core.specs.Runs.Arrivals.{event_fits}
+use Rattle.slot_core.specs.Runs.Histories.{History}
+use Rattle.slot_io.specs.Sinks.{AppendsPart}
+use Rattle.line_source.specs.Lines.{Heard}
+use Rattle.live_lines.specs.declared.commands.LiveCommand.TheVariants.{Arrive, Pass, End}
+use Rattle.live_lines.specs.Commands.{Asked}
+use Rattle.live_lines.specs.Rows.{record_text}
+use Rattle.live_dialogue.specs.declared.streams.DialogueFault.{DialogueFault}
+use Rattle.live_dialogue.specs.declared.streams.DialogueFault.TheVariants.{Input, Record, Output}
+use Rattle.live_dialogue.specs.declared.streams.Streams.{Streams}
+use Rattle.live_dialogue.specs.Dialogues.{exchanges, answers_text, faults_text, rows_text, start_text, answer_text, fault_text, arrival_made, GoesOn, IsOver, BreaksOff}
+
+-- texts for the streams
+pub record Texts : Type 0 where
+  pub answers : List ℕ
+  pub rows : List ℕ
+  pub faults : List ℕ
+
+-- the texts of one exchange
+abbrev pub exchange_texts : TaskSet → ℕ → ℕ → History → Asked → Texts
+exchange_texts set cycle number h a = record {
+  answers = answer_text set cycle h a;
+  rows = record_text set (arrival_made h a);
+  faults = fault_text number a;
+}
+
+-- what is asked for fits the plan of an executive, and its time and its last row
+abbrev pub FitsNow : Executive → Asked → Type 0
+FitsNow exec (Ok (Arrive event)) =
+    (event_fits exec.plan.tasks event ≡ true) × (exec.last_row < ARRIVAL_LIMIT)
+    × (exec.scene.time ≤ 2 ^ 32)
+FitsNow exec (Ok (Pass slots)) = exec.scene.time + slots ≤ 2 ^ 32
+FitsNow exec (Ok End) = ⊤
+FitsNow exec (Err fault) = ⊤
+
+-- the texts of a dialogue: the first line, and what answers, records and blames what is heard
+abbrev pub dialogue_texts : TaskSet → ℕ → List Heard → Texts
+dialogue_texts set cycle heards =
+    let xs = exchanges set cycle heards in record {
+      answers = start_text set cycle ++ answers_text set cycle xs;
+      rows = rows_text set xs;
+      faults = faults_text xs;
+    }
+
+-- what contracts see of the streams: the bytes of each sink, where they are told, and how many of
+-- its puts failed
+pub record Seen : Type 0 where
+  pub answers : Option (List ℕ)
+  pub answers_lost : ℕ
+  pub rows : Option (List ℕ)
+  pub rows_lost : ℕ
+  pub faults : Option (List ℕ)
+  pub faults_lost : ℕ
+
+-- the streams, as their sinks tell them
+abbrev pub seen : {K R E : Type 0} → (K → Option (List ℕ)) → (K → ℕ) → (R → Option (List ℕ))
+    → (R → ℕ) → (E → Option (List ℕ)) → (E → ℕ) → Streams K R E → Seen
+seen answers answers_lost rows rows_lost faults faults_lost s = record {
+  answers = answers s.answers;
+  answers_lost = answers_lost s.answers;
+  rows = rows s.rows;
+  rows_lost = rows_lost s.rows;
+  faults = faults s.faults;
+  faults_lost = faults_lost s.faults;
+}
+
+-- no count of failed puts falls
+pub record IsCounted (before after : Seen) : Type 0 where
+  pub answers : before.answers_lost ≤ after.answers_lost
+  pub rows : before.rows_lost ≤ after.rows_lost
+  pub faults : before.faults_lost ≤ after.faults_lost
+
+-- a text of faults is told, or a put of it failed, which is counted
+abbrev pub IsTold : Seen → Seen → List ℕ → Type 0
+IsTold before after text =
+    Appends before.faults after.faults text ⊎ Rose before.faults_lost after.faults_lost
+
+-- the texts are put
+pub record IsPut (before after : Seen) (texts : Texts) : Type 0 where
+  pub answers : Appends before.answers after.answers texts.answers
+  pub rows : Appends before.rows after.rows texts.rows
+  pub faults : IsTold before after texts.faults
+  pub counted : IsCounted before after
+
+-- a part of the answers and of the rows is put, each from its front, and the faults are told
+pub record IsPutInPart (before after : Seen) (texts : Texts) : Type 0 where
+  pub answers : AppendsPart before.answers after.answers texts.answers
+  pub rows : AppendsPart before.rows after.rows texts.rows
+  pub faults : IsTold before after texts.faults
+  pub counted : IsCounted before after
+
+-- a put of the answers or of the record failed, as the fault says
+abbrev pub IsPutFault : DialogueFault → Seen → Seen → Type 0
+IsPutFault Input before after = ⊥
+IsPutFault Record before after = Rose before.rows_lost after.rows_lost
+IsPutFault Output before after = Rose before.answers_lost after.answers_lost
+
+-- a dialogue is over: the source gave what was heard, with which the end was asked for, and all
+-- of its texts are put
+pub record IsDialogue (set : TaskSet) (cycle : ℕ) (Gave : List Heard → Type 0) (before after : Seen)
+    : Type 0 where
+  pub heards : List Heard
+  pub gave : Gave heards
+  pub over : IsOver set heards
+  pub put : IsPut before after (dialogue_texts set cycle heards)
+
+-- a dialogue is left: all that was heard is answered, and the end was not asked for
+pub record IsLeft (set : TaskSet) (cycle : ℕ) (Gave : List Heard → Type 0) (before after : Seen)
+    : Type 0 where
+  pub heards : List Heard
+  pub gave : Gave heards
+  pub goes_on : GoesOn set heards
+  pub put : IsPut before after (dialogue_texts set cycle heards)
+
+-- a dialogue is cut off in the first line or in an answer: a part of its texts is put
+pub record IsCut (set : TaskSet) (cycle : ℕ) (Gave : List Heard → Type 0) (before after : Seen)
+    : Type 0 where
+  pub heards : List Heard
+  pub gave : Gave heards
+  pub breaks : BreaksOff set heards
+  pub put : IsPutInPart before after (dialogue_texts set cycle heards)
+
+-- how a dialogue ends before the end is asked for: it is left where a read failed, or where as many
+-- lines came as can be counted, and cut off where a put failed
+abbrev pub IsBroken : {S : Type 0} → (S → S → List Heard → Type 0) → (S → ℕ) → TaskSet → ℕ
+    → DialogueFault → S → S → Seen → Seen → Type 0
+IsBroken {S} Gave misread set cycle Input from to before after =
+    (between : S) × (left : IsLeft set cycle (Gave from between) before after)
+    × (Rose (misread from) (misread to) ⊎ (length left.heards ≡ 2 ^ 64 - 1))
+IsBroken {S} Gave misread set cycle fault from to before after =
+    IsCut set cycle (Gave from to) before after × IsPutFault fault before after

@@ -1,0 +1,24 @@
+-- How want of memory is told.
+use Rattle.std.proofs.Common.{◌≡◌, ℕ, List, [], Option, inl, inr, refl, ap, ◌∙◌, subst}
+use Rattle.run_outcome.specs.declared.refusal.Refusal.TheVariants.{Memory}
+use Rattle.run_outcome.specs.declared.status.Status.{Status}
+use Rattle.run_outcome.specs.Reports.{IsTold}
+use Rattle.live_run.specs.declared.refusal.LiveRefusal.{LiveRefusal}
+use Rattle.live_run.specs.declared.refusal.LiveRefusal.TheVariants.{Run}
+use Rattle.live_run.specs.Refusals.{live_line, live_status}
+use Rattle.live_run.specs.Runs.{IsStatusTold}
+
+-- want of memory is told alike whatever the names
+pub memory-named : (words names : List (List ℕ)) (before after : Option (List ℕ)) (faults_before faults_after : ℕ) (status : Status) → IsStatusTold words [] (Run Memory) before after faults_before faults_after status → IsStatusTold words names (Run Memory) before after faults_before faults_after status
+memory-named words names before after faults_before faults_after status told =
+    let is : told.0 ≡ Run Memory = elim told.2.kept [
+      | inl kept ↦ kept
+      | inr memory ↦ memory.0
+    ] in (
+      Run Memory,
+      told.1 ∙ ap live_status is,
+      record {
+        kept = inl refl;
+        told = subst (λ (r : LiveRefusal). IsTold (live_line words [] r) before after faults_before faults_after) is told.2.told;
+      },
+    )

@@ -1,0 +1,4 @@
+pub mod Calls
+pub mod Records
+pub mod Refusals
+pub mod Runs

@@ -1,0 +1,15 @@
+-- The file in which arrivals are recorded.
+use Rattle.std.specs.Prelude.{◌≡◌, ℕ, Bool, true, false, List, [], Option, IfSome}
+use Rattle.live_dialogue.specs.Streams.{Seen}
+
+-- nothing is written, where that is told
+abbrev pub IsEmpty : Option (List ℕ) → Type 0
+IsEmpty written = IfSome written (λ bytes. bytes ≡ [])
+
+-- the streams before the first line: where arrivals are recorded their file is made, empty, and
+-- else nothing has changed
+abbrev pub IsReady : Bool → Seen → Seen → Type 0
+IsReady false before after = after ≡ before
+IsReady true before after =
+    IsEmpty after.rows
+    × (after ≡ record before { rows = after.rows; rows_lost = after.rows_lost })

@@ -1,0 +1,76 @@
+//! `run` over a host: its arguments, its files and its standard streams.
+
+ghost use Rattle.std.specs.Prelude.{◌≡◌, ◌↔◌, None, IfOk, IsErr};
+ghost use Rattle.std.specs.Process.{exit_status};
+ghost use Rattle.run_outcome.specs.declared.status.Status.{Status};
+ghost use Rattle.run_outcome.specs.Statuses.{exit_number};
+ghost use Rattle.live_run.specs.Calls.{live_call_of};
+
+use crate::record::HostRecord;
+use crate::runs::run;
+use line_source::InputLines;
+use live_dialogue::Streams;
+use run_outcome::Status;
+use slot_core::{Memory, Words};
+use slot_io::{HostFiles, HostSink, words_of};
+use std::io::{BufReader, Input, Write};
+use std::process::ExitCode;
+use std::rt::{Env, Files};
+
+/// Runs over these streams and the arguments, the files and the standard input of the host, and
+/// gives the number of the status. Where memory ran out before `run`, that number alone tells it,
+/// and nothing is printed.
+pub fn run_on_host<O, E, R>(out: O, err: E, rt: R) -> ExitCode
+where
+    O: Write + Drop,
+    E: Write + Drop,
+    R: Files + Env + Input + AllocGlobal + Drop,
+    ensures { (status : Status) × (exit_status result ≡ exit_number status) }
+{
+    let words = words_of(&rt);
+    exit_of(run_words(out, err, &rt, words))
+}
+
+/// The exit status of the program.
+fn exit_of(status: Status) -> ExitCode
+    ensures { exit_status result ≡ exit_number status }
+{
+    ExitCode::from(status.number())
+}
+
+/// The status of a run of these words, where memory sufficed for them and for what is read ahead.
+fn run_words<O, E, R>(out: O, err: E, rt: &R, words: Result<Words, Memory>) -> Status
+where
+    O: Write + Drop,
+    E: Write + Drop,
+    R: Files + Input + AllocGlobal,
+    ensures memory { IsErr words → result ≡ Status.Memory }
+{
+    match words {
+        Ok(words) => run_over(out, err, rt, &words),
+        Err(Memory) => Status::Memory,
+    }
+}
+
+/// The status of a run of these words over these streams and the files and the input of the host.
+fn run_over<O, E, R>(out: O, err: E, rt: &R, words: &Words) -> Status
+where
+    O: Write + Drop,
+    E: Write + Drop,
+    R: Files + Input + AllocGlobal,
+{
+    let alloc = rt.alloc();
+    match BufReader::new(alloc, rt.reader()) {
+        Ok(reader) => {
+            let mut source = InputLines::new(reader);
+            let mut files = HostFiles::new(rt);
+            let mut streams = Streams {
+                answers: HostSink::new(out),
+                rows: HostRecord::new(rt),
+                faults: HostSink::new(err),
+            };
+            run(alloc, words, &mut files, &mut source, &mut streams)
+        }
+        Err(_) => Status::Memory,
+    }
+}

@@ -1,0 +1,90 @@
+//! Every way in which a live run ends that is not Done.
+
+ghost use Rattle.std.specs.Prelude.{◌≡◌};
+ghost use Rattle.run_outcome.specs.declared.refusal.Refusal.TheVariants.{Memory as NoMemory};
+ghost use Rattle.live_run.specs.Refusals.{live_status, of_dialogue};
+ghost use Rattle.live_run.specs.declared.refusal.LiveRefusal.TheVariants.{Run as RunRefusal};
+
+use live_dialogue::DialogueFault;
+use run_outcome::{Refusal, Status};
+use slot_core::Memory;
+use std::error::Error;
+use std::fmt;
+
+/// Why a live run is not done.
+#[derive(Debug, Drop)]
+pub enum LiveRefusal {
+    /// The words are none of the forms.
+    Usage,
+    /// As a run of slotshift is refused: its plan, the output, or want of memory.
+    Run(Refusal),
+    /// The record cannot be made.
+    Unmade,
+    /// The record takes no more.
+    Unrecorded,
+    /// No more lines can be read.
+    Unheard,
+}
+
+impl LiveRefusal {
+    /// The status of the run.
+    pub fn status(&self) -> Status
+        ensures { result ≡ live_status self.now }
+    {
+        match self {
+            LiveRefusal::Usage => Status::Usage,
+            LiveRefusal::Run(refusal) => refusal.status(),
+            LiveRefusal::Unmade | LiveRefusal::Unrecorded => Status::WriteFault,
+            LiveRefusal::Unheard => Status::FileFault,
+        }
+    }
+}
+
+impl fmt::Display for LiveRefusal {
+    ghost use Rattle.std.specs.Prelude.{Some};
+    ghost use Rattle.live_run.specs.Refusals.{live_refusal_text};
+
+    ghost output = { λ refusal. Some (live_refusal_text refusal) };
+
+    fn fmt<W: fmt::Write>(&self, f: &mut fmt::Formatter<W>) -> fmt::Result {
+        match self {
+            LiveRefusal::Usage => write!(
+                f,
+                "usage: slotlive T [--record FILE], slotlive --table B [--record FILE]"
+            ),
+            LiveRefusal::Run(refusal) => write!(f, "{refusal}"),
+            LiveRefusal::Unmade | LiveRefusal::Unrecorded => write!(f, "cannot write the record"),
+            LiveRefusal::Unheard => write!(f, "cannot read standard input"),
+        }
+    }
+}
+
+impl Error for LiveRefusal {}
+
+impl From<Refusal> for LiveRefusal {
+    ghost from_gives = { λ refusal live. live ≡ RunRefusal refusal };
+
+    fn from(refusal: Refusal) -> LiveRefusal {
+        LiveRefusal::Run(refusal)
+    }
+}
+
+impl From<Memory> for LiveRefusal {
+    ghost from_gives = { λ _ live. live ≡ RunRefusal NoMemory };
+
+    fn from(_memory: Memory) -> LiveRefusal {
+        LiveRefusal::Run(Refusal::Memory)
+    }
+}
+
+impl From<DialogueFault> for LiveRefusal {
+    ghost from_gives = { λ fault live. live ≡ of_dialogue fault };
+
+    fn from(fault: DialogueFault) -> LiveRefusal {
+        match fault {
+            DialogueFault::Input => LiveRefusal::Unheard,
+            DialogueFault::Record => LiveRefusal::Unrecorded,
+            DialogueFault::Output => LiveRefusal::Run(Refusal::WriteFault),
+        }
+    }
+}

@@ -1,0 +1,94 @@
+//! The work of a live run.
+
+ghost use Rattle.std.specs.Prelude.{◌≡◌, ◌≤◌, Err, OnErr, OnOk};
+ghost use Rattle.slot_core.specs.Calls.Counts.{Rose};
+ghost use Rattle.slot_core.specs.Keeping.Executives.{StandsFor};
+ghost use Rattle.slot_core.specs.Runs.Traces.{started};
+ghost use Rattle.live_dialogue.specs.Streams.{seen};
+ghost use Rattle.live_run.specs.Calls.{HasPlan};
+ghost use Rattle.live_run.specs.Records.{IsEmpty};
+ghost use Rattle.live_run.specs.Runs.{IsLiveWork, IsTalk};
+
+use crate::call::{LiveCall, record_name};
+use crate::record::RecordFile;
+use crate::refusal::LiveRefusal;
+use cycle_plan::Plan;
+use interval_row::ChainTable;
+use line_source::LineSource;
+use live_dialogue::{Streams, converse};
+use run_steps::plan_from;
+use slot_core::{Failed, Words};
+use slot_exec::Exec;
+use slot_io::{Files, Sink};
+use std::alloc::Global;
+
+/// Does the work of a call: makes the plan and starts its executive, makes the record where there
+/// is to be one, and answers the lines. All memory is taken before the first line is answered.
+pub(crate) fn work<F: Files, S: LineSource, K: Sink, R: RecordFile, E: Sink>(
+    alloc: Global,
+    words: &Words,
+    names: &Words,
+    call: LiveCall,
+    files: &mut F,
+    source: &mut S,
+    streams: &mut Streams<K, R, E>,
+) -> Result<(), LiveRefusal>
+    requires plan { HasPlan call }
+    ensures { IsLiveWork F.held F.faults F.blamed S.gave S.faults files.old files.new
+        names.now call source.old source.new
+        (seen K.written K.faults R.written R.faults E.written E.faults streams.old)
+        (seen K.written K.faults R.written R.faults E.written E.faults streams.new) result }
+{
+    let plan = plan_from(alloc, names, files, call.source)?;
+    talk(alloc, words, call, plan, source, streams)
+}
+
+/// Answers the lines by the executive of a plan.
+fn talk<S: LineSource, K: Sink, R: RecordFile, E: Sink>(
+    alloc: Global,
+    words: &Words,
+    call: LiveCall,
+    plan: Plan,
+    source: &mut S,
+    streams: &mut Streams<K, R, E>,
+) -> Result<(), LiveRefusal>
+    ensures { IsTalk S.gave S.faults plan call.is_recorded source.old source.new
+        (seen K.written K.faults R.written R.faults E.written E.faults streams.old)
+        (seen K.written K.faults R.written R.faults E.written E.faults streams.new) result }
+{
+    let mut exec: Exec<ChainTable> = Exec::start(alloc, plan)?;
+    talk_with(words, call, &mut exec, source, streams)
+}
+
+/// Answers the lines by an executive that has just started.
+fn talk_with<S: LineSource, K: Sink, R: RecordFile, E: Sink>(
+    words: &Words,
+    call: LiveCall,
+    exec: &mut Exec<ChainTable>,
+    source: &mut S,
+    streams: &mut Streams<K, R, E>,
+) -> Result<(), LiveRefusal>
+    requires { StandsFor exec.old started }
+    ensures { IsTalk S.gave S.faults exec.old.plan call.is_recorded source.old source.new
+        (seen K.written K.faults R.written R.faults E.written E.faults streams.old)
+        (seen K.written K.faults R.written R.faults E.written E.faults streams.new) result }
+{
+    if call.is_recorded {
+        make_record(words, &mut streams.rows)?;
+    }
+    converse(exec, source, streams)?;
+    Ok(())
+}
+
+/// Makes the record that the last word names.
+fn make_record<R: RecordFile>(words: &Words, rows: &mut R) -> Result<(), LiveRefusal>
+    ensures empty { OnOk result (IsEmpty (R.written rows.new)) }
+    ensures counted { R.faults rows.old ≤ R.faults rows.new }
+    ensures unmade { OnErr result (result ≡ Err LiveRefusal.Unmade) }
+    ensures failed { OnErr result (Rose (R.faults rows.old) (R.faults rows.new)) }
+{
+    match rows.make(record_name(words)) {
+        Ok(()) => Ok(()),
+        Err(Failed) => Err(LiveRefusal::Unmade),
+    }
+}

@@ -1,0 +1,55 @@
+-- Rows of a trace, and the jobs that they hold.
+use Rattle.std.specs.Prelude.{ℕ, ◌≡◌, Bool, true, false, ◌&&◌, ◌==◌, List, ◌∷◌, length, position}
+use Rattle.std.specs.List.{list_all, list_any}
+use Rattle.std.specs.List.Sorted.{IsPermutation}
+use Rattle.std.specs.Option.{unwrap_or}
+use Rattle.std.specs.Str.{bytes_eq}
+use Rattle.trace_lines.specs.declared.line.KeyName.{KeyName}
+use Rattle.trace_lines.specs.declared.line.KeyName.TheVariants.{Offline, Sporadic as SporadicKey, Firm as FirmKey, Soft as SoftKey}
+use Rattle.run_blocks.specs.declared.rows.Row.{Row}
+use Rattle.run_blocks.specs.declared.rows.Row.TheVariants.{Task, Sporadic, FirmJob, Firm, Soft}
+
+-- the row holds the job of this key
+abbrev pub row_holds : Row → KeyName → Bool
+row_holds (Task graph task) (Offline g t instance) = bytes_eq graph g && bytes_eq task t
+row_holds (Sporadic name) (SporadicKey n row) = bytes_eq name n
+row_holds (FirmJob row) (FirmKey r) = row == r
+row_holds Firm (FirmKey r) = true
+row_holds Soft (SoftKey r) = true
+row_holds row key = false
+
+-- the row that a key asks for: firm jobs have rows of their own, or one for all
+abbrev pub row_of : Bool → KeyName → Row
+row_of apart (Offline graph task instance) = Task graph task
+row_of apart (SporadicKey name row) = Sporadic name
+row_of true (FirmKey row) = FirmJob row
+row_of false (FirmKey row) = Firm
+row_of apart (SoftKey row) = Soft
+
+-- a row holds the job
+abbrev pub has_row : List Row → KeyName → Bool
+has_row rows key = list_any (λ row. row_holds row key) rows
+
+-- the place of the first row that holds the job, or the number of rows where none does
+abbrev pub row_at : List Row → KeyName → ℕ
+row_at rows key = unwrap_or (position (λ row. row_holds row key) rows) (length rows)
+
+-- the job of each run has a row
+abbrev pub have_rows : List Row → List (ℕ × KeyName) → Bool
+have_rows rows runs = list_all (λ (run : ℕ × KeyName). has_row rows run.1) runs
+
+-- each row holds the job of a run
+abbrev pub are_run : List Row → List (ℕ × KeyName) → Bool
+are_run rows runs =
+    list_all (λ row. list_any (λ (run : ℕ × KeyName). row_holds row run.1) runs) rows
+
+-- rows of the jobs of these runs
+pub record AreRowsOf (rows : List Row) (runs : List (ℕ × KeyName)) : Type 0 where
+  pub held : have_rows rows runs ≡ true
+  pub run : are_run rows runs ≡ true
+
+-- the rows stay where one holds the job of the key, and else its row stands among them too
+abbrev pub IsOneRowMore : Bool → KeyName → List Row → List Row → Type 0
+IsOneRowMore apart key before after =
+    (has_row before key ≡ true → before ≡ after)
+    × (has_row before key ≡ false → IsPermutation (row_of apart key ∷ before) after)

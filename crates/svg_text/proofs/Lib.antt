@@ -1,0 +1,2 @@
+pub mod AsciiContent
+pub mod WellFormed

@@ -1,0 +1,7 @@
+use Rattle.std.proofs.Common.{sym, subst}
+use Rattle.svg_text.specs.Content.{IsContent}
+use Rattle.svg_text.specs.Content.IsContent.{nothing}
+use Rattle.svg_text.proofs.drawing.Drawing.new.Goals as goal
+
+pub invariant_of-result : goal.invariant_of-result
+invariant_of-result c = subst IsContent (sym c.new.ensures.items) nothing

@@ -1,0 +1,10 @@
+pub mod AnswerReads
+pub mod ByteLemmas
+pub mod Choices
+pub mod KeyReads
+pub mod NumberReads
+pub mod WordReads
+pub mod SpanReads
+pub mod LineReads
+pub mod TraceReads
+pub mod NamedLines

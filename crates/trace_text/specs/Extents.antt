@@ -1,0 +1,6 @@
+-- The extents of spans, which are their starts and ends, as texts.
+use Rattle.std.specs.Prelude.{ℕ, List, ◌∷◌, ◌++◌, codes, decimal}
+
+-- a space, the start, a dash, the end and a colon
+abbrev pub extent_text : ℕ → ℕ → List ℕ
+extent_text start end = 32 ∷ decimal start ++ codes "-" ++ decimal end ++ codes ":"

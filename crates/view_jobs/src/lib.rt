@@ -1,0 +1,15 @@
+//! A table of the jobs of a trace, over the plan of its task set.
+#![tactic(auto)]
+
+mod deeds;
+mod faults;
+mod jobs;
+mod put;
+mod rows;
+mod tallies;
+
+pub use deeds::{Arrived, Deed, Does, deed_of};
+pub use faults::JobsFault;
+pub use jobs::Listed;
+pub use put::put_jobs;
+pub use tallies::Tally;

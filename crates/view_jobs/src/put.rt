@@ -1,0 +1,179 @@
+//! The table of jobs.
+
+ghost use Rattle.std.specs.Prelude.{◌≡◌, ℕ, ◌≤◌, ◌<◌, ◌+◌, ◌++◌, ◌∷◌, List, [], length, Some, Err, OnOk, OnErr};
+ghost use Rattle.std.specs.Io.KnownBytes.{Appends};
+ghost use Rattle.slot_core.specs.Calls.Counts.{Rose};
+ghost use Rattle.slot_io.specs.Sinks.{AppendsPart};
+ghost use Rattle.csv_table.specs.Tables.{rows_text};
+ghost use Rattle.view_jobs.specs.JobRows.{job_names};
+ghost use Rattle.view_jobs.specs.Tables.{BreaksTable, first_unknown, rows_with, WritesTable};
+ghost use Rattle.view_jobs.specs.Tallies.{tally_in};
+
+use crate::deeds::{deeds_of, first_unknown};
+use crate::faults::JobsFault;
+use crate::jobs::{Listed, listed_jobs};
+use crate::rows::{job_names, push_job};
+use crate::tallies::{Tallies, tallies_of, tally_in};
+use csv_table::{Rows, TableFault};
+use cycle_plan::Plan;
+use slot_core::{Memory, TaskSet};
+use slot_io::Sink;
+use std::alloc::Global;
+use trace_lines::TraceLine;
+use trace_text::Line;
+
+/// How many jobs are written by one put.
+const JOBS_A_PUT: usize = 256;
+
+/// Writes a header and a row for each job of the trace: the offline jobs of the plan that are
+/// released before its end, and the jobs that arrive and are taken. Where a line names a task that
+/// the plan's set does not have, nothing is written. After another error a part of the text is
+/// written, from its front.
+pub fn put_jobs<K: Sink>(
+    alloc: Global,
+    plan: &Plan,
+    lines: &[TraceLine],
+    out: &mut K,
+) -> Result<(), JobsFault>
+    ensures text { OnOk result (WritesTable plan.now.tasks (K.written out.old) (K.written out.new)) }
+    ensures part { OnErr result (BreaksTable plan.now.tasks (K.written out.old) (K.written out.new)) }
+    ensures counted { K.faults out.old ≤ K.faults out.new }
+    ensures failed { result ≡ Err (JobsFault.Failed)
+        → Rose (K.faults out.old) (K.faults out.new) }
+    ensures no_line { (n : ℕ) → result ≡ Err (JobsFault.NoLine (n + 1))
+        → first_unknown plan.now.tasks lines.now ≡ Some n }
+    ensures untouched { (n : ℕ) → result ≡ Err (JobsFault.NoLine n) → out.new ≡ out.old }
+{
+    match first_unknown(plan.tasks(), lines) {
+        Some(place) => Err(JobsFault::NoLine(place as u64 + 1)),
+        None => match put_known(alloc, plan, lines, out) {
+            Ok(()) => Ok(()),
+            Err(TableFault::Memory) => Err(JobsFault::Memory),
+            Err(TableFault::Failed) => Err(JobsFault::Failed),
+        },
+    }
+}
+
+/// Writes the table of lines that name no unknown task.
+fn put_known<K: Sink>(
+    alloc: Global,
+    plan: &Plan,
+    lines: &[TraceLine],
+    out: &mut K,
+) -> Result<(), TableFault>
+    ensures text { OnOk result (WritesTable plan.now.tasks (K.written out.old) (K.written out.new)) }
+    ensures part { OnErr result (BreaksTable plan.now.tasks (K.written out.old) (K.written out.new)) }
+    ensures counted { K.faults out.old ≤ K.faults out.new }
+    ensures failed { result ≡ Err (TableFault.Failed)
+        → Rose (K.faults out.old) (K.faults out.new) }
+{
+    let deeds = deeds_of(alloc, plan.tasks(), lines)?;
+    let jobs = listed_jobs(alloc, plan, slots_of(lines), &deeds)?;
+    let tallies = tallies_of(alloc, &deeds)?;
+    put_all(alloc, plan.tasks(), &jobs, &tallies, out)
+}
+
+/// Writes the header and the rows of the jobs.
+fn put_all<K: Sink>(
+    alloc: Global,
+    tasks: &TaskSet,
+    jobs: &[Listed],
+    tallies: &Tallies,
+    out: &mut K,
+) -> Result<(), TableFault>
+    ensures text { OnOk result (WritesTable tasks.now (K.written out.old) (K.written out.new)) }
+    ensures part { OnErr result (BreaksTable tasks.now (K.written out.old) (K.written out.new)) }
+    ensures counted { K.faults out.old ≤ K.faults out.new }
+    ensures failed { result ≡ Err (TableFault.Failed)
+        → Rose (K.faults out.old) (K.faults out.new) }
+{
+    put_header(alloc, out)?;
+    put_rows(alloc, tasks, jobs, tallies, out)
+}
+
+/// The time of the last line.
+fn slots_of(lines: &[TraceLine]) -> u32 {
+    match lines.last() {
+        Some(line) => line.time,
+        None => 0,
+    }
+}
+
+/// Writes the header.
+fn put_header<K: Sink>(alloc: Global, out: &mut K) -> Result<(), TableFault>
+    ensures text { OnOk result
+        (Appends (K.written out.old) (K.written out.new) (rows_text (job_names ∷ []))) }
+    ensures part { OnErr result
+        (AppendsPart (K.written out.old) (K.written out.new) (rows_text (job_names ∷ []))) }
+    ensures counted { K.faults out.old ≤ K.faults out.new }
+    ensures failed { result ≡ Err (TableFault.Failed)
+        → Rose (K.faults out.old) (K.faults out.new) }
+{
+    let mut rows = Rows::new(alloc);
+    rows.push(&job_names())?;
+    rows.put(out)
+}
+
+/// Writes the rows of the jobs, by a put for each `JOBS_A_PUT` of them.
+fn put_rows<K: Sink>(
+    alloc: Global,
+    tasks: &TaskSet,
+    jobs: &[Listed],
+    tallies: &Tallies,
+    out: &mut K,
+) -> Result<(), TableFault>
+    ensures text { OnOk result
+        (Appends (K.written out.old) (K.written out.new) (rows_text (rows_with tasks.now (tally_in tallies.now) jobs.now))) }
+    ensures part { OnErr result
+        (AppendsPart (K.written out.old) (K.written out.new) (rows_text (rows_with tasks.now (tally_in tallies.now) jobs.now))) }
+    ensures counted { K.faults out.old ≤ K.faults out.new }
+    ensures failed { result ≡ Err (TableFault.Failed)
+        → Rose (K.faults out.old) (K.faults out.new) }
+{
+    let mut rest = jobs;
+    while !rest.is_empty() {
+        let (part, later) = rest.split_at(rest.len().min(JOBS_A_PUT));
+        put_part(alloc, tasks, part, tallies, out)?;
+        rest = later;
+    }
+    Ok(())
+}
+
+/// Writes the rows of these jobs by one put.
+fn put_part<K: Sink>(
+    alloc: Global,
+    tasks: &TaskSet,
+    jobs: &[Listed],
+    tallies: &Tallies,
+    out: &mut K,
+) -> Result<(), TableFault>
+    ensures text { OnOk result
+        (Appends (K.written out.old) (K.written out.new) (rows_text (rows_with tasks.now (tally_in tallies.now) jobs.now))) }
+    ensures part { OnErr result
+        (AppendsPart (K.written out.old) (K.written out.new) (rows_text (rows_with tasks.now (tally_in tallies.now) jobs.now))) }
+    ensures counted { K.faults out.old ≤ K.faults out.new }
+    ensures failed { result ≡ Err (TableFault.Failed)
+        → Rose (K.faults out.old) (K.faults out.new) }
+{
+    let mut rows = Rows::new(alloc);
+    push_jobs(&mut rows, tasks, jobs, tallies)?;
+    rows.put(out)
+}
+
+/// Appends the rows of these jobs.
+fn push_jobs(
+    rows: &mut Rows,
+    tasks: &TaskSet,
+    jobs: &[Listed],
+    tallies: &Tallies,
+) -> Result<(), Memory>
+    ensures { (text : List ℕ) → rows.old ≡ Some text → OnOk result (rows.new
+        ≡ Some (text ++ rows_text (rows_with tasks.now (tally_in tallies.now) jobs.now))) }
+{
+    let mut text = Line::new();
+    for job in jobs {
+        let tally = tally_in(tallies, job.key);
+        push_job(rows, tasks, job, tally, &mut text)?;
+    }
+    Ok(())
+}

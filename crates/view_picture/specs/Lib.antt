@@ -1,0 +1,4 @@
+pub mod Blocks
+pub mod FaultTexts
+pub mod Lengths
+pub mod Titles

@@ -1,0 +1,158 @@
+//! The legend: what the shades and marks stand for.
+
+ghost use Rattle.std.specs.Prelude.{◌≤◌};
+
+use crate::arrivals::draw_due;
+use crate::layout::{LEGEND, LETTER, MARGIN, down};
+use crate::marks::{MARKS, Mark};
+use slot_core::Memory;
+use std::alloc::Global;
+use svg_text::{Drawing, Frame};
+use trace_lines::TraceLine;
+
+/// What is explained.
+#[derive(Clone, Copy)]
+enum Sign {
+    /// The blocks of jobs one after the other, in two shades.
+    Jobs,
+    /// A mark of arrivals.
+    Mark(Mark),
+    /// The first capacity.
+    First,
+    /// The least capacity.
+    Least,
+}
+
+impl Sign {
+    /// What it stands for.
+    fn words(self) -> &'static str {
+        match self {
+            Sign::Jobs => "one job, the next",
+            Sign::Mark(mark) => mark.words(),
+            Sign::First => "capacity of the first span",
+            Sign::Least => "least shown",
+        }
+    }
+
+    /// The width of its drawn part.
+    fn drawn(self) -> u32
+        ensures { result ≤ 26 }
+    {
+        match self {
+            Sign::Mark(Mark::Accepted) | Sign::Jobs | Sign::First | Sign::Least => SIGN,
+            Sign::Mark(_) => 10,
+        }
+    }
+
+    /// The width that it takes.
+    fn width(self) -> u32 {
+        down(self.drawn() + 4 * LETTER, self.words().len(), LETTER)
+    }
+}
+
+/// The width of the drawn part of the signs that are not a mark alone.
+const SIGN: u32 = 26;
+
+/// A sign and its place.
+#[derive(Clone, Copy)]
+struct Explained {
+    sign: Sign,
+    x: u32,
+    line: usize,
+}
+
+/// The signs of a picture, line by line.
+#[derive(Drop)]
+pub(crate) struct Legend {
+    signs: Vec<Explained>,
+    /// The width of a line.
+    width: u32,
+    /// The end of the last sign.
+    end: u32,
+    /// The number of lines.
+    pub lines: usize,
+}
+
+/// The legend of the lines of a trace in this width: shades, the marks that stand in it, and
+/// capacities.
+pub(crate) fn legend_of(alloc: Global, lines: &[TraceLine], width: u32) -> Result<Legend, Memory> {
+    let mut legend = Legend {
+        signs: Vec::new(alloc),
+        width,
+        end: MARGIN,
+        lines: 1,
+    };
+    legend.push(Sign::Jobs)?;
+    for mark in MARKS {
+        if lines.iter().any(|line| Mark::of(&line.words) == Some(mark)) {
+            legend.push(Sign::Mark(mark))?;
+        }
+    }
+    legend.push(Sign::First)?;
+    legend.push(Sign::Least)?;
+    Ok(legend)
+}
+
+impl Legend {
+    /// Adds a sign, in a new line where it has no room in the last.
+    fn push(&mut self, sign: Sign) -> Result<(), Memory> {
+        let width = sign.width();
+        if self.end.saturating_add(width) > self.width && self.end > MARGIN {
+            self.end = MARGIN;
+            self.lines = self.lines.saturating_add(1);
+        }
+        self.signs.push(Explained {
+            sign,
+            x: self.end,
+            line: self.lines,
+        })?;
+        self.end = self.end.saturating_add(width);
+        Ok(())
+    }
+
+    /// Draws the signs.
+    pub(crate) fn draw(&self, drawing: &mut Drawing) -> Result<(), Memory> {
+        for explained in &self.signs {
+            let y = down(MARGIN, explained.line.saturating_sub(1), LEGEND);
+            draw_sign(drawing, explained.sign, explained.x, y)?;
+            let words = explained.sign.words().as_bytes();
+            let x = explained.x.saturating_add(explained.sign.drawn() + LETTER);
+            drawing.label("sign", x, y.saturating_add(10), words)?;
+        }
+        Ok(())
+    }
+}
+
+/// Draws a sign.
+fn draw_sign(drawing: &mut Drawing, sign: Sign, x: u32, y: u32) -> Result<(), Memory> {
+    match sign {
+        Sign::Jobs => {
+            draw_box(drawing, "task-a", (x, y), (12, 12))?;
+            draw_box(drawing, "task-b", (x.saturating_add(13), y), (12, 12))
+        }
+        Sign::Mark(mark) => {
+            if mark == Mark::Accepted {
+                draw_due(drawing, x.saturating_add(5), y, 21, b"")?;
+            }
+            drawing.path(mark.class(), x.saturating_add(1), y, mark.strokes(), b"")
+        }
+        Sign::First => draw_box(drawing, "first", (x, y), (SIGN, 12)),
+        Sign::Least => draw_box(drawing, "least", (x, y.saturating_add(5)), (SIGN, 2)),
+    }
+}
+
+/// Draws a box of this class, place and size.
+fn draw_box(
+    drawing: &mut Drawing,
+    class: &str,
+    (x, y): (u32, u32),
+    (width, height): (u32, u32),
+) -> Result<(), Memory> {
+    let frame = Frame {
+        x,
+        y,
+        width,
+        height,
+    };
+    drawing.rect(class, frame, b"")
+}

@@ -1,0 +1,22 @@
+//! The picture of a trace: time to the right, what arrived above, a row for each task, and the
+//! spare capacity below.
+#![tactic(auto)]
+
+mod arrivals;
+mod axis;
+mod blocks;
+mod capacity;
+mod faults;
+mod layout;
+mod legend;
+mod marks;
+mod rows;
+mod style;
+mod titles;
+mod trace_picture;
+
+pub use faults::PictureFault;
+pub use trace_picture::picture;
+
+/// Most slots of a picture.
+pub const PICTURE_LIMIT: u32 = 10_000;

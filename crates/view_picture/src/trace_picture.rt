@@ -1,0 +1,126 @@
+//! The picture.
+
+ghost use Rattle.std.specs.Prelude.{◌≡◌, ◌≤◌, ◌<◌, Err, IfOk, IsOk, List};
+ghost use Rattle.svg_text.specs.Content.{IsDocument};
+ghost use Rattle.trace_lines.specs.declared.line.TraceLine.{TraceLine};
+ghost use Rattle.view_picture.specs.declared.TheConstants.{PICTURE_LIMIT};
+ghost use Rattle.view_picture.specs.Blocks.{ShowsRuns};
+ghost use Rattle.view_picture.specs.Lengths.{slots_of};
+
+use crate::PICTURE_LIMIT;
+use crate::arrivals::{Arrivals, arrivals_of, draw_arrivals};
+use crate::axis::draw_axis;
+use crate::blocks::draw_runs;
+use crate::capacity::{draw_capacities, levels_of};
+use crate::faults::PictureFault;
+use crate::layout::{Heights, MARGIN, Times};
+use crate::legend::{Legend, legend_of};
+use crate::rows::draw_rows;
+use crate::style::STYLE;
+use crate::titles::row_label;
+use run_blocks::{Row, rows_of};
+use slot_core::Memory;
+use std::alloc::Global;
+use svg_text::{Document, Drawing, Frame};
+use trace_lines::TraceLine;
+
+/// The least width of a picture, and the greatest of its legend.
+const WIDTHS: (u32, u32) = (480, 1_400);
+
+/// The letters that the labels of lanes and capacities want.
+const LETTERS: usize = 14;
+
+/// The picture of the lines of a trace, which has at most `PICTURE_LIMIT` slots: what arrived, a
+/// row for each task, firm job or kind of jobs that ran, with a block for each run of slots of one
+/// job, and the capacities after each slot.
+pub fn picture(alloc: Global, lines: &[TraceLine]) -> Result<Document, PictureFault>
+    ensures formed { IfOk result (λ document. IsDocument document) }
+    ensures shows { IfOk result (λ document. ShowsRuns lines.now document) }
+    ensures short { IsOk result → slots_of lines.now ≤ PICTURE_LIMIT }
+    ensures refused { PICTURE_LIMIT < slots_of lines.now → result ≡ Err (PictureFault.TooLong) }
+    ensures cause { result ≡ Err (PictureFault.TooLong) → PICTURE_LIMIT < slots_of lines.now }
+{
+    let slots = slots_of(lines);
+    if slots > PICTURE_LIMIT {
+        return Err(PictureFault::TooLong);
+    }
+    let document = drawn(alloc, lines, slots)?;
+    Ok(document)
+}
+
+/// The number of slots of a trace: the time of its last line.
+fn slots_of(lines: &[TraceLine]) -> u32
+    ensures { result ≡ slots_of lines.now }
+{
+    match lines.last() {
+        Some(line) => line.time,
+        None => 0,
+    }
+}
+
+/// The picture of so many slots.
+fn drawn(alloc: Global, lines: &[TraceLine], slots: u32) -> Result<Document, Memory>
+    ensures formed { IfOk result (λ document. IsDocument document) }
+    ensures shows { IfOk result (λ document. ShowsRuns lines.now document) }
+{
+    let rows = rows_of(alloc, lines)?;
+    let letters = letters_of(alloc, rows.as_slice())?;
+    let times = Times::new(slots, letters);
+    let width = times.right().saturating_add(2 * MARGIN).max(WIDTHS.0);
+    let legend = legend_of(alloc, lines, width.min(WIDTHS.1))?;
+    let arrivals = arrivals_of(alloc, lines, &times)?;
+    let heights = Heights::new(legend.lines, arrivals.count, rows.len());
+    let mut drawing = Drawing::new(alloc);
+    let height = heights.bottom.saturating_add(2 * MARGIN);
+    draw_page(&mut drawing, width, height)?;
+    legend.draw(&mut drawing)?;
+    draw_axis(&mut drawing, &times, &heights)?;
+    draw_arrivals(alloc, &mut drawing, &times, &heights, &arrivals)?;
+    draw_rows(alloc, &mut drawing, &times, &heights, rows.as_slice())?;
+    let levels = levels_of(alloc, lines)?;
+    draw_capacities(alloc, &mut drawing, &times, &heights, levels.as_slice())?;
+    draw_runs(
+        alloc,
+        &mut drawing,
+        lines,
+        rows.as_slice(),
+        &times,
+        heights.rows,
+    )?;
+    finished(alloc, width, height, STYLE, &drawing)
+}
+
+/// The document of a drawing, which shows what the drawing shows.
+fn finished(
+    alloc: Global,
+    width: u32,
+    height: u32,
+    style: &str,
+    drawing: &Drawing,
+) -> Result<Document, Memory>
+    ensures formed { IfOk result (λ document. IsDocument document) }
+    ensures shows { (lines : List TraceLine) → ShowsRuns lines drawing.now
+        → IfOk result (λ document. ShowsRuns lines document) }
+{
+    Document::new(alloc, width, height, style, drawing)
+}
+
+/// The most letters of a label.
+fn letters_of(alloc: Global, rows: &[Row]) -> Result<usize, Memory> {
+    let mut letters = LETTERS;
+    for row in rows {
+        letters = letters.max(row_label(alloc, row)?.len());
+    }
+    Ok(letters)
+}
+
+/// Draws the page.
+fn draw_page(drawing: &mut Drawing, width: u32, height: u32) -> Result<(), Memory> {
+    let frame = Frame {
+        x: 0,
+        y: 0,
+        width,
+        height,
+    };
+    drawing.rect("page", frame, b"")
+}

@@ -1,0 +1,6 @@
+pub mod Inputs
+pub mod Names
+pub mod Refusals
+pub mod Runs
+pub mod Shown
+pub mod Views

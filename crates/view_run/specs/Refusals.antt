@@ -1,0 +1,43 @@
+-- Why a trace is not shown.
+use Rattle.std.specs.Prelude.{ℕ, List, ◌++◌, codes}
+use Rattle.slot_core.specs.Output.Texts.{worded}
+use Rattle.csv_table.specs.declared.faults.TableFault.{TableFault}
+use Rattle.csv_table.specs.declared.faults.TableFault.TheVariants.{Memory as TableMemory, Failed as TableFailed}
+use Rattle.run_outcome.specs.declared.refusal.Refusal.{Refusal}
+use Rattle.run_outcome.specs.declared.refusal.Refusal.TheVariants.{NotVerified, WriteFault, Memory}
+use Rattle.trace_lines.specs.declared.trace.TraceFault.{TraceFault}
+use Rattle.trace_lines.specs.declared.trace.TraceFault.TheVariants.{Memory as TraceMemory, NoLine}
+use Rattle.view_jobs.specs.declared.faults.JobsFault.{JobsFault}
+use Rattle.view_jobs.specs.declared.faults.JobsFault.TheVariants.{Memory as JobsMemory, Failed as JobsFailed, NoLine as NoJobLine}
+use Rattle.view_picture.specs.declared.TheConstants.{PICTURE_LIMIT}
+use Rattle.view_picture.specs.declared.faults.PictureFault.{PictureFault}
+use Rattle.view_picture.specs.declared.faults.PictureFault.TheVariants.{Memory as PictureMemory, TooLong}
+
+-- trace no line N
+abbrev pub no_line : ℕ → Refusal
+no_line n = NotVerified (worded (codes "trace no line") n)
+
+-- trace too long N
+abbrev pub too_long : Refusal
+too_long = NotVerified (worded (codes "trace too long") PICTURE_LIMIT)
+
+-- the refusal of a text that is no trace
+abbrev pub of_text : TraceFault → Refusal
+of_text TraceMemory = Memory
+of_text (NoLine n) = no_line n
+
+-- of a trace that has no picture
+abbrev pub of_picture : PictureFault → Refusal
+of_picture PictureMemory = Memory
+of_picture TooLong = too_long
+
+-- of a table that is not written
+abbrev pub of_table : TableFault → Refusal
+of_table TableMemory = Memory
+of_table TableFailed = WriteFault
+
+-- of a table of jobs that is not written
+abbrev pub of_jobs : JobsFault → Refusal
+of_jobs JobsMemory = Memory
+of_jobs JobsFailed = WriteFault
+of_jobs (NoJobLine n) = no_line n

@@ -1,0 +1,45 @@
+-- The command line: which words ask for which view.
+use Rattle.std.specs.Prelude.{ℕ, ◌==◌, List, codes, length, if◌then◌else◌, Option, Some, None, option_map}
+use Rattle.std.specs.Str.{bytes_eq}
+use Rattle.run_outcome.specs.Refusals.{word_at}
+use Rattle.command_line.specs.declared.Source.{Source as PlanSource}
+use Rattle.command_line.specs.declared.Source.TheVariants.{Tasks as TasksSource, Spelled}
+use Rattle.view_run.specs.declared.views.Source.{Source}
+use Rattle.view_run.specs.declared.views.Source.TheVariants.{Tasks, Table}
+use Rattle.view_run.specs.declared.views.View.{View}
+use Rattle.view_run.specs.declared.views.View.TheVariants.{Lines, Jobs}
+use Rattle.view_run.specs.declared.views.LineView.{LineView}
+use Rattle.view_run.specs.declared.views.LineView.TheVariants.{Picture, Events, Spans, Waves}
+
+-- the view of lines that a word asks for
+abbrev pub view_of_lines : List ℕ → Option LineView
+view_of_lines word =
+    if bytes_eq word (codes "picture") then Some Picture
+    else if bytes_eq word (codes "events") then Some Events
+    else if bytes_eq word (codes "spans") then Some Spans
+    else if bytes_eq word (codes "waves") then Some Waves
+    else None
+
+-- the table of the jobs of a task file
+abbrev pub jobs_of_tasks : List ℕ → Option View
+jobs_of_tasks word = if bytes_eq word (codes "jobs") then Some (Jobs Tasks) else None
+
+-- the table of the jobs of a table file
+abbrev pub jobs_of_table : List ℕ → List ℕ → Option View
+jobs_of_table word option =
+    if bytes_eq word (codes "jobs") then
+    if bytes_eq option (codes "--table") then Some (Jobs Table) else None
+    else None
+
+-- the view that the words ask for, or none: picture, events, spans, waves, jobs T, jobs --table B
+abbrev pub view_of : List (List ℕ) → Option View
+view_of words =
+    if length words == 1 then option_map Lines (view_of_lines (word_at words 0))
+    else if length words == 2 then jobs_of_tasks (word_at words 0)
+    else if length words == 3 then jobs_of_table (word_at words 0) (word_at words 1)
+    else None
+
+-- where the plan comes from
+abbrev pub plan_source : Source → PlanSource
+plan_source Tasks = TasksSource
+plan_source Table = Spelled

@@ -1,0 +1,146 @@
+//! The views of slotview, over any files and sinks: a trace on standard input as a picture, as
+//! tables or as waves.
+#![tactic(auto)]
+
+ghost use Rattle.std.specs.Prelude.{◌≡◌, ◌≢◌, ◌↔◌, ◌⊎◌, ℕ, List, true, None, Some};
+ghost use Rattle.run_outcome.specs.declared.refusal.Refusal.{Refusal};
+ghost use Rattle.run_outcome.specs.Refusals.{refusal_line, refusal_status};
+ghost use Rattle.run_outcome.specs.Reports.{IsTold};
+ghost use Rattle.view_run.specs.declared.TheConstants.{USAGE};
+ghost use Rattle.view_run.specs.declared.views.View.{View};
+ghost use Rattle.view_run.specs.Names.{names_of};
+ghost use Rattle.view_run.specs.Runs.{IsRefused, IsViewed, leaves_output_at};
+ghost use Rattle.view_run.specs.Views.{view_of};
+
+pub mod host;
+pub mod input;
+mod names;
+mod refusals;
+pub mod views;
+mod work;
+
+pub use host::run_on_host;
+pub use input::HostInput;
+use names::{Names, names_of};
+use run_outcome::{OUT_OF_MEMORY, Status, report};
+use slot_core::{Memory, Words};
+use slot_io::{Files, Sink};
+use std::alloc::Global;
+pub use views::{LineView, Source, View, view_of};
+use work::work;
+
+/// The name by which standard input is told.
+pub const INPUT_NAME: &str = "standard input";
+
+/// Most bytes of a trace on standard input.
+pub const INPUT_LIMIT: usize = slot_core::READ_LIMIT;
+
+/// The usage line.
+pub const USAGE: &[u8] =
+    b"usage: slotview picture | jobs T | jobs --table B | events | spans | waves\n";
+
+/// Does what the words ask for: reads the plan that a table of jobs wants from `files`, then the
+/// trace from `input`, and writes the view of it to `out`. It puts one line on `err` where it ends
+/// otherwise than Done.
+pub fn run<F: Files, I: Files, K: Sink, E: Sink>(
+    alloc: Global,
+    words: &Words,
+    files: &mut F,
+    input: &mut I,
+    out: &mut K,
+    err: &mut E,
+) -> Status
+    ensures usage { (result ≡ Status.Usage) ↔ (view_of words.now ≡ None) }
+    ensures usage_touches_nothing { result ≡ Status.Usage
+        → (files.new ≡ files.old) × (input.new ≡ input.old) × (out.new ≡ out.old) }
+    ensures usage_line { result ≡ Status.Usage → IsTold USAGE.now
+        (E.written err.old) (E.written err.new) (E.faults err.old) (E.faults err.new) }
+
+    // Where it is done, standard input is a trace, and the view of its lines is written.
+    ensures done { result ≡ Status.Done → (view : View) × (view_of words.now ≡ Some view)
+        × IsViewed view (I.held input.old) (K.written out.old) (K.written out.new) }
+    ensures done_says_nothing { result ≡ Status.Done → err.new ≡ err.old }
+
+    // Where it is refused, the refusal has its cause, and its line is told.
+    ensures refused { result ≢ Status.Done → result ≢ Status.Usage
+        → (view : View) × (view_of words.now ≡ Some view)
+        × ((e : Refusal) × (result ≡ refusal_status e)
+        × IsRefused view (names_of words.now view) (F.held files.old) (I.held input.old)
+        (F.faults files.old, F.faults files.new) (I.faults input.old, I.faults input.new)
+        (K.faults out.old, K.faults out.new) e
+        × IsTold (refusal_line (names_of words.now view) e)
+        (E.written err.old) (E.written err.new) (E.faults err.old) (E.faults err.new)) }
+    ensures refusal_writes_nothing { leaves_output_at result ≡ true → out.new ≡ out.old }
+{
+    match view_of(words) {
+        Some(view) => run_view(alloc, words, view, files, input, out, err),
+        None => refuse(err, USAGE, Status::Usage),
+    }
+}
+
+/// Shows the view.
+fn run_view<F: Files, I: Files, K: Sink, E: Sink>(
+    alloc: Global,
+    words: &Words,
+    view: View,
+    files: &mut F,
+    input: &mut I,
+    out: &mut K,
+    err: &mut E,
+) -> Status
+    ensures shows { result ≢ Status.Usage }
+    ensures done { result ≡ Status.Done
+        → IsViewed view (I.held input.old) (K.written out.old) (K.written out.new) }
+    ensures done_says_nothing { result ≡ Status.Done → err.new ≡ err.old }
+    ensures refused { result ≢ Status.Done → (e : Refusal) × (result ≡ refusal_status e)
+        × IsRefused view (names_of words.now view) (F.held files.old) (I.held input.old)
+        (F.faults files.old, F.faults files.new) (I.faults input.old, I.faults input.new)
+        (K.faults out.old, K.faults out.new) e
+        × IsTold (refusal_line (names_of words.now view) e)
+        (E.written err.old) (E.written err.new) (E.faults err.old) (E.faults err.new) }
+    ensures refusal_writes_nothing { leaves_output_at result ≡ true → out.new ≡ out.old }
+{
+    match names_of(alloc, words, view) {
+        Ok(names) => run_named(alloc, &names, view, files, input, out, err),
+        Err(Memory) => refuse(err, OUT_OF_MEMORY, Status::Memory),
+    }
+}
+
+/// Shows the view, of files of these names.
+fn run_named<F: Files, I: Files, K: Sink, E: Sink>(
+    alloc: Global,
+    names: &Names,
+    view: View,
+    files: &mut F,
+    input: &mut I,
+    out: &mut K,
+    err: &mut E,
+) -> Status
+    ensures shows { result ≢ Status.Usage }
+    ensures done { result ≡ Status.Done
+        → IsViewed view (I.held input.old) (K.written out.old) (K.written out.new) }
+    ensures done_says_nothing { result ≡ Status.Done → err.new ≡ err.old }
+    ensures refused { result ≢ Status.Done → (e : Refusal) × (result ≡ refusal_status e)
+        × IsRefused view names.now (F.held files.old) (I.held input.old)
+        (F.faults files.old, F.faults files.new) (I.faults input.old, I.faults input.new)
+        (K.faults out.old, K.faults out.new) e
+        × IsTold (refusal_line names.now e)
+        (E.written err.old) (E.written err.new) (E.faults err.old) (E.faults err.new) }
+    ensures refusal_writes_nothing { leaves_output_at result ≡ true → out.new ≡ out.old }
+{
+    match work(alloc, names, view, files, input, out) {
+        Ok(()) => Status::Done,
+        Err(refusal) => report(alloc, names, refusal, err).status(),
+    }
+}
+
+/// Puts the line, and answers the status.
+fn refuse<E: Sink>(err: &mut E, line: &[u8], status: Status) -> Status
+    ensures status { result ≡ status }
+    ensures told { IsTold line.now
+        (E.written err.old) (E.written err.new) (E.faults err.old) (E.faults err.new) }
+{
+    match err.put(line) {
+        Ok(()) | Err(_) => status,
+    }
+}

@@ -1,0 +1,66 @@
+//! Why a trace is not shown.
+
+ghost use Rattle.std.specs.Prelude.{◌≡◌, ◌≤◌, length};
+ghost use Rattle.slot_core.specs.Output.Texts.{worded};
+ghost use Rattle.run_outcome.specs.declared.refusal.Refusal.TheVariants.{NotVerified};
+ghost use Rattle.view_run.specs.Refusals.{of_jobs, of_picture, of_table, of_text};
+
+use csv_table::TableFault;
+use run_outcome::{Reason, Refusal};
+use trace_lines::TraceFault;
+use trace_text::Line;
+use view_jobs::JobsFault;
+use view_picture::{PICTURE_LIMIT, PictureFault};
+
+/// The refusal of a trace, by these words and a number.
+fn of_trace(words: &[u8], number: u64) -> Refusal
+    requires { length words.now ≤ 100 }
+    ensures { result ≡ NotVerified (worded words.now number) }
+{
+    let mut line = Line::new();
+    line.push(words);
+    line.push(b" ");
+    line.number(number);
+    Refusal::NotVerified(Reason::of(line.bytes()))
+}
+
+/// The refusal of a text that is no trace.
+pub(crate) fn of_text(fault: TraceFault) -> Refusal
+    ensures { result ≡ of_text fault }
+{
+    match fault {
+        TraceFault::Memory => Refusal::Memory,
+        TraceFault::NoLine(number) => of_trace(b"trace no line", number),
+    }
+}
+
+/// The refusal of a trace that has no picture.
+pub(crate) fn of_picture(fault: PictureFault) -> Refusal
+    ensures { result ≡ of_picture fault }
+{
+    match fault {
+        PictureFault::Memory => Refusal::Memory,
+        PictureFault::TooLong => of_trace(b"trace too long", u64::from(PICTURE_LIMIT)),
+    }
+}
+
+/// The refusal of a table that is not written.
+pub(crate) fn of_table(fault: TableFault) -> Refusal
+    ensures { result ≡ of_table fault }
+{
+    match fault {
+        TableFault::Memory => Refusal::Memory,
+        TableFault::Failed => Refusal::WriteFault,
+    }
+}
+
+/// The refusal of a table of jobs that is not written.
+pub(crate) fn of_jobs(fault: JobsFault) -> Refusal
+    ensures { result ≡ of_jobs fault }
+{
+    match fault {
+        JobsFault::Memory => Refusal::Memory,
+        JobsFault::Failed => Refusal::WriteFault,
+        JobsFault::NoLine(number) => of_trace(b"trace no line", number),
+    }
+}

@@ -1,0 +1,282 @@
+//! The work of a view: what is read, and what is written of it.
+
+ghost use Rattle.std.specs.Prelude.{◌≡◌, ◌⊎◌, ℕ, List, true, Err, IfOk, IfErr, IfSome, OnOk};
+ghost use Rattle.std.specs.Io.KnownBytes.{Appends};
+ghost use Rattle.slot_core.specs.Calls.Counts.{Rose};
+ghost use Rattle.run_outcome.specs.declared.refusal.Refusal.TheVariants.{Memory as MemoryRefusal, WriteFault as WriteRefusal};
+ghost use Rattle.run_outcome.specs.declared.refusal.Refusal.{Refusal};
+ghost use Rattle.svg_text.specs.Content.{IsDocument};
+ghost use Rattle.view_tables.specs.Tables.{table_text};
+ghost use Rattle.view_waves.specs.WaveTexts.{waves_text};
+ghost use Rattle.trace_lines.specs.Texts.{lines_text};
+ghost use Rattle.trace_lines.specs.Traces.{AreTrace, Breaks};
+ghost use Rattle.view_run.specs.Inputs.{BeginsWith, IsInputRefusal};
+ghost use Rattle.view_run.specs.Refusals.{no_line};
+ghost use Rattle.view_run.specs.Runs.{IsPlanRefusal, IsRefused, IsUnviewed, IsViewed, leaves_output};
+ghost use Rattle.view_run.specs.Shown.{IsJobsRefusal, IsLinesRefusal, ShowsJobs, ShowsLines};
+ghost use Rattle.view_run.specs.Views.{plan_source};
+
+use crate::names::Names;
+use crate::refusals::{of_jobs, of_picture, of_table, of_text};
+use crate::views::{LineView, Source, View};
+use crate::{INPUT_LIMIT, INPUT_NAME};
+use command_line::Source as PlanSource;
+use cycle_plan::Plan;
+use run_blocks::{Row, rows_of};
+use run_outcome::{File, Refusal};
+use run_steps::plan_from;
+use slot_core::{Failed, Memory};
+use slot_io::{Files, ReadFault, Sink};
+use std::alloc::Global;
+use svg_text::Document;
+use trace_lines::{TraceLine, read_trace};
+use view_jobs::put_jobs;
+use view_picture::picture;
+use view_tables::{Table, put_table};
+use view_waves::put_waves;
+
+/// Reads the plan of the view, if it has one, then the trace, and writes the view.
+pub(crate) fn work<F: Files, I: Files, K: Sink>(
+    alloc: Global,
+    names: &Names,
+    view: View,
+    files: &mut F,
+    input: &mut I,
+    out: &mut K,
+) -> Result<(), Refusal>
+    ensures shown { OnOk result (IsViewed view (I.held input.old)
+        (K.written out.old) (K.written out.new)) }
+    ensures refused { IfErr result
+        (IsRefused view names.now (F.held files.old) (I.held input.old)
+        (F.faults files.old, F.faults files.new) (I.faults input.old, I.faults input.new)
+        (K.faults out.old, K.faults out.new)) }
+    ensures untouched { (e : Refusal) → result ≡ Err e → leaves_output e ≡ true
+        → out.new ≡ out.old }
+{
+    match view {
+        View::Lines(view) => work_of_lines(alloc, view, input, out),
+        View::Jobs(source) => work_of_jobs(alloc, names, source, files, input, out),
+    }
+}
+
+/// Reads the trace, and writes the view of its lines.
+fn work_of_lines<I: Files, K: Sink>(
+    alloc: Global,
+    view: LineView,
+    input: &mut I,
+    out: &mut K,
+) -> Result<(), Refusal>
+    ensures shown { OnOk result (IsViewed (View.Lines view) (I.held input.old)
+        (K.written out.old) (K.written out.new)) }
+    ensures refused { IfErr result (λ e.
+        IsInputRefusal (I.held input.old) (I.faults input.old) (I.faults input.new) e
+        ⊎ IsUnviewed (View.Lines view) (I.held input.old) (K.faults out.old) (K.faults out.new) e) }
+    ensures untouched { (e : Refusal) → result ≡ Err e → leaves_output e ≡ true
+        → out.new ≡ out.old }
+{
+    let lines = read_lines(alloc, input)?;
+    show_lines(alloc, view, &lines, out)
+}
+
+/// Reads the plan and the trace, and writes the table of its jobs.
+fn work_of_jobs<F: Files, I: Files, K: Sink>(
+    alloc: Global,
+    names: &Names,
+    source: Source,
+    files: &mut F,
+    input: &mut I,
+    out: &mut K,
+) -> Result<(), Refusal>
+    ensures shown { OnOk result (IsViewed (View.Jobs source) (I.held input.old)
+        (K.written out.old) (K.written out.new)) }
+    ensures refused { IfErr result (λ e.
+        IsPlanRefusal source names.now (F.held files.old) (F.faults files.old) (F.faults files.new) e
+        ⊎ (IsInputRefusal (I.held input.old) (I.faults input.old) (I.faults input.new) e
+        ⊎ IsUnviewed (View.Jobs source) (I.held input.old) (K.faults out.old) (K.faults out.new) e)) }
+    ensures untouched { (e : Refusal) → result ≡ Err e → leaves_output e ≡ true
+        → out.new ≡ out.old }
+{
+    let plan = planned(alloc, names, source, files)?;
+    let lines = read_lines(alloc, input)?;
+    show_jobs(alloc, &plan, &lines, out)
+}
+
+/// The plan of a table of jobs.
+fn planned<F: Files>(
+    alloc: Global,
+    names: &Names,
+    source: Source,
+    files: &mut F,
+) -> Result<Plan, Refusal>
+    ensures { IfErr result (IsPlanRefusal source names.now
+        (F.held files.old) (F.faults files.old) (F.faults files.new)) }
+{
+    plan_from(alloc, names, files, plan_source(source))
+}
+
+/// Where the plan comes from.
+fn plan_source(source: Source) -> PlanSource
+    ensures { result ≡ plan_source source }
+{
+    match source {
+        Source::Tasks => PlanSource::Tasks,
+        Source::Table => PlanSource::Spelled,
+    }
+}
+
+/// The lines of the trace on standard input.
+fn read_lines<I: Files>(alloc: Global, input: &mut I) -> Result<Vec<TraceLine>, Refusal>
+    ensures trace { IfOk result (λ lines. AreTrace lines.items) }
+    ensures text { IfOk result (λ lines. IfSome (I.held input.old)
+        (λ held. BeginsWith held (lines_text lines.items))) }
+    ensures refused { IfErr result
+        (IsInputRefusal (I.held input.old) (I.faults input.old) (I.faults input.new)) }
+{
+    let bytes = read_input(alloc, input)?;
+    lines_of(alloc, &bytes)
+}
+
+/// The lines of the trace that the bytes write.
+fn lines_of(alloc: Global, bytes: &[u8]) -> Result<Vec<TraceLine>, Refusal>
+    ensures trace { IfOk result (λ lines. AreTrace lines.items) }
+    ensures text { IfOk result (λ lines. bytes.now ≡ lines_text lines.items) }
+    ensures refused { IfErr result (λ e. (e ≡ MemoryRefusal)
+        ⊎ ((n : ℕ) × (e ≡ no_line n) × Breaks bytes.now n)) }
+{
+    match read_trace(alloc, bytes) {
+        Ok(lines) => Ok(lines),
+        Err(fault) => Err(of_text(fault)),
+    }
+}
+
+/// The bytes of standard input, where they are within the limit.
+fn read_input<I: Files>(alloc: Global, input: &mut I) -> Result<Vec<u8>, Refusal>
+    ensures bytes { IfOk result (λ bytes. IfSome (I.held input.old)
+        (λ held. BeginsWith held bytes.items)) }
+    ensures refused { IfErr result
+        (IsInputRefusal (I.held input.old) (I.faults input.old) (I.faults input.new)) }
+{
+    match input.read(alloc, INPUT_NAME, INPUT_LIMIT) {
+        Ok(bytes) => {
+            if bytes.len() > INPUT_LIMIT {
+                return Err(Refusal::TooLarge(File::Trace));
+            }
+            Ok(bytes)
+        }
+        Err(ReadFault::Memory) => Err(Refusal::Memory),
+        Err(ReadFault::Failed) => Err(Refusal::Unreadable(File::Trace)),
+    }
+}
+
+/// Writes the view of the lines.
+fn show_lines<K: Sink>(
+    alloc: Global,
+    view: LineView,
+    lines: &[TraceLine],
+    out: &mut K,
+) -> Result<(), Refusal>
+    ensures shown { OnOk result
+        (ShowsLines view lines.now (K.written out.old) (K.written out.new)) }
+    ensures refused { IfErr result
+        (IsLinesRefusal view lines.now (K.faults out.old) (K.faults out.new)) }
+    ensures untouched { (e : Refusal) → result ≡ Err e → leaves_output e ≡ true
+        → out.new ≡ out.old }
+{
+    match view {
+        LineView::Picture => show_picture(alloc, lines, out),
+        LineView::Events => show_table(alloc, Table::Events, lines, out),
+        LineView::Spans => show_table(alloc, Table::Spans, lines, out),
+        LineView::Waves => show_waves(alloc, lines, out),
+    }
+}
+
+/// Writes the picture of the lines.
+fn show_picture<K: Sink>(alloc: Global, lines: &[TraceLine], out: &mut K) -> Result<(), Refusal>
+    ensures shown { OnOk result
+        (ShowsLines LineView.Picture lines.now (K.written out.old) (K.written out.new)) }
+    ensures refused { IfErr result
+        (IsLinesRefusal LineView.Picture lines.now (K.faults out.old) (K.faults out.new)) }
+    ensures untouched { (e : Refusal) → result ≡ Err e → leaves_output e ≡ true
+        → out.new ≡ out.old }
+{
+    match picture(alloc, lines) {
+        Ok(document) => put_document(&document, out),
+        Err(fault) => Err(of_picture(fault)),
+    }
+}
+
+/// Writes the document.
+fn put_document<K: Sink>(document: &Document, out: &mut K) -> Result<(), Refusal>
+    ensures shown { OnOk result
+        ((text : List ℕ) × IsDocument text × Appends (K.written out.old) (K.written out.new) text) }
+    ensures refused { (e : Refusal) → result ≡ Err e
+        → (e ≡ WriteRefusal) × Rose (K.faults out.old) (K.faults out.new) }
+{
+    match document.put(out) {
+        Ok(()) => Ok(()),
+        Err(Failed) => Err(Refusal::WriteFault),
+    }
+}
+
+/// Writes a table of the lines.
+fn show_table<K: Sink>(
+    alloc: Global,
+    table: Table,
+    lines: &[TraceLine],
+    out: &mut K,
+) -> Result<(), Refusal>
+    ensures shown { OnOk result
+        (Appends (K.written out.old) (K.written out.new) (table_text table lines.now)) }
+    ensures refused { (e : Refusal) → result ≡ Err e → (e ≡ MemoryRefusal)
+        ⊎ ((e ≡ WriteRefusal) × Rose (K.faults out.old) (K.faults out.new)) }
+{
+    match put_table(alloc, table, lines, out) {
+        Ok(()) => Ok(()),
+        Err(fault) => Err(of_table(fault)),
+    }
+}
+
+/// Writes the waves of the lines.
+fn show_waves<K: Sink>(alloc: Global, lines: &[TraceLine], out: &mut K) -> Result<(), Refusal>
+    ensures shown { OnOk result
+        (ShowsLines LineView.Waves lines.now (K.written out.old) (K.written out.new)) }
+    ensures refused { (e : Refusal) → result ≡ Err e → (e ≡ MemoryRefusal)
+        ⊎ ((e ≡ WriteRefusal) × Rose (K.faults out.old) (K.faults out.new)) }
+{
+    match rows_of(alloc, lines) {
+        Ok(rows) => put_rows(&rows, lines, out),
+        Err(Memory) => Err(Refusal::Memory),
+    }
+}
+
+/// Writes the waves of these rows.
+fn put_rows<K: Sink>(rows: &[Row], lines: &[TraceLine], out: &mut K) -> Result<(), Refusal>
+    ensures shown { OnOk result
+        (Appends (K.written out.old) (K.written out.new) (waves_text rows.now lines.now)) }
+    ensures refused { (e : Refusal) → result ≡ Err e
+        → (e ≡ WriteRefusal) × Rose (K.faults out.old) (K.faults out.new) }
+{
+    match put_waves(rows, lines, out) {
+        Ok(()) => Ok(()),
+        Err(Failed) => Err(Refusal::WriteFault),
+    }
+}
+
+/// Writes the table of the jobs of the lines.
+fn show_jobs<K: Sink>(
+    alloc: Global,
+    plan: &Plan,
+    lines: &[TraceLine],
+    out: &mut K,
+) -> Result<(), Refusal>
+    ensures shown { OnOk result (ShowsJobs lines.now (K.written out.old) (K.written out.new)) }
+    ensures refused { IfErr result
+        (IsJobsRefusal lines.now (K.faults out.old) (K.faults out.new)) }
+    ensures untouched { (e : Refusal) → result ≡ Err e → leaves_output e ≡ true
+        → out.new ≡ out.old }
+{
+    match put_jobs(alloc, plan, lines, out) {
+        Ok(()) => Ok(()),
+        Err(fault) => Err(of_jobs(fault)),
+    }
+}

@@ -1,0 +1,43 @@
+-- Each row has as many fields as the header.
+use Rattle.std.proofs.Common.{◌≡◌, ℕ, ◌+◌, List, [], ◌∷◌, ◌++◌, length, map, Option, Some, None, refl}
+use Rattle.std.specs.Prelude.{All, option_map}
+use Rattle.std.specs.List.{AllByRecursion, enumerate_from}
+use Rattle.std.proofs.lemmas.List.Elements.{All-from_recursion}
+use Rattle.trace_lines.specs.declared.line.TraceLine.{TraceLine}
+use Rattle.trace_lines.specs.declared.line.ShownSpan.{ShownSpan}
+use Rattle.view_tables.specs.declared.told.Told.{Told}
+use Rattle.view_tables.specs.declared.put.Table.{Table}
+use Rattle.view_tables.specs.declared.put.Table.TheVariants.{Events, Spans}
+use Rattle.view_tables.specs.Columns.{told_of}
+use Rattle.view_tables.specs.LineRows.{event_fields, span_fields}
+use Rattle.view_tables.specs.Tables.{header, row_if_any, rows_from, rows_of_line, table_rows}
+
+-- the row has as many fields as the header
+abbrev IsFull : Table → List (List ℕ) → Type 0
+IsFull table row = length row ≡ length (header table)
+
+-- rows of both of two lists
+both : {X : Type 0} (P : X → Type 0) (xs ys : List X) → AllByRecursion P xs → AllByRecursion P ys → AllByRecursion P (xs ++ ys)
+both P [] ys first later = later
+both P (x ∷ xs) ys first later = (first.0, both P xs ys first.1 later)
+
+event-full : (line : TraceLine) (told : Option Told) → AllByRecursion (IsFull Events) (row_if_any (option_map (event_fields line) told))
+event-full line None = tt
+event-full line (Some told) = (refl, tt)
+
+spans-full : (n : ℕ) (line : TraceLine) (m : ℕ) (spans : List ShownSpan) → AllByRecursion (IsFull Spans) (map (span_fields n line) (enumerate_from m spans))
+spans-full n line m [] = tt
+spans-full n line m (span ∷ spans) = (refl, spans-full n line (m + 1) spans)
+
+line-full : (table : Table) (n : ℕ) (line : TraceLine) → AllByRecursion (IsFull table) (rows_of_line table (n, line))
+line-full Events n line = event-full line (told_of line.words)
+line-full Spans n line = spans-full n line 1 line.spans
+
+lines-full : (table : Table) (n : ℕ) (lines : List TraceLine) → AllByRecursion (IsFull table) (rows_from table n lines)
+lines-full table n [] = tt
+lines-full table n (line ∷ lines) =
+    both (IsFull table) (rows_of_line table (n, line)) (rows_from table (n + 1) lines) (line-full table n line) (lines-full table (n + 1) lines)
+
+pub table-square : (table : Table) (lines : List TraceLine) → All (λ row. length row ≡ length (header table)) (table_rows table lines)
+table-square table lines =
+    All-from_recursion (IsFull table) (table_rows table lines) (refl, lines-full table 1 lines)

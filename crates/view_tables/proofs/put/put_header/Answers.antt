@@ -1,0 +1,11 @@
+-- The rows that are put are the header alone.
+use Rattle.std.proofs.Common.{[]}
+use Rattle.view_tables.proofs.put.put_header.Goals as goal
+
+pub returns-clause-text : goal.returns-clause-text
+returns-clause-text g c =
+    c.put.ensures.text _ (c.in_ok-push_header.ensures [] c.new-rows.ensures)
+
+pub returns-clause-part : goal.returns-clause-part
+returns-clause-part g c =
+    c.put.ensures.part _ (c.in_ok-push_header.ensures [] c.new-rows.ensures)

@@ -1,0 +1,10 @@
+//! The lines of a trace as tables: a row for each arrival, or one for each span of each line.
+#![tactic(auto)]
+
+mod events;
+mod put;
+mod spans;
+mod told;
+
+pub use put::{Table, put_table};
+pub use told::{Told, told_of};

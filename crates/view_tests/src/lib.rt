@@ -1,0 +1,9 @@
+//! Tests of the crates that read a trace and show it.
+#![tactic(auto)]
+
+#[cfg(test)]
+mod blocks;
+#[cfg(test)]
+mod pictures;
+#[cfg(test)]
+mod trace_texts;

@@ -1,0 +1,2 @@
+mod ItemTexts
+mod StepLists

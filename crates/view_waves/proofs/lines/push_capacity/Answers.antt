@@ -1,0 +1,17 @@
+-- The bits stand between the first letter and the name of the capacity.
+use Rattle.std.proofs.Common.{◌≡◌, ℕ, ◌-◌, ◌++◌, List, [], ◌∷◌, codes, map, append_assoc, sym, ap, ◌∙◌}
+use Rattle.std.specs.List.{range_with_len}
+use Rattle.view_waves.specs.WaveTexts.{bit_digit}
+use Rattle.view_waves.proofs.lines.push_capacity.Goals as goal
+
+-- three pieces, appended one after the other
+three : (old a b c : List ℕ) → ((old ++ a) ++ b) ++ c ≡ old ++ (a ++ (b ++ c))
+three old a b c = append_assoc (old ++ a) b c ∙ append_assoc old a (b ++ c)
+
+pub returns-clause-text : goal.returns-clause-text
+returns-clause-text c =
+    let old : List ℕ = c.args.line.now in
+    let bits = map (λ (i : ℕ). bit_digit c.args.bits (63 - i)) (range_with_len 0 64) in
+    c.push-2.ensures
+    ∙ ap (λ (l : List ℕ). l ++ codes " c\n") (c.push_bits.ensures.text ∙ ap (λ (l : List ℕ). l ++ bits) c.push.ensures)
+    ∙ three old (codes "b") bits (codes " c\n")

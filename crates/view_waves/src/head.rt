@@ -1,0 +1,124 @@
+//! The declarations and the first values.
+
+ghost use Rattle.std.specs.Prelude.{◌≡◌, ℕ, ◌≤◌, ◌+◌, ◌++◌, ◌==◌, List, length, codes, flat_map, OnOk, OnErr};
+ghost use Rattle.std.specs.List.{enumerate_from, range_with_len};
+ghost use Rattle.std.specs.Io.KnownBytes.{Appends};
+ghost use Rattle.slot_core.specs.Calls.Counts.{Rose};
+ghost use Rattle.slot_io.specs.Sinks.{AppendsPart};
+ghost use Rattle.view_waves.specs.WaveTexts.{closing, first_text, head_text, levels_text, opening, row_text, shown_text};
+
+use crate::lines::{push_capacity, push_closing, push_level, push_row};
+use crate::steps::Wave;
+use run_blocks::Row;
+use slot_core::Failed;
+use slot_io::Sink;
+use trace_text::Line;
+
+/// What stands before the wires.
+const OPENING: &[u8] =
+    b"$comment One unit of time is one slot. $end\n$timescale 1 us $end\n$scope module trace $end\n";
+
+/// Writes the declarations: a wire for each row, one for idle slots, and the capacity.
+pub(crate) fn put_head<K: Sink>(rows: &[Row], out: &mut K) -> Result<(), Failed>
+    ensures text { OnOk result
+        (Appends (K.written out.old) (K.written out.new) (head_text rows.now)) }
+    ensures part { OnErr result
+        (AppendsPart (K.written out.old) (K.written out.new) (head_text rows.now)) }
+    ensures counted { K.faults out.old ≤ K.faults out.new }
+    ensures failed { OnErr result (Rose (K.faults out.old) (K.faults out.new)) }
+{
+    put_opening(out)?;
+    put_row_wires(rows, out)?;
+    put_closing(rows.len(), out)
+}
+
+/// Writes what stands before the wires.
+fn put_opening<K: Sink>(out: &mut K) -> Result<(), Failed>
+    ensures text { OnOk result
+        (Appends (K.written out.old) (K.written out.new) (opening)) }
+    ensures part { OnErr result
+        (AppendsPart (K.written out.old) (K.written out.new) (opening)) }
+    ensures counted { K.faults out.old ≤ K.faults out.new }
+    ensures failed { OnErr result (Rose (K.faults out.old) (K.faults out.new)) }
+{
+    out.put(OPENING)
+}
+
+/// Writes the wires of the rows.
+fn put_row_wires<K: Sink>(rows: &[Row], out: &mut K) -> Result<(), Failed>
+    ensures text { OnOk result
+        (Appends (K.written out.old) (K.written out.new) (flat_map row_text (enumerate_from 0 rows.now))) }
+    ensures part { OnErr result
+        (AppendsPart (K.written out.old) (K.written out.new) (flat_map row_text (enumerate_from 0 rows.now))) }
+    ensures counted { K.faults out.old ≤ K.faults out.new }
+    ensures failed { OnErr result (Rose (K.faults out.old) (K.faults out.new)) }
+{
+    let mut line = Line::new();
+    for (wire, row) in rows.iter().enumerate() {
+        line.clear();
+        push_row(&mut line, wire, row);
+        out.put(line.bytes())?;
+    }
+    Ok(())
+}
+
+/// Writes what stands after the wires of the rows.
+fn put_closing<K: Sink>(idle: usize, out: &mut K) -> Result<(), Failed>
+    ensures text { OnOk result
+        (Appends (K.written out.old) (K.written out.new) (closing idle)) }
+    ensures part { OnErr result
+        (AppendsPart (K.written out.old) (K.written out.new) (closing idle)) }
+    ensures counted { K.faults out.old ≤ K.faults out.new }
+    ensures failed { OnErr result (Rose (K.faults out.old) (K.faults out.new)) }
+{
+    let mut line = Line::new();
+    push_closing(&mut line, idle);
+    out.put(line.bytes())
+}
+
+/// Writes the first values of so many wires and of the capacity.
+pub(crate) fn put_first<K: Sink>(wires: usize, wave: Wave, out: &mut K) -> Result<(), Failed>
+    ensures text { OnOk result
+        (Appends (K.written out.old) (K.written out.new) (first_text wires wave)) }
+    ensures part { OnErr result
+        (AppendsPart (K.written out.old) (K.written out.new) (first_text wires wave)) }
+    ensures counted { K.faults out.old ≤ K.faults out.new }
+    ensures failed { OnErr result (Rose (K.faults out.old) (K.faults out.new)) }
+{
+    out.put(b"#0\n$dumpvars\n")?;
+    put_levels(wires, wave.on, out)?;
+    put_first_capacity(wave.shown, out)
+}
+
+/// Writes the values of so many wires, of which this one is on.
+fn put_levels<K: Sink>(wires: usize, on: usize, out: &mut K) -> Result<(), Failed>
+    ensures text { OnOk result
+        (Appends (K.written out.old) (K.written out.new) (levels_text wires on)) }
+    ensures part { OnErr result
+        (AppendsPart (K.written out.old) (K.written out.new) (levels_text wires on)) }
+    ensures counted { K.faults out.old ≤ K.faults out.new }
+    ensures failed { OnErr result (Rose (K.faults out.old) (K.faults out.new)) }
+{
+    let mut line = Line::new();
+    for wire in 0..wires {
+        line.clear();
+        push_level(&mut line, wire, wire == on);
+        out.put(line.bytes())?;
+    }
+    Ok(())
+}
+
+/// Writes the first value of the capacity, of these bits, and the end of the first values.
+fn put_first_capacity<K: Sink>(bits: u64, out: &mut K) -> Result<(), Failed>
+    ensures text { OnOk result
+        (Appends (K.written out.old) (K.written out.new) (shown_text bits)) }
+    ensures part { OnErr result
+        (AppendsPart (K.written out.old) (K.written out.new) (shown_text bits)) }
+    ensures counted { K.faults out.old ≤ K.faults out.new }
+    ensures failed { OnErr result (Rose (K.faults out.old) (K.faults out.new)) }
+{
+    let mut line = Line::new();
+    push_capacity(&mut line, bits);
+    line.push(b"$end\n");
+    out.put(line.bytes())
+}
