@@ -1,4 +1,5 @@
-# Completion of the words of slotshift and slotlive for bash: put `source PATH/completions/slotshift.bash` into ~/.bashrc.
+# Completion of the words of slotshift, slotlive and slotview for bash: put
+# `source PATH/completions/slotshift.bash` into ~/.bashrc.
 
 # Offers the files with this ending, or all where there is none, and folders.
 _slotshift_files() {
@@ -37,5 +38,22 @@ _slotlive() {
     esac
 }
 
+_slotview() {
+    local current=${COMP_WORDS[COMP_CWORD]}
+    COMPREPLY=()
+    case ${COMP_WORDS[1]}:$COMP_CWORD in
+    *:1)
+        local views='picture jobs events spans waves'
+        COMPREPLY=($(compgen -W "$views" -- "$current"))
+        ;;
+    jobs:2)
+        _slotshift_files toml "$current"
+        [ "${current#-}" = "$current" ] || COMPREPLY=(--table)
+        ;;
+    jobs:3) [ "${COMP_WORDS[2]}" != --table ] || _slotshift_files bin "$current" ;;
+    esac
+}
+
 complete -F _slotshift slotshift
 complete -F _slotlive slotlive
+complete -F _slotview slotview

@@ -10,7 +10,7 @@ use std::error::Error;
 use std::fmt;
 
 /// Why an arrivals file is refused. The first number of a fault is its row, from 1 on.
-#[derive(Clone, Copy, PartialEq, Eq, Debug)]
+#[derive(Clone, Copy)]
 pub enum ArrivalFault {
     /// Memory ran out.
     Memory,
@@ -71,6 +71,12 @@ impl fmt::Display for ArrivalFault {
             ArrivalFault::BadKey(row) => write!(f, "bad key {row}"),
             ArrivalFault::TooMany => write!(f, "too many"),
         }
+    }
+}
+
+impl fmt::Debug for ArrivalFault {
+    fn fmt<W: fmt::Write>(&self, f: &mut fmt::Formatter<W>) -> fmt::Result {
+        fmt::Display::fmt(self, f)
     }
 }
 

@@ -25,7 +25,7 @@ use Rattle.slot_facts.proofs.Sets.Tasks.{slice_get-within}
 use Rattle.slot_facts.proofs.Replays.Entries.{AreLeft, entries_left, time_of-arrival, time_of-ran, entries_left-arrival, entries_left-slot, AreLeft-arrival, AreLeft-slot}
 use Rattle.slot_facts.proofs.Replays.Following.{NoneIsDue}
 use Rattle.slot_facts.proofs.Replays.Named.{IsNamed, told-named}
-use Rattle.arrival_replay.specs.Replays.{due_at, due_arrival, entry_of, is_on_the_way, next_occurrence}
+use Rattle.arrival_replay.specs.Replays.{due_at, due_arrival, is_on_the_way, next_occurrence}
 use Rattle.arrival_replay.proofs.UnderWay.{IsUnderWay, IsToTell, IsToTell-next}
 
 -- the place of the next arrival after what is due
@@ -266,10 +266,10 @@ answered-named before after row event what is_plan may named does =
     let plan_is = ap (λ (p : PlanParts). what_in_set p.tasks what) does.plan in
     plan_is ∙ (ap (what_in_set p.tasks) told ∙ told-named p.tasks h (arrive row event) legal (may, named))
 
--- what an executive does at an arrival, it does at each history for which it stands: the line that
--- is told is that of the entry of the arrival
-pub line-told : (before after : Executive) (a : Arrival) (what : What) (time : ℕ) (h : History) → time ≡ before.scene.time → StandsFor before h → Does before after (arrive a.row a.event) what → entry_line after.plan.tasks (shown_entry after.plan.tasks after.plan.cycle time what (what ∷ h)) ≡ entry_line before.plan.tasks (entry_of before.plan h a)
-line-told before after a what time h now stands does =
+-- what an executive does, it does at each history for which it stands: the line that is told is that
+-- of the entry
+pub line-told : (before after : Executive) (next : Occurrence) (what : What) (time : ℕ) (h : History) → time ≡ before.scene.time → StandsFor before h → Does before after next what → entry_line after.plan.tasks (shown_entry after.plan.tasks after.plan.cycle time what (what ∷ h)) ≡ entry_line before.plan.tasks (shown_entry before.plan.tasks before.plan.cycle (time_of h) (told_of before.plan.tasks before.plan.cycle h next) (told_of before.plan.tasks before.plan.cycle h next ∷ h))
+line-told before after next what time h now stands does =
     let p = before.plan in
     ap (λ (q : PlanParts). entry_line q.tasks (shown_entry q.tasks q.cycle time what (what ∷ h))) does.plan
     ∙ ap (λ t. entry_line p.tasks (shown_entry p.tasks p.cycle t what (what ∷ h))) (now ∙ stands.same.time)

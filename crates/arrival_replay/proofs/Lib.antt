@@ -1,4 +1,3 @@
-pub mod Always
 pub mod BrokenTexts
 pub mod EndTimes
 pub mod Happenings

@@ -272,6 +272,7 @@ fn go_to<T: SpareTable, W: Taker, L: Ledger>(
 
 /// Whether at this time slots are left, and the next arrival is not yet that of the place, or not
 /// due.
+#[inline(always)]
 fn is_on_the_way(time: u64, arrivals: &[Arrival], slots: u64, place: usize, next: usize) -> bool
     ensures { result ≡ is_on_the_way arrivals.now slots place next time }
 {
@@ -279,6 +280,7 @@ fn is_on_the_way(time: u64, arrivals: &[Arrival], slots: u64, place: usize, next
 }
 
 /// The arrival at this place, where it is due at this time.
+#[inline(always)]
 fn due_arrival(arrivals: &[Arrival], place: usize, time: u64) -> Option<Arrival>
     ensures { result ≡ due_arrival arrivals.now place time }
 {
@@ -290,6 +292,7 @@ fn due_arrival(arrivals: &[Arrival], place: usize, time: u64) -> Option<Arrival>
 
 /// What comes next happens: the executive answers the arrival that is due, and where none is, a
 /// slot passes.
+#[inline(always)]
 pub fn happen<T: SpareTable, L: Ledger>(
     exec: &mut Exec<T>,
     due: Option<Arrival>,
@@ -329,6 +332,7 @@ fn answer<T: SpareTable, L: Ledger>(
 }
 
 /// A slot passes.
+#[inline(always)]
 fn pass<T: SpareTable, L: Ledger>(exec: &mut Exec<T>, steps: &mut Steps<L>) -> What
     requires { exec.old.scene.time < 2 ^ 32 }
     ensures does { Does exec.old exec.new slot result }
@@ -341,6 +345,7 @@ fn pass<T: SpareTable, L: Ledger>(exec: &mut Exec<T>, steps: &mut Steps<L>) -> W
 
 /// Hands over what happened at this time, with the first spans after it. This call also tells that
 /// the executive has a plan.
+#[inline(always)]
 fn tell<T: SpareTable, W: Taker, L: Ledger>(
     exec: &Exec<T>,
     time: u64,
@@ -368,6 +373,7 @@ fn tell<T: SpareTable, W: Taker, L: Ledger>(
 }
 
 /// The entry of what happened at this time, with the first spans after it.
+#[inline(always)]
 fn entry_at<T: SpareTable, L: Ledger>(
     exec: &Exec<T>,
     time: u64,

@@ -12,15 +12,18 @@ use Rattle.run_outcome.specs.Refusals.{same_file, word_at}
 use Rattle.command_line.specs.declared.Arrivals.{Arrivals}
 use Rattle.command_line.specs.declared.Arrivals.TheVariants.{Absent, Recorded, Generated}
 use Rattle.command_line.specs.declared.Command.{Command}
-use Rattle.command_line.specs.declared.Output.{Output}
-use Rattle.command_line.specs.declared.Output.TheVariants.{Counts, Table, Listing, Margins, Trace, Chart, Lines, Explanation, Change}
+use Rattle.command_line.specs.declared.Output.TheVariants.{OfPlan, OfRun, Change}
+use Rattle.command_line.specs.declared.PlanOutput.{PlanOutput}
+use Rattle.command_line.specs.declared.PlanOutput.TheVariants.{Counts, Table, Listing, Margins, Lines}
+use Rattle.command_line.specs.declared.RunOutput.{RunOutput}
+use Rattle.command_line.specs.declared.RunOutput.TheVariants.{Trace, Chart, Tally, Explanation}
 use Rattle.command_line.specs.declared.Check.{Check}
 use Rattle.command_line.specs.declared.Check.TheVariants.{Unchecked, Verified, HasRow, AtCycleEnd}
 use Rattle.command_line.specs.declared.Second.{Second}
 use Rattle.command_line.specs.declared.Second.TheVariants.{Unread, Read}
 use Rattle.command_line.specs.declared.Source.{Source}
 use Rattle.command_line.specs.declared.Source.TheVariants.{Tasks, Spelled, Load}
-use Rattle.command_line.specs.Commands.{is_number, number_up_to, of_plan, over_slots, of_trace, of_row, of_change, of_load, command_of_two, command_of_four, command_of_five, command_of_six, command_of, IsLoadNumber, IsOutputInRange, IsInRange, is_file_of, is_second_of, is_recorded_in, is_verified_in, reads}
+use Rattle.command_line.specs.Commands.{is_positive_number, number_up_to, of_plan, over_slots, of_trace, of_row, of_change, of_load, command_of_two, command_of_four, command_of_five, command_of_six, command_of, IsLoadNumber, IsPlanOutputInRange, IsRunOutputInRange, IsInRange, is_file_of, is_second_of, is_recorded_in, is_verified_in, reads}
 use Rattle.command_line.proofs.NumberLemmas.{some_number}
 
 -- the file of a plan is that of its source
@@ -120,9 +123,9 @@ pub reads-verified : (command : Command) (file : File) → is_verified_in comman
 reads-verified command file is = verified-there command command.check file is (λ there. there)
 
 -- a number that is written is from 1 to its limit
-number-tested : (limit : ℕ) (word : List ℕ) (b : Bool) (n : ℕ) → (is_number word && nat_le (digits_value 10 word) limit) ≡ b → (let o : Option ℕ = if b then Some (digits_value 10 word) else None in o) ≡ Some n → (1 ≤ n) × (n ≤ limit)
+number-tested : (limit : ℕ) (word : List ℕ) (b : Bool) (n : ℕ) → (is_positive_number word && nat_le (digits_value 10 word) limit) ≡ b → (let o : Option ℕ = if b then Some (digits_value 10 word) else None in o) ≡ Some n → (1 ≤ n) × (n ≤ limit)
 number-tested limit word true n test is =
-    let parts = and_parts (is_number word) (nat_le (digits_value 10 word) limit) test in
+    let parts = and_parts (is_positive_number word) (nat_le (digits_value 10 word) limit) test in
     let same : digits_value 10 word ≡ n = cc in
     let some = some_number word parts.0 in
     let few : digits_value 10 word ≤ limit = grind (arith, nat_tests, parts.1) in
@@ -130,43 +133,46 @@ number-tested limit word true n test is =
 number-tested limit word false n test is = cc
 
 number-in_range : (limit : ℕ) (word : List ℕ) (n : ℕ) → number_up_to limit word ≡ Some n → (1 ≤ n) × (n ≤ limit)
-number-in_range limit word n is = number-tested limit word (is_number word && nat_le (digits_value 10 word) limit) n refl is
+number-in_range limit word n is = number-tested limit word (is_positive_number word && nat_le (digits_value 10 word) limit) n refl is
 
 -- a plan of a file has no number
-plan-in_range : (source : Source) (output : Output) → IsLoadNumber source → IsOutputInRange 0 output → ((row : ℕ) → output ≡ Explanation row → ⊥) → ((n : ℕ) → output ≡ Change n → ⊥) → IsInRange (of_plan source output)
-plan-in_range source output number written apart unchanged = record {
+plan-in_range : (source : Source) (output : PlanOutput) → IsLoadNumber source → IsPlanOutputInRange 0 output → IsInRange (of_plan source output)
+plan-in_range source output number written = record {
   source = number;
   arrivals = tt;
   load = λ n is. cc;
   check = tt;
   output = written;
-  explained = λ row is. absurd (apart row is);
-  changed = λ n is. absurd (unchanged n is);
+  explained = λ row is. cc;
+  changed = λ n is. cc;
 }
 
 given : (made command : Command) → (let o : Option Command = Some made in o) ≡ Some command → IsInRange made → IsInRange command
 given made command is within = let same : made ≡ command = cc in subst IsInRange same within
 
+run-same : (a b : RunOutput) → OfRun a ≡ OfRun b → a ≡ b
+run-same a b is = cc
+
 -- slots that are run are in the range of their output
-slots-in_range : (source : Source) (output : Output) (limit : ℕ) (o : Option ℕ) (command : Command) → IsLoadNumber source → limit ≤ REPLAY_LIMIT → ((slots : ℕ) → 1 ≤ slots → slots ≤ limit → IsOutputInRange slots output) → ((row : ℕ) → output ≡ Explanation row → ⊥) → ((n : ℕ) → output ≡ Change n → ⊥) → ((n : ℕ) → o ≡ Some n → (1 ≤ n) × (n ≤ limit)) → over_slots source output o ≡ Some command → IsInRange command
-slots-in_range source output limit None command number low written apart unchanged within is = cc
-slots-in_range source output limit (Some slots) command number low written apart unchanged within is =
+slots-in_range : (source : Source) (output : RunOutput) (limit : ℕ) (o : Option ℕ) (command : Command) → IsLoadNumber source → limit ≤ REPLAY_LIMIT → ((slots : ℕ) → 1 ≤ slots → slots ≤ limit → IsRunOutputInRange slots output) → ((row : ℕ) → output ≡ Explanation row → ⊥) → ((n : ℕ) → o ≡ Some n → (1 ≤ n) × (n ≤ limit)) → over_slots source output o ≡ Some command → IsInRange command
+slots-in_range source output limit None command number low written apart within is = cc
+slots-in_range source output limit (Some slots) command number low written apart within is =
     let (some, few) = within slots refl in
-    given (record { source = source; second = Unread; arrivals = Recorded slots; check = Unchecked; output = output }) command is (record {
+    given (record { source = source; second = Unread; arrivals = Recorded slots; check = Unchecked; output = OfRun output }) command is (record {
       source = number;
       arrivals = (some, omega (arith, few, low));
       load = λ n same. cc;
       check = tt;
       output = written slots some few;
-      explained = λ row same. absurd (apart row same);
-      changed = λ n same. absurd (unchanged n same);
+      explained = λ row same. absurd (apart row (run-same output (Explanation row) same));
+      changed = λ n same. cc;
     })
 
 -- so are those of a trace that is verified
 trace-in_range : (o : Option ℕ) (command : Command) → ((n : ℕ) → o ≡ Some n → (1 ≤ n) × (n ≤ REPLAY_LIMIT)) → of_trace o ≡ Some command → IsInRange command
 trace-in_range None command within is = cc
 trace-in_range (Some slots) command within is =
-    given (record { source = Tasks; second = Unread; arrivals = Recorded slots; check = Verified; output = Lines }) command is (record {
+    given (record { source = Tasks; second = Unread; arrivals = Recorded slots; check = Verified; output = OfPlan Lines }) command is (record {
       source = tt;
       arrivals = within slots refl;
       load = λ n same. cc;
@@ -180,7 +186,7 @@ trace-in_range (Some slots) command within is =
 load-in_range : (o : Option ℕ) (command : Command) → ((n : ℕ) → o ≡ Some n → (1 ≤ n) × (n ≤ LOAD_LIMIT)) → of_load o ≡ Some command → IsInRange command
 load-in_range None command within is = cc
 load-in_range (Some n) command within is =
-    given (record { source = Load n; second = Unread; arrivals = Generated n; check = Unchecked; output = Output.Tally n }) command is (record {
+    given (record { source = Load n; second = Unread; arrivals = Generated n; check = Unchecked; output = OfRun (Tally n) }) command is (record {
       source = within n refl;
       arrivals = within n refl;
       load = λ m same. let is_it : n ≡ m = cc in ap (λ k. let s : Source = Load k in s) is_it;
@@ -196,7 +202,7 @@ row-in_range None r command within from is = cc
 row-in_range (Some slots) None command within from is = cc
 row-in_range (Some slots) (Some row) command within from is =
     let (some, few) = within slots refl in
-    given (record { source = Tasks; second = Unread; arrivals = Recorded slots; check = HasRow row; output = Explanation row }) command is (record {
+    given (record { source = Tasks; second = Unread; arrivals = Recorded slots; check = HasRow row; output = OfRun (Explanation row) }) command is (record {
       source = tt;
       arrivals = (some, few);
       load = λ n same. cc;
@@ -228,21 +234,21 @@ change-in_range (Some until) (Some c) command within from is = change-tested unt
 
 replay-in_range : (source : Source) (last : List ℕ) (command : Command) → IsLoadNumber source → over_slots source Trace (number_up_to REPLAY_LIMIT last) ≡ Some command → IsInRange command
 replay-in_range source last command number is =
-    slots-in_range source Trace REPLAY_LIMIT (number_up_to REPLAY_LIMIT last) command number (omega arith) (λ slots some few. (some, few)) (λ row is. cc) (λ n is. cc) (number-in_range REPLAY_LIMIT last) is
+    slots-in_range source Trace REPLAY_LIMIT (number_up_to REPLAY_LIMIT last) command number (omega arith) (λ slots some few. (some, few)) (λ row is. cc) (number-in_range REPLAY_LIMIT last) is
 
 two-in_range : (a b d m g e : Bool) (last : List ℕ) (command : Command) → (if a then Some (of_plan Tasks Counts) else if b then Some (of_plan Tasks Table) else if d then Some (of_plan Spelled Listing) else if m then Some (of_plan Spelled Table) else if g then Some (of_plan Tasks Margins) else if e then of_load (number_up_to LOAD_LIMIT last) else None) ≡ Some command → IsInRange command
-two-in_range true b d m g e last command is = given (of_plan Tasks Counts) command is (plan-in_range Tasks Counts tt tt (λ row is. cc) (λ n is. cc))
-two-in_range false true d m g e last command is = given (of_plan Tasks Table) command is (plan-in_range Tasks Table tt tt (λ row is. cc) (λ n is. cc))
-two-in_range false false true m g e last command is = given (of_plan Spelled Listing) command is (plan-in_range Spelled Listing tt tt (λ row is. cc) (λ n is. cc))
-two-in_range false false false true g e last command is = given (of_plan Spelled Table) command is (plan-in_range Spelled Table tt tt (λ row is. cc) (λ n is. cc))
-two-in_range false false false false true e last command is = given (of_plan Tasks Margins) command is (plan-in_range Tasks Margins tt tt (λ row is. cc) (λ n is. cc))
+two-in_range true b d m g e last command is = given (of_plan Tasks Counts) command is (plan-in_range Tasks Counts tt tt)
+two-in_range false true d m g e last command is = given (of_plan Tasks Table) command is (plan-in_range Tasks Table tt tt)
+two-in_range false false true m g e last command is = given (of_plan Spelled Listing) command is (plan-in_range Spelled Listing tt tt)
+two-in_range false false false true g e last command is = given (of_plan Spelled Table) command is (plan-in_range Spelled Table tt tt)
+two-in_range false false false false true e last command is = given (of_plan Tasks Margins) command is (plan-in_range Tasks Margins tt tt)
 two-in_range false false false false false true last command is = load-in_range (number_up_to LOAD_LIMIT last) command (number-in_range LOAD_LIMIT last) is
 two-in_range false false false false false false last command is = cc
 
 four-in_range : (a b d : Bool) (last : List ℕ) (command : Command) → (if a then over_slots Tasks Trace (number_up_to REPLAY_LIMIT last) else if b then over_slots Spelled Trace (number_up_to REPLAY_LIMIT last) else if d then over_slots Tasks Chart (number_up_to CHART_LIMIT last) else None) ≡ Some command → IsInRange command
 four-in_range true b d last command is = replay-in_range Tasks last command tt is
 four-in_range false true d last command is = replay-in_range Spelled last command tt is
-four-in_range false false true last command is = slots-in_range Tasks Chart CHART_LIMIT (number_up_to CHART_LIMIT last) command tt (omega arith) (λ slots some few. (some, few)) (λ row is. cc) (λ n is. cc) (number-in_range CHART_LIMIT last) is
+four-in_range false false true last command is = slots-in_range Tasks Chart CHART_LIMIT (number_up_to CHART_LIMIT last) command tt (omega arith) (λ slots some few. (some, few)) (λ row is. cc) (number-in_range CHART_LIMIT last) is
 four-in_range false false false last command is = cc
 
 five-in_range : (a b : Bool) (fourth last : List ℕ) (command : Command) → (if a then of_trace (number_up_to REPLAY_LIMIT last) else if b then of_row (number_up_to REPLAY_LIMIT fourth) (number_up_to ARRIVAL_LIMIT last) else None) ≡ Some command → IsInRange command

@@ -10,10 +10,10 @@ use Rattle.std.proofs.lemmas.Str.{digit_value_digit}
 use Rattle.std.proofs.lemmas.Str.Parse.{parse_gives, digits_value_short, digits_value-take-le}
 use Rattle.key_texts.proofs.DigitLemmas.{digits}
 use Rattle.command_line.specs.declared.TheConstants.{WORD_DIGIT_LIMIT}
-use Rattle.command_line.specs.Commands.{is_number}
+use Rattle.command_line.specs.Commands.{is_positive_number}
 
 -- a number of at most the limit of digits is read whole
-pub parse_number : {E : Type 0} (bs : List ℕ) (r : Result ℕ E) → is_number bs ≡ true → ParsesUnsigned 32 10 bs r → r ≡ Ok (digits_value 10 bs)
+pub parse_number : {E : Type 0} (bs : List ℕ) (r : Result ℕ E) → is_positive_number bs ≡ true → ParsesUnsigned 32 10 bs r → r ≡ Ok (digits_value 10 bs)
 parse_number [] r number parsed = cc
 parse_number (b ∷ bs) r number parsed =
     let parts = and_parts (nat_lt (length bs) WORD_DIGIT_LIMIT && not (b == 48)) (list_all is_ascii_digit (b ∷ bs)) number in
@@ -23,7 +23,7 @@ parse_number (b ∷ bs) r number parsed =
     parse_gives digits 32 (b ∷ bs) r parsed parts.1 (omega arith) (omega arith)
 
 -- its first digit is not 0, so neither is the number
-pub some_number : (bs : List ℕ) → is_number bs ≡ true → 1 ≤ digits_value 10 bs
+pub some_number : (bs : List ℕ) → is_positive_number bs ≡ true → 1 ≤ digits_value 10 bs
 some_number [] number = cc
 some_number (b ∷ bs) number =
     let parts = and_parts (nat_lt (length bs) WORD_DIGIT_LIMIT && not (b == 48)) (list_all is_ascii_digit (b ∷ bs)) number in

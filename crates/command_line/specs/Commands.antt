@@ -14,7 +14,11 @@ use Rattle.command_line.specs.declared.Arrivals.{Arrivals}
 use Rattle.command_line.specs.declared.Arrivals.TheVariants.{Absent, Recorded, Generated}
 use Rattle.command_line.specs.declared.Command.{Command}
 use Rattle.command_line.specs.declared.Output.{Output}
-use Rattle.command_line.specs.declared.Output.TheVariants.{Counts, Table, Listing, Margins, Trace, Chart, Lines, Tally, Explanation, Change}
+use Rattle.command_line.specs.declared.Output.TheVariants.{OfPlan, OfRun, Change}
+use Rattle.command_line.specs.declared.PlanOutput.{PlanOutput}
+use Rattle.command_line.specs.declared.PlanOutput.TheVariants.{Counts, Table, Listing, Margins, Lines}
+use Rattle.command_line.specs.declared.RunOutput.{RunOutput}
+use Rattle.command_line.specs.declared.RunOutput.TheVariants.{Trace, Chart, Tally, Explanation}
 use Rattle.command_line.specs.declared.Check.{Check}
 use Rattle.command_line.specs.declared.Check.TheVariants.{Unchecked, Verified, HasRow, AtCycleEnd}
 use Rattle.command_line.specs.declared.Second.{Second}
@@ -23,9 +27,9 @@ use Rattle.command_line.specs.declared.Source.{Source}
 use Rattle.command_line.specs.declared.Source.TheVariants.{Tasks, Spelled, Load}
 
 -- one decimal digit up to the limit of digits, of which the first is not 0
-abbrev pub is_number : List ℕ → Bool
-is_number [] = false
-is_number (first ∷ rest) =
+abbrev pub is_positive_number : List ℕ → Bool
+is_positive_number [] = false
+is_positive_number (first ∷ rest) =
     nat_lt (length rest) WORD_DIGIT_LIMIT
     && not (first == 48)
     && list_all is_ascii_digit (first ∷ rest)
@@ -33,21 +37,22 @@ is_number (first ∷ rest) =
 -- the number that a word writes, from 1 to the limit
 abbrev pub number_up_to : ℕ → List ℕ → Option ℕ
 number_up_to limit word =
-    if is_number word && nat_le (digits_value 10 word) limit then Some (digits_value 10 word)
+    if is_positive_number word && nat_le (digits_value 10 word) limit
+    then Some (digits_value 10 word)
     else None
 
 -- a command that writes this of a plan, and reads nothing else
-abbrev pub of_plan : Source → Output → Command
+abbrev pub of_plan : Source → PlanOutput → Command
 of_plan source output = record {
   source = source;
   second = Unread;
   arrivals = Absent;
   check = Unchecked;
-  output = output;
+  output = OfPlan output;
 }
 
 -- one that runs so many slots with recorded arrivals, where the number is one
-abbrev pub over_slots : Source → Output → Option ℕ → Option Command
+abbrev pub over_slots : Source → RunOutput → Option ℕ → Option Command
 over_slots source output number =
     option_map
     (λ slots. record {
@@ -55,7 +60,7 @@ over_slots source output number =
       second = Unread;
       arrivals = Recorded slots;
       check = Unchecked;
-      output = output;
+      output = OfRun output;
     })
     number
 
@@ -68,7 +73,7 @@ of_trace number =
       second = Unread;
       arrivals = Recorded slots;
       check = Verified;
-      output = Lines;
+      output = OfPlan Lines;
     })
     number
 
@@ -83,7 +88,7 @@ of_row number row =
       second = Unread;
       arrivals = Recorded slots;
       check = HasRow r;
-      output = Explanation r;
+      output = OfRun (Explanation r);
     })
     row)
     number
@@ -119,7 +124,7 @@ of_load number =
       second = Unread;
       arrivals = Generated n;
       check = Unchecked;
-      output = Tally n;
+      output = OfRun (Tally n);
     })
     number
 
@@ -198,15 +203,23 @@ IsCheckInRange slots Verified = (1 ≤ slots) × (slots ≤ REPLAY_LIMIT)
 IsCheckInRange slots (HasRow row) = 1 ≤ row
 IsCheckInRange slots _ = ⊤
 
+-- the lines are counted of a trace of 1 slot to the most that may be replayed
+abbrev pub IsPlanOutputInRange : ℕ → PlanOutput → Type 0
+IsPlanOutputInRange slots Lines = (1 ≤ slots) × (slots ≤ REPLAY_LIMIT)
+IsPlanOutputInRange slots _ = ⊤
+
+-- so many slots of a run may be written so
+abbrev pub IsRunOutputInRange : ℕ → RunOutput → Type 0
+IsRunOutputInRange slots Trace = (1 ≤ slots) × (slots ≤ REPLAY_LIMIT)
+IsRunOutputInRange slots Chart = (1 ≤ slots) × (slots ≤ CHART_LIMIT)
+IsRunOutputInRange slots (Tally n) = (1 ≤ slots) × (slots ≤ REPLAY_LIMIT)
+IsRunOutputInRange slots (Explanation row) = (1 ≤ slots) × (slots ≤ REPLAY_LIMIT) × (1 ≤ row)
+
 -- so many slots may be written so
 abbrev pub IsOutputInRange : ℕ → Output → Type 0
-IsOutputInRange slots Trace = (1 ≤ slots) × (slots ≤ REPLAY_LIMIT)
-IsOutputInRange slots Chart = (1 ≤ slots) × (slots ≤ CHART_LIMIT)
-IsOutputInRange slots (Tally n) = (1 ≤ slots) × (slots ≤ REPLAY_LIMIT)
-IsOutputInRange slots Lines = (1 ≤ slots) × (slots ≤ REPLAY_LIMIT)
-IsOutputInRange slots (Explanation row) = (1 ≤ slots) × (slots ≤ REPLAY_LIMIT) × (1 ≤ row)
+IsOutputInRange slots (OfPlan output) = IsPlanOutputInRange slots output
+IsOutputInRange slots (OfRun output) = IsRunOutputInRange slots output
 IsOutputInRange slots (Change n) = (1 ≤ slots) × (slots < n) × (n ≤ REPLAY_LIMIT)
-IsOutputInRange slots _ = ⊤
 
 -- the numbers of the command are in their ranges
 pub record IsInRange (command : Command) : Type 0 where
@@ -217,7 +230,7 @@ pub record IsInRange (command : Command) : Type 0 where
   pub check : IsCheckInRange (slots_of command) command.check
   pub output : IsOutputInRange (slots_of command) command.output
   -- a row that is explained is one that is asked for
-  pub explained : (row : ℕ) → command.output ≡ Explanation row → command.check ≡ HasRow row
+  pub explained : (row : ℕ) → command.output ≡ OfRun (Explanation row) → command.check ≡ HasRow row
   -- a plan is changed at a cycle's end, to a second plan
   pub changed :
       (n : ℕ) → command.output ≡ Change n
@@ -254,7 +267,11 @@ reads command TraceFile = is_verified_in command.check TraceFile
 
 -- the text of the output is put in parts: what comes first may stand where the rest is refused, or
 -- memory runs out before it
+abbrev pub tells_in_parts : RunOutput → Bool
+tells_in_parts (Explanation row) = true
+tells_in_parts _ = false
+
 abbrev pub writes_in_parts : Output → Bool
-writes_in_parts (Explanation row) = true
+writes_in_parts (OfPlan output) = false
+writes_in_parts (OfRun output) = tells_in_parts output
 writes_in_parts (Change n) = true
-writes_in_parts _ = false

@@ -6,7 +6,7 @@ ghost use Rattle.std.specs.Char.{is_ascii_digit};
 ghost use Rattle.std.specs.List.{list_all};
 ghost use Rattle.std.specs.Str.Parse.{digits_value};
 ghost use Rattle.slot_core.specs.declared.TheConstants.{ARRIVAL_LIMIT, CHART_LIMIT, LOAD_LIMIT, REPLAY_LIMIT};
-ghost use Rattle.command_line.specs.Commands.{command_of, command_of_five, command_of_four, command_of_six, command_of_two, is_number, number_up_to, of_change, of_load, of_plan, of_row, of_trace, over_slots, slots_in, IsInRange};
+ghost use Rattle.command_line.specs.Commands.{command_of, command_of_five, command_of_four, command_of_six, command_of_two, is_positive_number, number_up_to, of_change, of_load, of_plan, of_row, of_trace, over_slots, slots_in, IsInRange};
 
 use slot_core::{ARRIVAL_LIMIT, CHART_LIMIT, LOAD_LIMIT, REPLAY_LIMIT, Words};
 
@@ -78,6 +78,17 @@ pub enum Check {
 /// What a command writes.
 #[derive(Clone, Copy)]
 pub enum Output {
+    /// This of the plan, without an executive.
+    OfPlan(PlanOutput),
+    /// This of the run of an executive.
+    OfRun(RunOutput),
+    /// The trace, and then the run up to this time after a change to the second plan.
+    Change(u32),
+}
+
+/// What is written of a plan.
+#[derive(Clone, Copy)]
+pub enum PlanOutput {
     /// The line of the check: the cycle, and the numbers of jobs and spans.
     Counts,
     /// The binary table of the plan.
@@ -86,19 +97,22 @@ pub enum Output {
     Listing,
     /// How much each task may grow.
     Margins,
+    /// The number of lines of the trace.
+    Lines,
+}
+
+/// What is written of a run.
+#[derive(Clone, Copy)]
+pub enum RunOutput {
     /// The trace.
     Trace,
     /// The chart of the trace.
     Chart,
-    /// The number of lines of the trace.
-    Lines,
     /// The counts of the trace of the load of this number.
     Tally(u32),
     /// The entry of this row in the trace, and where it refuses an offer for want of room what
     /// stands against it.
     Explanation(u32),
-    /// The trace, and then the run up to this time after a change to the second plan.
-    Change(u32),
 }
 
 impl Arrivals {
@@ -134,11 +148,11 @@ fn command_of_two(word: &str, last: &str) -> Option<Command>
     ensures in_range { IfSome result IsInRange }
 {
     match word {
-        "check" => Some(of_plan(Source::Tasks, Output::Counts)),
-        "table" => Some(of_plan(Source::Tasks, Output::Table)),
-        "show" => Some(of_plan(Source::Spelled, Output::Listing)),
-        "migrate" => Some(of_plan(Source::Spelled, Output::Table)),
-        "margin" => Some(of_plan(Source::Tasks, Output::Margins)),
+        "check" => Some(of_plan(Source::Tasks, PlanOutput::Counts)),
+        "table" => Some(of_plan(Source::Tasks, PlanOutput::Table)),
+        "show" => Some(of_plan(Source::Spelled, PlanOutput::Listing)),
+        "migrate" => Some(of_plan(Source::Spelled, PlanOutput::Table)),
+        "margin" => Some(of_plan(Source::Tasks, PlanOutput::Margins)),
         "selfrun" => of_load(number_up_to(LOAD_LIMIT, last)),
         _ => None,
     }
@@ -152,19 +166,19 @@ fn command_of_four(word: &str, last: &str) -> Option<Command>
     match word {
         "replay" => over_slots(
             Source::Tasks,
-            Output::Trace,
+            RunOutput::Trace,
             number_up_to(REPLAY_LIMIT, last),
         ),
         "replay-table" => {
             over_slots(
                 Source::Spelled,
-                Output::Trace,
+                RunOutput::Trace,
                 number_up_to(REPLAY_LIMIT, last),
             )
         }
         "gantt" => over_slots(
             Source::Tasks,
-            Output::Chart,
+            RunOutput::Chart,
             number_up_to(CHART_LIMIT, last),
         ),
         _ => None,
@@ -201,7 +215,7 @@ fn command_of_six(word: &str, fifth: &str, last: &str) -> Option<Command>
 }
 
 /// The command that writes this of a plan, and reads nothing else.
-fn of_plan(source: Source, output: Output) -> Command
+fn of_plan(source: Source, output: PlanOutput) -> Command
     ensures { result ≡ of_plan source output }
 {
     Command {
@@ -209,12 +223,12 @@ fn of_plan(source: Source, output: Output) -> Command
         second: Second::Unread,
         arrivals: Arrivals::Absent,
         check: Check::Unchecked,
-        output,
+        output: Output::OfPlan(output),
     }
 }
 
 /// The command that runs so many slots with recorded arrivals, where the number is one.
-fn over_slots(source: Source, output: Output, number: Option<u32>) -> Option<Command>
+fn over_slots(source: Source, output: RunOutput, number: Option<u32>) -> Option<Command>
     ensures { result ≡ over_slots source output number }
 {
     let slots = number?;
@@ -223,7 +237,7 @@ fn over_slots(source: Source, output: Output, number: Option<u32>) -> Option<Com
         second: Second::Unread,
         arrivals: Arrivals::Recorded(slots),
         check: Check::Unchecked,
-        output,
+        output: Output::OfRun(output),
     })
 }
 
@@ -237,7 +251,7 @@ fn of_trace(number: Option<u32>) -> Option<Command>
         second: Second::Unread,
         arrivals: Arrivals::Recorded(slots),
         check: Check::Verified,
-        output: Output::Lines,
+        output: Output::OfPlan(PlanOutput::Lines),
     })
 }
 
@@ -252,7 +266,7 @@ fn of_row(number: Option<u32>, row: Option<u32>) -> Option<Command>
         second: Second::Unread,
         arrivals: Arrivals::Recorded(slots),
         check: Check::HasRow(row),
-        output: Output::Explanation(row),
+        output: Output::OfRun(RunOutput::Explanation(row)),
     })
 }
 
@@ -285,7 +299,7 @@ fn of_load(number: Option<u32>) -> Option<Command>
         second: Second::Unread,
         arrivals: Arrivals::Generated(n),
         check: Check::Unchecked,
-        output: Output::Tally(n),
+        output: Output::OfRun(RunOutput::Tally(n)),
     })
 }
 
@@ -296,7 +310,7 @@ fn number_up_to(limit: u32, word: &str) -> Option<u32>
     ensures some { IfSome result (λ n. 1 ≤ n) }
     ensures within { IfSome result (λ n. n ≤ limit) }
 {
-    if !is_number(word.as_bytes()) {
+    if !is_positive_number(word.as_bytes()) {
         return None;
     }
     let value = value_of(word);
@@ -306,7 +320,7 @@ fn number_up_to(limit: u32, word: &str) -> Option<u32>
 /// The number that the digits write.
 #[tactic(auto, using(crate::proofs::NumberLemmas::parse_number))]
 fn value_of(word: &str) -> u32
-    requires { is_number word.now ≡ true }
+    requires { is_positive_number word.now ≡ true }
     ensures value { result ≡ digits_value 10 word.now }
     ensures some { 1 ≤ result }
 {
@@ -314,8 +328,8 @@ fn value_of(word: &str) -> u32
 }
 
 /// Whether the bytes are 1 to `WORD_DIGIT_LIMIT` digits, the first not 0.
-fn is_number(digits: &[u8]) -> bool
-    ensures { result ≡ is_number digits.now }
+fn is_positive_number(digits: &[u8]) -> bool
+    ensures { result ≡ is_positive_number digits.now }
 {
     match digits {
         [] => false,

@@ -2,8 +2,6 @@
 #![tactic(auto)]
 
 #[cfg(test)]
-mod arrival_lines;
-#[cfg(test)]
 mod fault_lines;
 #[cfg(test)]
 mod runs;

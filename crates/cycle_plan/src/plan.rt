@@ -61,7 +61,7 @@ impl Model for Plan {
 }
 
 /// Why a set has no plan.
-#[derive(Clone, Copy, PartialEq, Eq, Debug)]
+#[derive(Clone, Copy, PartialEq, Eq)]
 pub enum PlanFault {
     /// Memory ran out.
     Memory,
@@ -81,6 +81,12 @@ impl fmt::Display for PlanFault {
             PlanFault::Memory => write!(f, "out of memory"),
             PlanFault::Infeasible(w) => write!(f, "infeasible {} {} {}", w.from, w.until, w.demand),
         }
+    }
+}
+
+impl fmt::Debug for PlanFault {
+    fn fmt<W: fmt::Write>(&self, f: &mut fmt::Formatter<W>) -> fmt::Result {
+        fmt::Display::fmt(self, f)
     }
 }
 

@@ -25,7 +25,7 @@ use std::alloc::Global;
 use windows::first_failing;
 
 /// The outcome of the cycle test.
-#[derive(Clone, Copy, PartialEq, Eq, Debug)]
+#[derive(Clone, Copy, PartialEq, Eq)]
 pub enum Verdict {
     /// No window has more demand than slots.
     Fits,

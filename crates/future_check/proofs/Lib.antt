@@ -1,6 +1,5 @@
 pub mod ArrivalOrder
 pub mod Comings
-pub mod LineTexts
 pub mod Needs
 pub mod SameShown
 pub mod ShownJobs

@@ -1,8 +1,6 @@
 -- Lists that are changed item by item, or grow by one.
-use Rattle.std.proofs.Common.{◌≡◌, ℕ, zero, suc, ◌+◌, ◌<◌, List, [], ◌∷◌, ◌++◌, length, map, take, drop, set, get_or, refl, sym, ap, ap₂, ◌∙◌, zero-add, add-one, append_assoc, arith}
+use Rattle.std.proofs.Common.{◌≡◌, ℕ, ◌+◌, ◌<◌, List, [], ◌∷◌, ◌++◌, length, map, take, drop, set, get_or, refl, sym, ap, ap₂, ◌∙◌, zero-add, add-one, append_assoc}
 use Rattle.std.specs.List.{enumerate_from, range_with_len}
-use Rattle.std.specs.Prelude.{flat_map}
-use Rattle.std.proofs.lemmas.List.{flat_map_more, take_more}
 use Rattle.std.proofs.lemmas.List.FromFn.{map-range_with_len_more}
 use Rattle.slot_facts.proofs.Lists.Changed.{get_or-changed, set-changed}
 
@@ -24,18 +22,3 @@ appended-more f before old new n x is pushed at =
 pub map-places : {X Y : Type 0} (f : ℕ → Y) (xs : List X) (n : ℕ) → map f (range_with_len n (length xs)) ≡ map (λ (t : ℕ × X). f t.0) (enumerate_from n xs)
 map-places f [] n = refl
 map-places f (x ∷ xs) n = ap (λ ys. f n ∷ ys) (map-places f xs (n + 1))
-
--- what f makes of a list, at the item of a place, and one place on
-flat_map-split : {X Y : Type 0} (f : X → List Y) (xs : List X) (i : ℕ) (d : X) → i < length xs → flat_map f xs ≡ flat_map f (take i xs) ++ (f (get_or xs i d) ++ flat_map f (drop (suc i) xs))
-flat_map-split f [] i d low = absurd (omega arith)
-flat_map-split f (x ∷ xs) zero d low = refl
-flat_map-split f (x ∷ xs) (suc i) d low =
-    ap (λ ys. f x ++ ys) (flat_map-split f xs i d (omega arith)) ∙ sym (append_assoc (f x) (flat_map f (take i xs)) (f (get_or xs i d) ++ flat_map f (drop (suc i) xs)))
-
-pub flat_map-at : {X Y : Type 0} (f : X → List Y) (xs : List X) (i : ℕ) (x : X) → i < length xs → x ≡ get_or xs i x → flat_map f xs ≡ flat_map f (take i xs) ++ (f x ++ flat_map f (drop (suc i) xs))
-flat_map-at f xs i x low is =
-    flat_map-split f xs i x low ∙ ap (λ y. flat_map f (take i xs) ++ (f y ++ flat_map f (drop (suc i) xs))) (sym is)
-
-pub flat_map-more : {X Y : Type 0} (f : X → List Y) (xs : List X) (i : ℕ) (x : X) → i < length xs → x ≡ get_or xs i x → flat_map f (take i xs) ++ f x ≡ flat_map f (take (i + 1) xs)
-flat_map-more f xs i x low is =
-    flat_map_more f [] (take i xs) x ∙ ap (λ y. flat_map f (take i xs ++ y ∷ [])) is ∙ ap (flat_map f) (sym (take_more xs i x low))

@@ -6,7 +6,7 @@ ghost use Rattle.slot_core.specs.Sets.Ranges.{is_sound};
 
 use arrival_csv::{ArrivalFault, read_arrivals};
 use sample_sets::alarm_set;
-use slot_core::{ARRIVAL_LIMIT, Arrival, Event, TaskSet};
+use slot_core::{ARRIVAL_LIMIT, Arrival, Event, Key, TaskSet};
 use std::alloc::Global;
 use std::fmt::Write;
 use std::test::Fail;
@@ -109,7 +109,44 @@ x,hard => bad number 1 1
 2,soft,1\n1,hard => unknown kind 2
 2,soft,1\n1,soft,0 => bad number 2 3
 0,soft,0\nx => bad number 1 3
-0,soft,1\n0,soft,1\n5,soft,1\n1,soft,1 => past end 3 5"#;
+0,soft,1\n0,soft,1\n5,soft,1\n1,soft,1 => past end 3 5
+soft => bad row 1
+"" => bad row 1
+0,soft,1,1 => bad row 1
+0,done,g.a#0,0 => bad row 1
+,soft,1 => bad number 1 1
+-1,soft,1 => bad number 1 1
++1,soft,1 => bad number 1 1
+ 1,soft,1 => bad number 1 1
+1.0,soft,1 => bad number 1 1
+one,soft,1 => bad number 1 1
+99999999999,soft,1 => bad number 1 1
+0,,1 => unknown kind 1
+0,SOFT,1 => unknown kind 1
+0,soft ,1 => unknown kind 1
+0,soft,1  => bad number 1 3
+0,done,g => bad key 1
+0,done,g#0 => bad key 1
+0,done,a.g#0 => bad key 1
+0,done,G.a#0 => bad key 1
+0,done,soft => bad key 1
+x,hard,1 => bad number 1 1
+x,soft => bad number 1 1
+9,soft,0,0 => bad row 1
+2,soft,1\n1,done,x => bad key 2
+4,soft,1\n0 => past end 1 4
+1,soft,1\n1,soft,1\n0,soft,1\n9,soft,1 => out of order 3 1 0
+3,soft,65535\n3,done,firm:65535\n3,done,soft:1\n3,done,g.b#4294967295\n4,soft,1 => past end 5 4
+"0","soft","0" => bad number 1 3
+0,"soft => bad row 1
+0,soft,1\r\n1,soft,0\r\n => bad number 2 3
+0,soft,1\r1,soft,0 => bad number 2 3
+\n\n0,soft,1\n\n\r\n\n1,soft,0 => bad number 2 3
+\m0,soft,0 => bad number 1 3
+\0 => bad row 1
+0,soft\0,1 => unknown kind 1
+\f,soft,1 => bad number 1 1
+0,\f,1 => unknown kind 1"#;
 
 /// The bytes of an escape.
 fn escape_of(letter: u8) -> &'static [u8] {
@@ -153,8 +190,19 @@ fn push_event(text: &mut String, event: Event) -> Result<(), Fail> {
         Event::Soft(c) => write!(text, "Soft({c});")?,
         Event::Firm(c, d) => write!(text, "Firm({c}, {d});")?,
         Event::Sporadic(index) => write!(text, "Sporadic({index});")?,
-        Event::Done(key) => write!(text, "Done({key:?});")?,
+        Event::Done(key) => push_done(text, key)?,
         Event::Withdraw(firm) => write!(text, "Withdraw({firm});")?,
+    }
+    Ok(())
+}
+
+/// Appends the early end of a job.
+fn push_done(text: &mut String, key: Key) -> Result<(), Fail> {
+    match key {
+        Key::Offline(g, t, i) => write!(text, "Done(Offline({g}, {t}, {i}));")?,
+        Key::Sporadic(index, row) => write!(text, "Done(Sporadic({index}, {row}));")?,
+        Key::Firm(row) => write!(text, "Done(Firm({row}));")?,
+        Key::Soft(row) => write!(text, "Done(Soft({row}));")?,
     }
     Ok(())
 }
@@ -206,17 +254,15 @@ fn rows(alloc: Global, count: u32, last: &[u8]) -> Result<Vec<u8>, Fail> {
     Ok(bytes)
 }
 
-/// How many arrivals come of so many rows and the last one, or their fault.
-fn count(
-    alloc: Global,
-    rows_before: u32,
-    last: &[u8],
-    tasks: &TaskSet,
-) -> Result<Result<usize, ArrivalFault>, Fail>
+/// What comes of so many rows and the last one: the number of arrivals, or their fault.
+fn counted(alloc: Global, rows_before: u32, last: &[u8], tasks: &TaskSet) -> Result<String, Fail>
     requires { is_sound tasks.now ≡ true }
 {
     let bytes = rows(alloc, rows_before, last)?;
-    Ok(read_arrivals(alloc, bytes.as_slice(), 4, tasks).map(|arrivals| arrivals.len()))
+    match read_arrivals(alloc, bytes.as_slice(), 4, tasks) {
+        Ok(arrivals) => Ok(format!(in alloc; "{}", arrivals.len())?),
+        Err(fault) => Ok(format!(in alloc; "{fault}")?),
+    }
 }
 
 #[test]
@@ -224,15 +270,15 @@ fn takes_rows_up_to_their_limit(rt: HostRuntime) -> Result<(), Fail> {
     let alloc = rt.alloc();
     let tasks = alarm_set(alloc)?;
     let most = ARRIVAL_LIMIT;
-    let cases: [(u32, &[u8], Result<usize, ArrivalFault>); 4] = [
-        (most, b"", Ok(most as usize)),
-        (most, b"0,soft,1\n", Err(ArrivalFault::TooMany)),
-        (most, b"x", Err(ArrivalFault::TooMany)),
-        (most - 1, b"x\nx", Err(ArrivalFault::BadRow(most))),
+    let cases: [(u32, &[u8], &str); 4] = [
+        (most, b"", "65535"),
+        (most, b"0,soft,1\n", "too many"),
+        (most, b"x", "too many"),
+        (most - 1, b"x\nx", "bad row 65535"),
     ];
     for (index, (before, last, want)) in cases.iter().enumerate() {
         assert!(rt;
-            count(alloc, *before, last, &tasks)? == *want,
+            counted(alloc, *before, last, &tasks)?.as_str() == *want,
             "case {index}"
         );
     }

@@ -22,10 +22,10 @@ first_is_none : (left dl e x next : ℕ) → x < next → (dl ≤ e) ⊎ (next �
 first_is_none left dl e x next l h = grind (arith, nat_tests)
 
 -- the work up to x is that up to e, and that from e on
-work_splits : (jobs : List Job) (s e x : ℕ) → s ≤ e → e ≤ x → work_between jobs s x ≡ work_between jobs s e + work_between jobs e x
-work_splits [] s e x l m = refl
-work_splits (j ∷ jobs) s e x l m =
-    let more : work_between jobs s x ≡ work_between jobs s e + work_between jobs e x = work_splits jobs s e x l m in
+pub work_between-splits : (jobs : List Job) (s e x : ℕ) → s ≤ e → e ≤ x → work_between jobs s x ≡ work_between jobs s e + work_between jobs e x
+work_between-splits [] s e x l m = refl
+work_between-splits (j ∷ jobs) s e x l m =
+    let more : work_between jobs s x ≡ work_between jobs s e + work_between jobs e x = work_between-splits jobs s e x l m in
     let first : work_of_first s x j ≡ work_of_first s e j + work_of_first e x j = first_splits j.left j.dl s e x l m in
     omega (arith, work_between-cons s x j jobs, work_between-cons s e j jobs, work_between-cons e x j jobs)
 
@@ -39,7 +39,7 @@ no_work (j ∷ jobs) e x next l h =
 -- so is the slack
 pub slack_splits : (jobs : List Job) (s e x : ℕ) → s ≤ e → e ≤ x → slack jobs s x ≡ slack jobs s e +ℤ slack jobs e x
 slack_splits jobs s e x l m =
-    let work : work_between jobs s x ≡ work_between jobs s e + work_between jobs e x = work_splits jobs s e x l m in
+    let work : work_between jobs s x ≡ work_between jobs s e + work_between jobs e x = work_between-splits jobs s e x l m in
     omega (arith, ints)
 
 -- and without work it is not below 0

@@ -8,6 +8,7 @@ use Rattle.slot_core.specs.declared.jobs.Job.{Job}
 use Rattle.slot_core.specs.declared.jobs.Span.{Span}
 use Rattle.slot_core.specs.Runs.Demand.{work_between}
 use Rattle.slot_core.specs.Runs.Spans.{slack, spans_between}
+use Rattle.slot_facts.proofs.Lists.Apart.{above-from_rising}
 use Rattle.slot_facts.proofs.Lists.Members.{Has, Has-from_Contains}
 use Rattle.spare_capacity.specs.Recurrence.{filled, first_spare, FollowOn, AreConsecutive}
 use Rattle.slot_core.specs.Runs.Rising.{AreRising, last_point}
@@ -24,15 +25,7 @@ AreDueAt-from_All jobs s points h =
     recursion_from_All (λ (j : Job). (j.dl ≤ s) ⊎ Has points j.dl) jobs
     (λ k d l. inr (Has-from_Contains points (get_or jobs k d).dl (h k d l)))
 
--- points that rise from s are above it, and the last is not below it
-Has-above : (s : ℕ) (points : List ℕ) (x : ℕ) → AreRising s points → Has points x → s < x
-Has-above s [] x rising h = elim h [ ]
-Has-above s (e ∷ points) x rising h =
-    ⊎_elim
-    (λ same. omega (arith, rising.0))
-    (λ among. let above : e < x = Has-above e points x rising.1 among in omega (arith, rising.0))
-    h
-
+-- the last of points that rise from s is not below it
 pub last_point-above : (s : ℕ) (points : List ℕ) → AreRising s points → s ≤ last_point s points
 last_point-above s [] rising = omega arith
 last_point-above s (e ∷ points) rising =
@@ -42,10 +35,10 @@ last_point-above s (e ∷ points) rising =
 -- the jobs of the points are due after the start
 pub AreDueAfter-start : (jobs : List Job) (s : ℕ) (points : List ℕ) → AreRising s points → All (λ (j : Job). Contains points j.dl) jobs → All (λ (j : Job). s < j.dl) jobs
 AreDueAfter-start jobs s points rising h k d l =
-    Has-above s points (get_or jobs k d).dl rising (Has-from_Contains points (get_or jobs k d).dl (h k d l))
+    above-from_rising s points (get_or jobs k d).dl rising (Has-from_Contains points (get_or jobs k d).dl (h k d l))
 
 -- one span on, the jobs due at its end are due by it
-AreDueAt-next : (jobs : List Job) (s e : ℕ) (points : List ℕ) → s < e → AreDueAt jobs s (e ∷ points) → AreDueAt jobs e points
+pub AreDueAt-next : (jobs : List Job) (s e : ℕ) (points : List ℕ) → s < e → AreDueAt jobs s (e ∷ points) → AreDueAt jobs e points
 AreDueAt-next [] s e points l h = tt
 AreDueAt-next (j ∷ jobs) s e points l h =
     (⊎_elim (λ by. inl (omega arith)) (⊎_elim (λ same. inl (omega arith)) inr) h.0, AreDueAt-next jobs s e points l h.1)
@@ -54,7 +47,7 @@ AreDueAt-next (j ∷ jobs) s e points l h =
 NoneBetween-points : (jobs : List Job) (e next : ℕ) (points : List ℕ) → AreRising next points → AreDueAt jobs e (next ∷ points) → NoneBetween jobs e next
 NoneBetween-points [] e next points rising h = tt
 NoneBetween-points (j ∷ jobs) e next points rising h =
-    (⊎_elim inl (λ among. inr (⊎_elim (λ same. omega arith) (λ later. let above : next < j.dl = Has-above next points j.dl rising later in omega arith) among)) h.0, NoneBetween-points jobs e next points rising h.1)
+    (⊎_elim inl (λ among. inr (⊎_elim (λ same. omega arith) (λ later. let above : next < j.dl = above-from_rising next points j.dl rising later in omega arith) among)) h.0, NoneBetween-points jobs e next points rising h.1)
 
 add_zero : (z : ℤ) → z +ℤ int_min (pos 0) (pos 0) ≡ z
 add_zero z = omega (arith, ints)

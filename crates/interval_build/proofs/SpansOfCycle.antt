@@ -19,7 +19,7 @@ use Rattle.slot_facts.proofs.Offline.Jobs.{cycle-positive, cycle-at_most}
 use Rattle.slot_facts.proofs.Plans.SpanSums.{work_between-same}
 use Rattle.spare_capacity.specs.PlanSpans.{AreProper, ArePlanSpans}
 use Rattle.spare_capacity.specs.Recurrence.{filled, first_spare, last_end, FollowOn}
-use Rattle.spare_capacity.proofs.Stale.{filled-filled, FollowOn-filled}
+use Rattle.spare_capacity.proofs.Filled.{filled-filled, FollowOn-filled}
 use Rattle.interval_build.specs.FirstJobs.{AreFirstJobs}
 use Rattle.interval_build.specs.Rows.{rows_between}
 use Rattle.interval_build.proofs.Filled.{AreDueAt-from_All, filled-rows_between, last_point-above, FollowOn-rows_between}
@@ -39,24 +39,24 @@ slack_from_0 set jobs x these =
     let due : work_between first 0 x ≤ work_from first 0 x = sum_by-le-sum_by (λ (j : Job). cond (nat_lt 0 j.dl && nat_le j.dl x) j.left 0) (λ (j : Job). cond (nat_le 0 j.est && nat_le j.dl x) j.left 0) first (λ j. counts_from_0 j.left j.est j.dl x) in
     omega (arith, ints, offline_jobs-fit set 1 [] 0 x these.sound these.feasible (omega arith))
 
--- so the first capacity is at least 0, and there is one
-first_capacity : (set : TaskSet) (jobs : List Job) (last : ℕ) (points : List ℕ) → AreFirstJobs set jobs → AreRising 0 points → last_point 0 points ≡ last → pos 0 ≤ℤ first_spare (spans_between jobs last 0 points)
-first_capacity set jobs last [] these rising at = omega (arith, ints)
-first_capacity set jobs last (e ∷ points) these rising at =
-    let within : e ≤ last = omega (arith, last_point-above e points rising.1) in
-    let least = IsLeast-least (slack jobs 0) e last within in
-    let x = least.reached.0 in
-    subst (λ z. pos 0 ≤ℤ z) (sym least.reached.3) (slack_from_0 set jobs x these)
+-- where no stretch from the start has more work than slots, the first capacity is at least 0
+pub first_spare-between : (jobs : List Job) (end start : ℕ) (points : List ℕ) → AreRising start points → last_point start points ≤ end → ((x : ℕ) → start ≤ x → x ≤ end → pos 0 ≤ℤ slack jobs start x) → pos 0 ≤ℤ first_spare (spans_between jobs end start points)
+first_spare-between jobs end start [] rising within room = omega (arith, ints)
+first_spare-between jobs end start (e ∷ points) rising within room =
+    let least = IsLeast-least (slack jobs start) e end (omega (arith, last_point-above e points rising.1)) in
+    let (x, low, high, is) = least.reached in
+    subst (λ z. pos 0 ≤ℤ z) (sym is) (room x (omega (arith, rising.0)) high)
 
 -- each span between rising points has its end above its start
-proper : (jobs : List Job) (last start : ℕ) (points : List ℕ) → AreRising start points → AreProper (spans_between jobs last start points)
-proper jobs last start [] rising = tt
-proper jobs last start (e ∷ points) rising = (rising.0, proper jobs last e points rising.1)
+pub AreProper-between : (jobs : List Job) (end start : ℕ) (points : List ℕ) → AreRising start points → AreProper (spans_between jobs end start points)
+AreProper-between jobs end start [] rising = tt
+AreProper-between jobs end start (e ∷ points) rising =
+    (rising.0, AreProper-between jobs end e points rising.1)
 
 -- the last span ends at the last point
-last_of_spans : (jobs : List Job) (last start : ℕ) (points : List ℕ) → last_end start (spans_between jobs last start points) ≡ last_point start points
-last_of_spans jobs last start [] = refl
-last_of_spans jobs last start (e ∷ points) = last_of_spans jobs last e points
+pub last_end-between : (jobs : List Job) (end start : ℕ) (points : List ℕ) → last_end start (spans_between jobs end start points) ≡ last_point start points
+last_end-between jobs end start [] = refl
+last_end-between jobs end start (e ∷ points) = last_end-between jobs end e points
 
 -- where the last point is above 0 there is a span
 some_points : (points : List ℕ) (jobs : List Job) (last cycle : ℕ) → 1 ≤ cycle → last_point 0 points ≡ cycle → 1 ≤ length (spans_between jobs last 0 points)
@@ -77,9 +77,9 @@ ArePlanSpans-between set jobs these =
     record {
       some = some_points points jobs cycle cycle (cycle-positive set these.sound) last;
       consecutive = subst (FollowOn 0) is (FollowOn-filled 0 rows (FollowOn-rows_between jobs 0 points rising (omega arith) (omega arith)));
-      proper = proper jobs cycle 0 points rising;
+      proper = AreProper-between jobs cycle 0 points rising;
       filled = sym (ap filled (sym is) ∙ filled-filled rows ∙ is);
-      first = first_capacity set jobs cycle points these rising last;
+      first = first_spare-between jobs cycle 0 points rising (omega (arith, last)) (λ x low high. slack_from_0 set jobs x these);
     }
 
 -- so the spans of a plan are plan spans
@@ -90,7 +90,7 @@ ArePlanSpans-plan_spans set jobs these =
 -- and the last of them ends with the cycle
 pub last_end-plan_spans : (set : TaskSet) (jobs : List Job) → AreFirstJobs set jobs → last_end 0 (plan_spans set (cycle_of set)) ≡ cycle_of set
 last_end-plan_spans set jobs these =
-    ap (last_end 0) (sym (plan_spans-first set jobs these)) ∙ (last_of_spans jobs (cycle_of set) 0 (first_points set jobs) ∙ last_of_first_points set jobs these)
+    ap (last_end 0) (sym (plan_spans-first set jobs these)) ∙ (last_end-between jobs (cycle_of set) 0 (first_points set jobs) ∙ last_of_first_points set jobs these)
 
 -- this holds of each plan
 pub ArePlanSpans-from_plan : (plan : PlanParts) → IsPlan plan → ArePlanSpans plan.spans × (last_end 0 plan.spans ≡ plan.cycle)

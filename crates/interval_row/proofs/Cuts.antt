@@ -1,5 +1,5 @@
 -- A span that becomes two: only the first of the two, and the one after it, may then be wrong.
-use Rattle.std.proofs.Common.{◌≡◌, ℕ, zero, suc, ◌+◌, ◌<◌, ◌≤◌, ℤ, pos, List, [], ◌∷◌, length, get_or, set, take, drop, remove, ◌++◌, add-one, cond, ltb, ◌&&◌, ◌||◌, inl, inr, refl, sym, ◌∙◌, ap, arith}
+use Rattle.std.proofs.Common.{◌≡◌, ℕ, zero, suc, ◌<◌, ◌≤◌, ℤ, pos, List, [], ◌∷◌, length, get_or, cond, ltb, ◌&&◌, ◌||◌, inl, inr, refl, sym, ◌∙◌, ap, arith}
 use Rattle.std.specs.Int.{int_min}
 use Rattle.std.proofs.lemmas.Int.{ints, clamps}
 use Rattle.std.proofs.lemmas.Bool.{cases_lt, lt-ltb, le-ltb, ltb-true, and_left, and_right, and_parts, cond_both}
@@ -77,45 +77,19 @@ HoldsInside-place_of start at (s ∷ ss) h later within other =
           rw (le-ltb s.end at after) (omega (arith, h.0), omega arith)
     ]
 
--- to write the two parts over the row and the place before it
-pub set-halved : (place at : ℕ) (rows : List Span) → suc place < length rows → set (set rows place (part_before at (get_or rows (suc place) no_row))) (suc place) (part_from at (get_or rows (suc place) no_row)) ≡ halved place at (remove rows place)
-set-halved place at [] l = elim l [ ]
-set-halved zero at (x ∷ []) l = absurd (omega arith)
-set-halved zero at (x ∷ s ∷ ss) l = refl
-set-halved (suc place) at (x ∷ ss) l = ap (λ xs. x ∷ xs) (set-halved place at ss (omega arith))
-
-pub written_parts : (place at : ℕ) (rows : List Span) (first second : Span) → place + 1 < length rows → first ≡ part_before at (get_or rows (place + 1) no_row) → second ≡ part_from at (get_or rows (place + 1) no_row) → set (set rows place first) (place + 1) second ≡ halved place at (remove rows place)
-written_parts place at rows first second l a b =
-    let next : suc place < length rows = omega arith in
-    rw (a, b, add-one) (set-halved place at rows next)
-
--- the rows after the two parts have their capacities
-pub halved-later : (place at : ℕ) (rows : List Span) → rows ≡ filled rows → drop 2 (drop place (halved place at rows)) ≡ filled (drop 2 (drop place (halved place at rows)))
-halved-later zero at [] e = refl
-halved-later (suc place) at [] e = refl
-halved-later zero at (s ∷ ss) e = rest-filled s ss e
-halved-later (suc place) at (s ∷ ss) e = halved-later place at ss (rest-filled s ss e)
-
 -- the two parts lend what the one span lent
 halves_lend : (at : ℕ) (s : Span) (later : ℤ) → s.start < at → at < s.end → LendsSame (with_spare (part_before at s) (with_spare (part_from at s) later).spare).spare (with_spare s later).spare
 halves_lend at s later low high = omega (arith, ints, clamps)
 
--- rows of which one is two lend what they lent before, and those before it keep their capacities
-pub record IsMendedAt (place at : ℕ) (rows : List Span) : Type 0 where
-  pub lends : LendsSame (first_spare (filled (halved place at rows))) (first_spare rows)
-  pub mended : take place (halved place at rows) ++ filled (drop place (halved place at rows)) ≡ filled (halved place at rows)
-
-pub IsMendedAt-halved : (place at : ℕ) (rows : List Span) → rows ≡ filled rows → HoldsInside at place rows → IsMendedAt place at rows
-IsMendedAt-halved place at [] e inside = elim inside [ ]
-IsMendedAt-halved zero at (s ∷ ss) e inside =
-    record { lends = halves_lend at s (first_spare (filled ss)) inside.0 inside.1 ∙ ap (λ xs. int_min (pos 0) (first_spare xs)) (sym e); mended = refl }
-IsMendedAt-halved (suc place) at (s ∷ ss) e inside =
-    let rest : IsMendedAt place at ss = IsMendedAt-halved place at ss (rest-filled s ss e) inside in
-    let first : with_spare s (first_spare (filled (halved place at ss))) ≡ s = with_spare-LendsSame s (first_spare (filled (halved place at ss))) (first_spare ss) rest.lends ∙ sym (filled-first s ss e) in
-    record {
-      lends = ap (λ (x : Span). int_min (pos 0) x.spare) first;
-      mended = ap (λ xs. s ∷ xs) rest.mended ∙ ap (λ x. x ∷ filled (halved place at ss)) (sym first);
-    }
+-- rows of which one is two lend what they lent before
+pub LendsSame-halved : (place at : ℕ) (rows : List Span) → rows ≡ filled rows → HoldsInside at place rows → LendsSame (first_spare (filled (halved place at rows))) (first_spare rows)
+LendsSame-halved place at [] e inside = elim inside [ ]
+LendsSame-halved zero at (s ∷ ss) e inside =
+    halves_lend at s (first_spare (filled ss)) inside.0 inside.1 ∙ ap (λ xs. int_min (pos 0) (first_spare xs)) (sym e)
+LendsSame-halved (suc place) at (s ∷ ss) e inside =
+    let rest : LendsSame (first_spare (filled (halved place at ss))) (first_spare ss) = LendsSame-halved place at ss (rest-filled s ss e) inside in
+    let first : with_spare s (first_spare (filled (halved place at ss))) ≡ s = with_spare-LendsSame s (first_spare (filled (halved place at ss))) (first_spare ss) rest ∙ sym (filled-first s ss e) in
+    ap (λ (x : Span). int_min (pos 0) x.spare) first
 
 -- cut spans are consecutive, proper, as many or one more
 pub FollowOn-cut : (start at : ℕ) (rows : List Span) → FollowOn start rows → FollowOn start (cut at rows)

@@ -1,8 +1,8 @@
 -- Spans that are appended to others.
 use Rattle.std.proofs.Math.Nat.{mul-le-mul_left}
-use Rattle.std.proofs.Common.{◌≡◌, ℕ, suc, ◌+◌, ◌-◌, ◌*◌, ◌≤◌, ◌^◌, ℤ, pos, ◌≤ℤ◌, List, [], ◌∷◌, ◌++◌, length, map, get_or, refl, sym, ◌∙◌, ap, arith, zero, drop, zero-add, subst, ◌<◌}
+use Rattle.std.proofs.Common.{◌≡◌, ℕ, suc, ◌+◌, ◌-◌, ◌*◌, ◌≤◌, ◌^◌, ℤ, pos, ◌≤ℤ◌, List, [], ◌∷◌, ◌++◌, length, map, get_or, refl, sym, ◌∙◌, ap, arith, zero, zero-add, subst, ◌<◌}
 use Rattle.std.proofs.lemmas.Int.{ints, clamps}
-use Rattle.std.proofs.lemmas.List.{length-append, length-map, drop-append-le}
+use Rattle.std.proofs.lemmas.List.{length-append, length-map}
 use Rattle.slot_core.specs.declared.jobs.Span.{Span}
 use Rattle.spare_capacity.specs.Recurrence.{filled, first_spare, with_spare, FollowOn, first_start, last_end}
 use Rattle.spare_capacity.proofs.Steps.{no_row}
@@ -91,17 +91,6 @@ filled-appended spans rows plan e =
 
 pub length-appended : (spans rows : List Span) → length (appended spans rows) ≡ length rows + length spans
 length-appended spans rows = simp (length-append, length-map)
-
--- the last end of the rows but some from the front
-pub last_end-drop : (n start : ℕ) (rows : List Span) → 1 ≤ length (drop n rows) → last_end start rows ≡ last_end start (drop n rows)
-last_end-drop zero start rows l = refl
-last_end-drop (suc n) start [] l = refl
-last_end-drop (suc n) start (s ∷ ss) l = last_end-drop n s.end ss l ∙ last_end-some s.end start (drop n ss) l
-
--- to append to the rows from a place on is to append to all
-pub drop-appended : (n : ℕ) (spans rows : List Span) → n ≤ length rows → 1 ≤ length (drop n rows) → drop n (appended spans rows) ≡ appended spans (drop n rows)
-drop-appended n spans rows within some =
-    drop-append-le n rows (map (shifted (last_end 0 rows)) spans) within ∙ ap (λ by. drop n rows ++ map (shifted by) spans) (last_end-drop n 0 rows some)
 
 -- copies of a plan's spans: consecutive from 0, proper, with their capacities, as many as they should be
 pub record AreCopies (spans : List Span) (n : ℕ) (rows : List Span) : Type 0 where

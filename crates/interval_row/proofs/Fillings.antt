@@ -1,9 +1,9 @@
 -- What capacities by the recurrence leave as it is.
-use Rattle.std.proofs.Common.{◌≡◌, ℕ, zero, suc, List, [], ◌∷◌, length, drop, refl, ap, ℤ, pos, ◌+ℤ◌}
+use Rattle.std.proofs.Common.{◌≡◌, ℕ, suc, List, [], ◌∷◌, length, get_or, refl, sym, ap, ◌∙◌, ℤ, pos, ◌+ℤ◌}
 use Rattle.std.specs.Int.{int_min}
 use Rattle.slot_core.specs.declared.jobs.Span.{Span}
-use Rattle.spare_capacity.specs.Recurrence.{AreConsecutive, FollowOn, filled, first_spare, first_start, last_end, room, with_spare}
-use Rattle.spare_capacity.proofs.Stale.{IsStaleAt-filled}
+use Rattle.spare_capacity.specs.Recurrence.{filled, first_spare, first_start, last_end, room, with_spare}
+use Rattle.spare_capacity.proofs.Free.{rest-filled}
 use Rattle.spare_capacity.specs.PlanSpans.{AreProper}
 
 -- capacities change no length, and leave rows proper
@@ -23,17 +23,6 @@ pub last_end-filled : (start : ℕ) (rows : List Span) → last_end start (fille
 last_end-filled start [] = refl
 last_end-filled start (s ∷ ss) = last_end-filled s.end ss
 
--- rows that follow on are consecutive
-pub AreConsecutive-FollowOn : (start : ℕ) (rows : List Span) → FollowOn start rows → AreConsecutive rows
-AreConsecutive-FollowOn start [] h = tt
-AreConsecutive-FollowOn start (s ∷ ss) h = (refl, h.1, h.2, h.3, h.4)
-
--- and so are those from a place on
-pub AreConsecutive-drop : (start n : ℕ) (rows : List Span) → FollowOn start rows → AreConsecutive (drop n rows)
-AreConsecutive-drop start zero rows h = AreConsecutive-FollowOn start rows h
-AreConsecutive-drop start (suc n) [] h = tt
-AreConsecutive-drop start (suc n) (s ∷ ss) h = AreConsecutive-drop s.end n ss h.4
-
 -- the same part of both capacities is borrowed from the row before
 abbrev pub LendsSame : ℤ → ℤ → Type 0
 LendsSame a b = int_min (pos 0) a ≡ int_min (pos 0) b
@@ -44,4 +33,6 @@ with_spare-LendsSame s a b e = ap (λ m. record s { spare = room s +ℤ m }) e
 
 -- the first of rows that have their capacities
 pub filled-first : (s : Span) (ss : List Span) → s ∷ ss ≡ filled (s ∷ ss) → s ≡ with_spare s (first_spare ss)
-filled-first s ss e = (IsStaleAt-filled (s ∷ ss) 1 e).0
+filled-first s ss e =
+    let first : s ≡ with_spare s (first_spare (filled ss)) = ap (λ xs. get_or xs 0 s) e in
+    first ∙ ap (λ xs. with_spare s (first_spare xs)) (sym (rest-filled s ss e))

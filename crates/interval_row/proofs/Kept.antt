@@ -1,17 +1,15 @@
 -- Rows stay rows: some, consecutive, proper, filled and few.
-use Rattle.std.proofs.Common.{◌≡◌, ℕ, suc, ◌+◌, ◌<◌, ◌≤◌, ◌^◌, List, [], ◌∷◌, length, map, eqb, refl, sym, subst, arith, ◌-◌, ◌∙◌, get_or, IsSomeAnd}
+use Rattle.std.proofs.Common.{◌≡◌, ℕ, suc, ◌+◌, ◌<◌, ◌≤◌, ◌^◌, List, [], ◌∷◌, length, map, eqb, refl, sym, subst, arith}
 use Rattle.std.proofs.lemmas.Bool.{cond_both, eqb-true, eqb-false}
 use Rattle.slot_core.specs.declared.jobs.Span.{Span}
 use Rattle.spare_capacity.specs.Recurrence.{filled, FollowOn, first_start, last_end}
-use Rattle.spare_capacity.proofs.Steps.{no_row}
 use Rattle.spare_capacity.specs.PlanSpans.{AreProper, ArePlanSpans}
-use Rattle.interval_row.specs.Changes.{after_pass, appended, cut, shifted, span_ending, with_less, with_more, with_work}
-use Rattle.interval_row.specs.Rows.{AreRows, place_of, with_work_at}
+use Rattle.interval_row.specs.Changes.{after_pass, appended, cut, shifted}
+use Rattle.interval_row.specs.Rows.{AreRows, with_work_at}
 use Rattle.interval_row.proofs.Cuts.{AreProper-cut, FollowOn-cut, length-cut, first_start-cut}
 use Rattle.interval_row.proofs.Cycles.{filled-appended, length-appended, last_end-some, FollowOn-append, FollowOn-shifted, AreProper-append, AreProper-shifted, first_start-append, AreCopies}
-use Rattle.spare_capacity.proofs.Stale.{filled-filled, FollowOn-filled}
+use Rattle.spare_capacity.proofs.Filled.{filled-filled, FollowOn-filled}
 use Rattle.interval_row.proofs.Fillings.{length-filled, first_start-filled, AreProper-filled}
-use Rattle.interval_row.proofs.Places.{work-le, IsDueAt, IsDueAt-span_ending}
 use Rattle.interval_row.proofs.Works.{length-with_work_at, first_start-with_work_at, AreProper-with_work_at, FollowOn-with_work_at}
 
 -- what rows are before their capacities are set
@@ -121,36 +119,6 @@ AreRows-appended spans rows plan h few =
       filled = filled-appended spans rows plan h.filled;
       few = omega (arith, few, length-appended spans rows);
     }
-
--- rows that stay as many, from the same start
-pub record Stays (old new : List Span) : Type 0 where
-  pub rows : AreRows new
-  pub count : length new ≡ length old
-  pub start : first_start new ≡ first_start old
-
--- with another work of the row that is due
-Stays-with_work : (f : ℕ → ℕ) (deadline : ℕ) (P : Span → Type 0) (rows : List Span) → AreRows rows → (due : IsDueAt deadline P rows (place_of deadline rows)) → f (get_or rows (place_of deadline rows) no_row).work ≤ 2 ^ 40 → Stays rows (filled (with_work f deadline rows))
-Stays-with_work f deadline P rows h due few =
-    let place = place_of deadline rows in
-    let work = f (get_or rows place no_row).work in
-    let changed : with_work f deadline rows ≡ with_work_at place work rows = due.changed f in
-    let bare = with_work_at place work rows in
-    rw changed (record {
-      rows = AreRows-AreBare bare (AreBare-with_work_at place work rows few h);
-      count = length-filled bare ∙ length-with_work_at place work rows;
-      start = first_start-filled bare ∙ first_start-with_work_at place work rows;
-    })
-
-pub Stays-with_more : (deadline slots : ℕ) (rows : List Span) → AreRows rows → IsSomeAnd (span_ending deadline rows) (λ (s : Span). s.work + slots ≤ 2 ^ 40) → Stays rows (filled (with_more deadline slots rows))
-Stays-with_more deadline slots rows h found =
-    let due = IsDueAt-span_ending (first_start rows) rows deadline (λ (s : Span). s.work + slots ≤ 2 ^ 40) h.consecutive found in
-    Stays-with_work (λ work. work + slots) deadline (λ (s : Span). s.work + slots ≤ 2 ^ 40) rows h due due.holds
-
-pub Stays-with_less : (deadline slots : ℕ) (rows : List Span) → AreRows rows → IsSomeAnd (span_ending deadline rows) (λ (s : Span). slots ≤ s.work) → Stays rows (filled (with_less deadline slots rows))
-Stays-with_less deadline slots rows h found =
-    let due = IsDueAt-span_ending (first_start rows) rows deadline (λ (s : Span). slots ≤ s.work) h.consecutive found in
-    let few : (get_or rows (place_of deadline rows) no_row).work ≤ 2 ^ 40 = work-le (first_start rows) rows (place_of deadline rows) h.consecutive due.within in
-    Stays-with_work (λ work. work - slots) deadline (λ (s : Span). slots ≤ s.work) rows h due (omega arith)
 
 -- copies of a plan's spans are rows
 pub AreRows-AreCopies : (spans : List Span) (n : ℕ) (rows : List Span) → 1 ≤ length rows → length rows ≤ 2 ^ 20 → AreCopies spans n rows → AreRows rows

@@ -2,11 +2,10 @@ pub mod Cuts
 pub mod Cycles
 pub mod Ends
 pub mod Fillings
-pub mod Ids
-pub mod InChains
-pub mod Inserts
 pub mod Kept
 pub mod Places
+pub mod Rooms
 pub mod Spots
+pub mod Stores
 pub mod WalkBack
 pub mod Works

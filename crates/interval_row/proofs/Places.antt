@@ -1,6 +1,5 @@
 -- The place of the first row that ends at x or later.
-use Rattle.std.proofs.Common.{◌≡◌, ℕ, zero, suc, ◌<◌, ◌≤◌, ◌^◌, ltb, true, false, List, [], ◌∷◌, length, get_or, Option, Some, None, IsSome, IsSomeAnd, eqb, inl, inr, refl, ap, arith}
-use Rattle.std.specs.List.Sorted.{IsNonDecreasingBy, IsPartitionPoint}
+use Rattle.std.proofs.Common.{◌≡◌, ℕ, zero, suc, ◌<◌, ◌≤◌, ◌^◌, true, false, List, [], ◌∷◌, length, get_or, Option, Some, None, IsSome, IsSomeAnd, eqb, inl, inr, refl, ap, arith}
 use Rattle.std.proofs.lemmas.Bool.{false≢true, cases_eq, eq-eqb, ne_eqb, lt-ltb, le-ltb}
 use Rattle.slot_core.specs.declared.jobs.Span.{Span}
 use Rattle.spare_capacity.specs.PlanSpans.{AreProper}
@@ -45,25 +44,6 @@ pub end-le-last_end : (start : ℕ) (rows : List Span) (k : ℕ) → FollowOn st
 end-le-last_end start [] k h l = elim l [ ]
 end-le-last_end start (s ∷ ss) zero h l = (omega (arith, h.1, last_end-ge s.end ss h.4), last_end-ge s.end ss h.4)
 end-le-last_end start (s ∷ ss) (suc k) h l = end-le-last_end s.end ss k h.4 (omega arith)
-
--- the ends rise
-pub IsNonDecreasingBy-end : (start : ℕ) (rows : List Span) → FollowOn start rows → IsNonDecreasingBy (λ (s : Span). s.end) rows
-IsNonDecreasingBy-end start [] h i j d l within = elim within [ ]
-IsNonDecreasingBy-end start (s ∷ ss) h zero zero d l within = omega arith
-IsNonDecreasingBy-end start (s ∷ ss) h zero (suc j) d l within = end-le s.end ss j d h.4 (omega arith)
-IsNonDecreasingBy-end start (s ∷ ss) h (suc i) zero d l within = absurd (omega arith)
-IsNonDecreasingBy-end start (s ∷ ss) h (suc i) (suc j) d l within = IsNonDecreasingBy-end s.end ss h.4 i j d (omega arith) (omega arith)
-
--- where the rows before i end before x and the others do not, i is the place
-pub place_of-IsPartitionPoint : (x : ℕ) (rows : List Span) (i : ℕ) → i ≤ length rows → IsPartitionPoint (λ (s : Span). ltb s.end x ≡ true) (λ (s : Span). ltb s.end x ≡ false) rows i → i ≡ place_of x rows
-place_of-IsPartitionPoint x [] i l h = omega arith
-place_of-IsPartitionPoint x (s ∷ ss) zero l h =
-    let late : ltb s.end x ≡ false = h.1 zero s (omega arith) (omega arith) in
-    rw late refl
-place_of-IsPartitionPoint x (s ∷ ss) (suc i) l h =
-    let early : ltb s.end x ≡ true = h.0 zero s (omega arith) (omega arith) in
-    let rest : i ≡ place_of x ss = place_of-IsPartitionPoint x ss i (omega arith) (λ k d low high. h.0 (suc k) d (omega arith) (omega arith), λ k d low high. h.1 (suc k) d (omega arith) (omega arith)) in
-    rw early (ap suc rest)
 
 -- the row that ends at a deadline: where it stands, what holds of it, and how its work changes
 pub record IsDueAt (deadline : ℕ) (P : Span → Type 0) (rows : List Span) (place : ℕ) : Type 0 where

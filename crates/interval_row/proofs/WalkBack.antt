@@ -1,21 +1,27 @@
 -- The capacities of rows whose spans are set one by one.
-use Rattle.std.proofs.Common.{◌≡◌, ℕ, zero, suc, ◌+◌, ◌-◌, ◌*◌, ◌<◌, ◌≤◌, ◌^◌, ℤ, pos, neg_ℤ, ◌+ℤ◌, ◌-ℤ◌, ◌≤ℤ◌, List, [], ◌∷◌, ◌++◌, length, get_or, set, insert, take, drop, add-one, ltb, cond, inl, inr, refl, sym, ◌∙◌, ap, subst, arith}
-use Rattle.std.specs.Int.{int_min}
-use Rattle.std.proofs.lemmas.Bool.{lt-ltb, le-ltb, eq-eqb, ne_eqb, cases_lt}
+use Rattle.std.proofs.Common.{◌≡◌, ℕ, zero, suc, ◌+◌, ◌-◌, ◌*◌, ◌<◌, ◌≤◌, ◌^◌, ℤ, pos, neg_ℤ, ◌+ℤ◌, ◌-ℤ◌, ◌≤ℤ◌, List, [], ◌∷◌, ◌++◌, length, get_or, set, insert, take, take-suc, drop, add-one, ltb, cond, inl, inr, refl, sym, ◌∙◌, ap, arith, FitsSigned, w64}
+use Rattle.std.proofs.lemmas.Bool.{lt-ltb, le-ltb, ne_eqb, cases_lt}
 use Rattle.std.proofs.lemmas.Int.{ints, clamps}
-use Rattle.std.proofs.lemmas.List.{set-get_or}
+use Rattle.std.proofs.lemmas.List.{append_assoc, drop-set, drop_more, set_split, take-append-drop, take-set}
 use Rattle.std.proofs.lemmas.List.Sums.{sum_by-cons}
 use Rattle.slot_core.specs.declared.jobs.Span.{Span}
-use Rattle.spare_capacity.specs.Recurrence.{filled, first_spare, with_spare, AreConsecutive, FollowOn}
+use Rattle.spare_capacity.specs.Recurrence.{filled, first_spare, with_spare, FollowOn}
 use Rattle.spare_capacity.specs.PlanSpans.{AreProper}
-use Rattle.spare_capacity.specs.Refill.{IsShort, IsStaleAt, CanRefill}
+use Rattle.spare_capacity.specs.Lending.{moved, raised, repaid}
+use Rattle.spare_capacity.specs.Refill.{IsShort}
+use Rattle.spare_capacity.proofs.Filled.{drop-filled}
 use Rattle.spare_capacity.proofs.Free.{rest-filled}
-use Rattle.spare_capacity.proofs.Stale.{filled-alike}
-use Rattle.spare_capacity.proofs.Steps.{no_row, filled_from, first_spare-low, set_with_spare, refilled_before, CanRefill-before, CanRefill-at}
+use Rattle.spare_capacity.proofs.Lending.{filled-moved, moved-append, moved-zero}
+use Rattle.spare_capacity.proofs.Steps.{no_row, first_spare-low}
 use Rattle.interval_row.specs.Changes.{after_pass, ends_before, part_before, part_from}
-use Rattle.interval_row.specs.Rows.{place_of, with_work_at, HoldsInside}
-use Rattle.interval_row.proofs.Cuts.{halved, IsMendedAt, IsMendedAt-halved}
-use Rattle.interval_row.proofs.Fillings.{filled-first, with_spare-LendsSame}
+use Rattle.interval_row.specs.Rows.{place_of, with_work_at, AreRows, HoldsInside}
+use Rattle.interval_row.specs.declared.spans.Change.{Change}
+use Rattle.interval_row.specs.declared.spans.Change.TheVariants.{More, Fewer}
+use Rattle.interval_row.specs.Works.{changed_by, spare_by, MayChangeBy}
+use Rattle.interval_row.proofs.Cuts.{halved, LendsSame-halved}
+use Rattle.interval_row.proofs.Fillings.{filled-first, length-filled, with_spare-LendsSame, LendsSame}
+use Rattle.interval_row.proofs.Kept.{AreBare-with_work_at, AreRows-AreBare}
+use Rattle.interval_row.proofs.Works.{length-with_work_at, set-with_work_at}
 
 -- the walk from the front stays before the place that it looks for
 pub place_of-next : (x : ℕ) (rows : List Span) (k : ℕ) → k ≤ place_of x rows → k < length rows → (get_or rows k no_row).end < x → k + 1 ≤ place_of x rows
@@ -91,11 +97,6 @@ pub IsProper-first : (rows : List Span) → AreProper rows → 1 ≤ length rows
 IsProper-first [] h some = absurd (omega arith)
 IsProper-first (s ∷ ss) h some = h.0
 
--- the first row goes where it had one slot
-pub passed-ended : (rows : List Span) → rows ≡ filled rows → 1 ≤ length rows → (get_or rows 0 no_row).start + 1 ≡ (get_or rows 0 no_row).end → drop 1 rows ≡ filled (after_pass rows)
-passed-ended [] e some ends = refl
-passed-ended (s ∷ ss) e some ends = rw (eq-eqb (s.start + 1) s.end ends) (rest-filled s ss e)
-
 passed-spare : (s : Span) (m : ℤ) → s ≡ with_spare s m → s.start < s.end → s.spare -ℤ pos 1 ≡ (with_spare (record s { start = s.start + 1 }) m).spare
 passed-spare s m e low =
     let own : s.spare ≡ (with_spare s m).spare = ap (λ (x : Span). x.spare) e in
@@ -111,13 +112,11 @@ passed-on (s ∷ ss) new e some low more put =
     let made : new ≡ with_spare (record s { start = s.start + 1 }) (first_spare (filled ss)) = put ∙ ap (λ z. record s { start = s.start + 1; spare = z }) spare in
     rw (ne_eqb (s.start + 1) s.end more) (ap (λ x. x ∷ ss) made ∙ ap (λ xs. with_spare (record s { start = s.start + 1 }) (first_spare (filled ss)) ∷ xs) rest)
 
-more_spare : (s : Span) (m : ℤ) (slots : ℕ) → s ≡ with_spare s m → s.spare -ℤ pos slots ≡ (with_spare (record s { work = s.work + slots }) m).spare
-more_spare s m slots e =
+changed_spare : (s : Span) (m : ℤ) (change : Change) → s ≡ with_spare s m → MayChangeBy change s.work → spare_by change s.spare ≡ (with_spare (record s { work = changed_by change s.work }) m).spare
+changed_spare s m (More slots) e may =
     let own : s.spare ≡ (with_spare s m).spare = ap (λ (x : Span). x.spare) e in
     omega (arith, ints, clamps, own)
-
-less_spare : (s : Span) (m : ℤ) (slots : ℕ) → s ≡ with_spare s m → slots ≤ s.work → s.spare +ℤ pos slots ≡ (with_spare (record s { work = s.work - slots }) m).spare
-less_spare s m slots e few =
+changed_spare s m (Fewer slots) e may =
     let own : s.spare ≡ (with_spare s m).spare = ap (λ (x : Span). x.spare) e in
     omega (arith, ints, clamps, own)
 
@@ -130,74 +129,65 @@ own_spare (s ∷ ss) (suc k) e l = own_spare ss k (rest-filled s ss e) (omega ar
 own_spare_after : (rows : List Span) (k : ℕ) → rows ≡ filled rows → k < length rows → get_or rows k no_row ≡ with_spare (get_or rows k no_row) (first_spare (drop (k + 1) rows))
 own_spare_after rows k e l = rw add-one (own_spare rows k e l)
 
--- more work is less to spare, and less work more
-pub with_spare-more : (rows : List Span) (k slots : ℕ) (row : Span) → rows ≡ filled rows → k < length rows → row ≡ get_or rows k no_row → record row { work = row.work + slots; spare = row.spare -ℤ pos slots } ≡ with_spare (record row { work = row.work + slots }) (first_spare (drop (k + 1) rows))
-with_spare-more rows k slots row e l is =
+-- what is more work is less to spare
+pub with_spare-changed : (rows : List Span) (k : ℕ) (change : Change) (row : Span) → rows ≡ filled rows → k < length rows → row ≡ get_or rows k no_row → MayChangeBy change row.work → record row { work = changed_by change row.work; spare = spare_by change row.spare } ≡ with_spare (record row { work = changed_by change row.work }) (first_spare (drop (k + 1) rows))
+with_spare-changed rows k change row e l is may =
     let own : row ≡ with_spare row (first_spare (drop (k + 1) rows)) = rw is (own_spare_after rows k e l) in
-    ap (λ z. record row { work = row.work + slots; spare = z }) (more_spare row (first_spare (drop (k + 1) rows)) slots own)
+    ap (λ z. record row { work = changed_by change row.work; spare = z }) (changed_spare row (first_spare (drop (k + 1) rows)) change own may)
 
-pub with_spare-less : (rows : List Span) (k slots : ℕ) (row : Span) → rows ≡ filled rows → k < length rows → row ≡ get_or rows k no_row → slots ≤ row.work → record row { work = row.work - slots; spare = row.spare +ℤ pos slots } ≡ with_spare (record row { work = row.work - slots }) (first_spare (drop (k + 1) rows))
-with_spare-less rows k slots row e l is few =
-    let own : row ≡ with_spare row (first_spare (drop (k + 1) rows)) = rw is (own_spare_after rows k e l) in
-    ap (λ z. record row { work = row.work - slots; spare = z }) (less_spare row (first_spare (drop (k + 1) rows)) slots own few)
+-- the rows, where those before a place follow what the last of them is repaid
+abbrev pub walked : ℤ → ℕ → List Span → List Span
+walked more k rows = moved more (take k rows) ++ drop k rows
 
--- the row with the new work is set: it and the rows after it have their capacities
-set-first : (rows : List Span) (k work : ℕ) (row : Span) → k < length rows → rows ≡ filled rows → row ≡ with_spare (record (get_or rows k no_row) { work = work }) (first_spare (drop (suc k) rows)) → set rows k row ≡ filled_from k (with_work_at k work rows)
-set-first [] k work row l e put = elim l [ ]
-set-first (s ∷ ss) zero work row l e put =
-    let rest = rest-filled s ss e in
-    ap (λ x. x ∷ ss) put ∙ ap (λ xs. with_spare (record s { work = work }) (first_spare xs) ∷ xs) rest
-set-first (s ∷ ss) (suc k) work row l e put = ap (λ xs. s ∷ xs) (set-first ss k work row (omega arith) (rest-filled s ss e) put)
-
-pub walk-first : (rows : List Span) (k work : ℕ) (row : Span) → k < length rows → rows ≡ filled rows → row ≡ with_spare (record (get_or rows k no_row) { work = work }) (first_spare (drop (k + 1) rows)) → set rows k row ≡ filled_from k (with_work_at k work rows)
-walk-first rows k work row l e put =
+-- a row is put in the place of one, with another work and its capacity: the rows before it follow
+pub walked-put : (rows : List Span) (k : ℕ) (was row : Span) → AreRows rows → k < length rows → was ≡ get_or rows k no_row → row ≡ with_spare (record was { work = row.work }) (first_spare (drop (k + 1) rows)) → walked (repaid was.spare row.spare) k (set rows k row) ≡ filled (with_work_at k row.work rows)
+walked-put rows k was row h l is put =
+    let rest = drop (k + 1) rows in
+    let worked = record (get_or rows k no_row) { work = row.work } in
     let one : k + 1 ≡ suc k = omega arith in
-    set-first rows k work row l e (put ∙ ap (λ n. with_spare (record (get_or rows k no_row) { work = work }) (first_spare (drop n rows))) one)
+    let later : filled rest ≡ rest = sym (drop-filled (k + 1) rows) ∙ ap (drop (k + 1)) (sym h.filled) in
+    let made : row ≡ with_spare worked (first_spare rest) = rw is at put in
+    let whole : take k rows ++ drop k rows ≡ filled (take k rows ++ drop k rows) = rw take-append-drop h.filled in
+    let first : first_spare (drop k rows) ≡ was.spare = ap first_spare (drop_more rows k no_row l) ∙ ap (λ (s : Span). s.spare) (sym is) in
+    let split : set rows k worked ≡ take k rows ++ worked ∷ rest = rw one (set_split rows k worked l) in
+    cc (filled-moved (take k rows) (drop k rows) (worked ∷ rest) whole, set-with_work_at k row.work rows l, take-set rows k row, drop-set rows k row l)
 
--- the capacity of the row at a place is the first of those from there on
-pub first_spare-drop : (rows : List Span) (k : ℕ) → first_spare (drop k rows) ≡ (get_or rows k no_row).spare
-first_spare-drop [] zero = refl
-first_spare-drop [] (suc k) = refl
-first_spare-drop (s ∷ ss) zero = refl
-first_spare-drop (s ∷ ss) (suc k) = first_spare-drop ss k
-
--- the row before those that have their capacities, with its own by them
-pub walk-set : (rows now : List Span) (k : ℕ) (was after next : Span) → 0 < k → k ≤ length rows → k < length now → now ≡ filled_from k rows → was ≡ get_or now (k - 1) no_row → after ≡ get_or now k no_row → next ≡ with_spare was after.spare → set now (k - 1) next ≡ filled_from (k - 1) rows
-walk-set rows now zero was after next some high l e before behind put = elim some [ ]
-walk-set rows now (suc k) was after next some high l e before behind put =
-    let n : suc k - 1 ≡ k = omega arith in
+-- the row before the place is raised, and the rows before that one follow
+pub walked-next : (rows : List Span) (k : ℕ) (more : ℤ) → k < length rows → walked (repaid (get_or rows k no_row).spare ((get_or rows k no_row).spare +ℤ more)) k (set rows k (raised more (get_or rows k no_row))) ≡ walked more (suc k) rows
+walked-next rows k more l =
+    let s = get_or rows k no_row in
     let one : k + 1 ≡ suc k = omega arith in
-    let here : was ≡ get_or now k no_row = before ∙ ap (λ m. get_or now m no_row) n in
-    let spare : after.spare ≡ first_spare (drop (k + 1) now) = ap (λ (x : Span). x.spare) behind ∙ sym (first_spare-drop now (suc k)) ∙ ap (λ m. first_spare (drop m now)) (sym one) in
-    let made : next ≡ with_spare (get_or now k no_row) (first_spare (drop (k + 1) now)) = put ∙ ap (λ x. with_spare x after.spare) here ∙ ap (with_spare (get_or now k no_row)) spare in
-    let written : set now k next ≡ set now k (with_spare (get_or now k no_row) (first_spare (drop (k + 1) now))) = ap (set now k) made in
-    let refill : take (suc k - 1) now ++ _ ≡ filled_from (suc k - 1) rows = refilled_before rows now (suc k) some high e in
-    rw n (written ∙ set_with_spare now k (omega arith) ∙ (rw n at refill))
+    let apart = append_assoc (moved (repaid s.spare (s.spare +ℤ more)) (take k rows)) (raised more s ∷ []) (drop (suc k) rows) in
+    cc (moved-append more (take k rows) (s ∷ []), take-suc rows k no_row l, take-set rows k (raised more s), drop-set rows k (raised more s) l)
 
--- where that changes nothing, all rows have their capacities
-pub walk-stop : (rows now : List Span) (at k : ℕ) (was after next : Span) → 0 < k → k ≤ at → at < length rows → k < length now → IsStaleAt at rows → now ≡ filled_from k rows → was ≡ get_or now (k - 1) no_row → after ≡ get_or now k no_row → next ≡ with_spare was after.spare → was.spare ≡ next.spare → now ≡ filled rows
-walk-stop rows now at k was after next some low within l stale e before behind put alike =
-    let same : next ≡ was = put ∙ ap (λ z. record was { spare = z }) (sym (ap (λ (x : Span). x.spare) put) ∙ sym alike) in
-    let kept : set now (k - 1) next ≡ now = ap (set now (k - 1)) (same ∙ before) ∙ set-get_or now (k - 1) no_row in
-    let set_is : now ≡ filled_from (k - 1) rows = sym kept ∙ walk-set rows now k was after next some (omega arith) l e before behind put in
-    let both : int_min (pos 0) (get_or now (k - 1) no_row).spare ≡ int_min (pos 0) (get_or (filled_from (k - 1) rows) (k - 1) no_row).spare = ap (λ xs. int_min (pos 0) (get_or xs (k - 1) no_row).spare) set_is in
-    set_is ∙ filled-alike rows now (filled_from (k - 1) rows) at k some (omega arith) within stale e refl both
+-- nothing is repaid
+pub walked-end : (rows : List Span) (k : ℕ) → walked (pos 0) k rows ≡ rows
+walked-end rows k = ap (λ xs. xs ++ drop k rows) (moved-zero (take k rows)) ∙ take-append-drop k rows
 
--- what the refill of that row asks
-pub record CanRefillAt (was after : Span) : Type 0 where
-  pub short : IsShort was
-  pub borrows_few : neg_ℤ (pos (2 ^ 60)) ≤ℤ after.spare
+length-walked : (more : ℤ) (k : ℕ) (rows : List Span) → length (walked more k rows) ≡ length rows
+length-walked more zero rows = refl
+length-walked more (suc k) [] = refl
+length-walked more (suc k) (s ∷ ss) = ap suc (length-walked more k ss)
 
-pub walk-can : (rows now : List Span) (k : ℕ) (was after : Span) → 0 < k → k ≤ length rows → length rows ≤ 2 ^ 20 → AreConsecutive rows → k < length now → now ≡ filled_from k rows → was ≡ get_or now (k - 1) no_row → after ≡ get_or now k no_row → CanRefillAt was after
-walk-can rows now zero was after some high few h l e before behind = elim some [ ]
-walk-can rows now (suc k) was after some high few h l e before behind =
-    let n : suc k - 1 ≡ k = omega arith in
-    let one : k + 1 ≡ suc k = omega arith in
-    let can : CanRefill (drop k now) = rw n at (CanRefill-before rows now (suc k) some high few h e) in
-    let both = CanRefill-at now k (omega arith) can in
-    let here : was ≡ get_or now k no_row = before ∙ ap (λ m. get_or now m no_row) n in
-    let spare : first_spare (drop (k + 1) now) ≡ after.spare = ap (λ m. first_spare (drop m now)) one ∙ first_spare-drop now (suc k) ∙ sym (ap (λ (x : Span). x.spare) behind) in
-    record { short = subst IsShort (sym here) both.0; borrows_few = subst (λ z. neg_ℤ (pos (2 ^ 60)) ≤ℤ z) spare both.1 }
+walked-last : (more : ℤ) (k : ℕ) (rows : List Span) → k < length rows → get_or (walked more (suc k) rows) k no_row ≡ raised more (get_or rows k no_row)
+walked-last more k [] l = elim l [ ]
+walked-last more zero (s ∷ ss) l = refl
+walked-last more (suc k) (s ∷ ss) l = walked-last more k ss (omega arith)
+
+-- the row at a place can be raised
+pub record CanRaise (now : List Span) (k : ℕ) (more : ℤ) : Type 0 where
+  pub within : k < length now
+  pub fits : FitsSigned w64 ((get_or now k no_row).spare +ℤ more)
+
+-- where the walk is to pass it, since it becomes one of rows
+pub CanRaise-walked : (rows now : List Span) (place work k : ℕ) (more : ℤ) → AreRows rows → work ≤ 2 ^ 40 → k < length rows → walked more (suc k) now ≡ filled (with_work_at place work rows) → CanRaise now k more
+CanRaise-walked rows now place work k more h few l e =
+    let are = AreRows-AreBare (with_work_at place work rows) (AreBare-with_work_at place work rows few h) in
+    let high : k < length (filled (with_work_at place work rows)) = omega (arith, l, length-filled (with_work_at place work rows), length-with_work_at place work rows) in
+    let within : k < length now = omega (arith, ap length e, length-walked more (suc k) now) in
+    let near = IsWithin-spare _ _ k are.consecutive are.filled are.few high in
+    let made = ap (λ xs. (get_or xs k no_row).spare) (sym e) ∙ ap (λ (s : Span). s.spare) (walked-last more k now within) in
+    record { within = within; fits = omega (arith, ints, near.low, near.high, made) }
 
 second_spare : (s : Span) (m : ℤ) (x : ℕ) → s ≡ with_spare s m → s.start < x → x < s.end → s.spare -ℤ pos (x - s.start) ≡ (with_spare (part_from x s) m).spare
 second_spare s m x e low high =
@@ -214,6 +204,6 @@ halves-filled x zero (s ∷ ss) first second e inside b a =
     let earlier : first ≡ with_spare (part_before x s) (with_spare (part_from x s) (first_spare (filled ss))).spare = a ∙ ap (λ (y : Span). with_spare (part_before x s) y.spare) later in
     ap (λ y. y ∷ second ∷ ss) earlier ∙ ap (λ y. with_spare (part_before x s) (with_spare (part_from x s) (first_spare (filled ss))).spare ∷ y ∷ ss) later ∙ ap (λ ys. with_spare (part_before x s) (with_spare (part_from x s) (first_spare (filled ss))).spare ∷ with_spare (part_from x s) (first_spare (filled ss)) ∷ ys) rest
 halves-filled x (suc k) (s ∷ ss) first second e inside b a =
-    let mended : IsMendedAt k x ss = IsMendedAt-halved k x ss (rest-filled s ss e) inside in
-    let same : with_spare s (first_spare (filled (halved k x ss))) ≡ s = with_spare-LendsSame s (first_spare (filled (halved k x ss))) (first_spare ss) mended.lends ∙ sym (filled-first s ss e) in
+    let lends : LendsSame (first_spare (filled (halved k x ss))) (first_spare ss) = LendsSame-halved k x ss (rest-filled s ss e) inside in
+    let same : with_spare s (first_spare (filled (halved k x ss))) ≡ s = with_spare-LendsSame s (first_spare (filled (halved k x ss))) (first_spare ss) lends ∙ sym (filled-first s ss e) in
     ap (λ xs. s ∷ xs) (halves-filled x k ss first second (rest-filled s ss e) inside b a) ∙ ap (λ y. y ∷ filled (halved k x ss)) (sym same)

@@ -1,12 +1,13 @@
--- A new work of one row: only that row may then be wrong.
+-- A new work of one row.
 use Rattle.std.proofs.Common.{◌≡◌, ℕ, zero, suc, ◌<◌, ◌≤◌, ◌^◌, List, [], ◌∷◌, length, get_or, set, refl, ap, arith}
 use Rattle.slot_core.specs.declared.jobs.Span.{Span}
-use Rattle.spare_capacity.specs.Recurrence.{filled, FollowOn, first_start}
-use Rattle.spare_capacity.proofs.Stale.{IsStaleAt-filled, IsStaleAt-set}
+use Rattle.spare_capacity.specs.Recurrence.{FollowOn, first_start}
 use Rattle.spare_capacity.proofs.Steps.{no_row}
-use Rattle.spare_capacity.specs.Refill.{IsStaleAt}
 use Rattle.spare_capacity.specs.PlanSpans.{AreProper}
 use Rattle.interval_row.specs.Rows.{with_work_at}
+use Rattle.interval_row.specs.declared.spans.Change.{Change}
+use Rattle.interval_row.specs.declared.spans.Change.TheVariants.{More, Fewer}
+use Rattle.interval_row.specs.Works.{changed_by, MayChangeBy}
 
 -- to write the row with the work
 pub set-with_work_at : (place work : ℕ) (rows : List Span) → place < length rows → set rows place (record (get_or rows place no_row) { work = work }) ≡ with_work_at place work rows
@@ -34,6 +35,7 @@ AreProper-with_work_at place work [] h = h
 AreProper-with_work_at zero work (s ∷ ss) h = h
 AreProper-with_work_at (suc place) work (s ∷ ss) h = (h.0, AreProper-with_work_at place work ss h.1)
 
-pub IsStaleAt-with_work_at : (place work : ℕ) (rows : List Span) → place < length rows → rows ≡ filled rows → IsStaleAt place (with_work_at place work rows)
-IsStaleAt-with_work_at place work rows l e =
-    rw (← set-with_work_at place work rows l) (IsStaleAt-set rows place (record (get_or rows place no_row) { work = work }) (IsStaleAt-filled rows place e) refl)
+-- a work that may change so stays at most 2 ^ 40
+pub changed_by-le : (change : Change) (work : ℕ) → work ≤ 2 ^ 40 → MayChangeBy change work → changed_by change work ≤ 2 ^ 40
+changed_by-le (More slots) work few may = may
+changed_by-le (Fewer slots) work few may = omega arith

@@ -1,6 +1,6 @@
-pub mod ChainTables
 pub mod Changes
 pub mod Examples
-pub mod RowTables
 pub mod Rows
+pub mod Stores
 pub mod Tables
+pub mod Works

@@ -3,17 +3,19 @@
 //! A table holds the consecutive spans from the time on. Each call changes the spans by one small
 //! function of `specs/Changes.antt`, and the capacities are those of the recurrence of slot
 //! shifting afterwards. Nothing here knows of jobs.
+//!
+//! There is one table, over any store of spans: the chain of `node_chain`, or a plain list.
 #![tactic(auto)]
 
-pub mod chain_table;
-mod live;
-mod nodes;
-pub mod row_table;
-mod rows;
-mod spares;
+mod changes;
+pub mod rows;
+pub mod span_table;
+mod spans;
+pub mod store;
 pub mod table;
 mod walk;
 
-pub use chain_table::ChainTable;
-pub use row_table::RowTable;
+pub use rows::Rows;
+pub use span_table::{ChainTable, RowTable, Table};
+pub use store::Store;
 pub use table::{SpareTable, Spot};

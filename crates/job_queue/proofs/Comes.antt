@@ -11,7 +11,8 @@ use Rattle.std.proofs.lemmas.List.Edits.{length-insert, length-remove, get_or-in
 use Rattle.slot_core.specs.declared.jobs.Job.{Job}
 use Rattle.slot_core.specs.Offline.Keys.{deadline_order, is_earlier}
 use Rattle.slot_core.specs.Runs.Choice.{earlier_of, ready}
-use Rattle.slot_facts.proofs.Choice.Earliest.{IsNotAfter, IsNotAfter-from_earlier, IsNotAfter-from_not_earlier, job_cmp, job_cmp_total}
+use Rattle.slot_facts.proofs.Choice.Earliest.{IsNotAfter, IsNotAfter-from_not_earlier, job_cmp, job_cmp_total}
+use Rattle.slot_facts.proofs.Plans.InOrder.{is_earlier-one_way}
 use Rattle.job_queue.specs.Queues.{IsEarliestLast, after_run_at}
 use Rattle.job_queue.proofs.Edits.{kept-after_run_at, length-after_run_at}
 use Rattle.job_queue.proofs.ReadyJobs.{ready-first_now}
@@ -25,11 +26,6 @@ not_lt-from_not_gt Greater e = cc
 not_earlier-from_not_after : (a b : Job) → IsNotAfter a b → is_earlier b a ≡ false
 not_earlier-from_not_after a b e =
     ap is_lt (job_cmp_total.antisymm b a) ∙ not_lt-from_not_gt (job_cmp a b) e
-
--- of two jobs one does not go before the other
-pub not_earlier-from_earlier : (a b : Job) → is_earlier a b ≡ true → is_earlier b a ≡ false
-not_earlier-from_earlier a b e =
-    not_earlier-from_not_after a b (IsNotAfter-from_earlier a b e)
 
 -- not going before is a chain
 pub not_earlier-trans : (a b c : Job) → is_earlier a b ≡ false → is_earlier b c ≡ false → is_earlier a c ≡ false
@@ -58,7 +54,7 @@ IsEarliestLast-insert jobs p job inside ordered behind before i k d first below 
                 rw (get_or-insert_past jobs p i job d i_above inside, get_or-insert_past jobs p k job d k_above inside) (ordered (i - 1) (k - 1) d (omega arith) (omega arith))
             | inr i_to ↦
                 let same : i ≡ p = omega arith in
-                rw (same, get_or-insert_at jobs p job d inside, get_or-insert_past jobs p k job d k_above inside) (not_earlier-from_earlier (get_or jobs (k - 1) d) job (behind (k - 1) d (omega arith) (omega arith)))
+                rw (same, get_or-insert_at jobs p job d inside, get_or-insert_past jobs p k job d k_above inside) (is_earlier-one_way (get_or jobs (k - 1) d) job (behind (k - 1) d (omega arith) (omega arith)))
           ]
         ]
         | inr k_to ↦

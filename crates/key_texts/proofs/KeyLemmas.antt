@@ -54,7 +54,7 @@ pub sporadic_name-at : (set : TaskSet) (i : ℕ) (s : Sporadic) → slice_get se
 sporadic_name-at set i s at = ap (λ o. option_map_or (λ (x : Sporadic). x.name) o []) at
 
 -- the text of an offline key around its two separators
-offline_text : (graph task digits : List ℕ) → graph ++ codes "." ++ task ++ codes "#" ++ digits ≡ (graph ++ 46 ∷ task) ++ 35 ∷ digits
+pub offline_text : (graph task digits : List ℕ) → graph ++ codes "." ++ task ++ codes "#" ++ digits ≡ (graph ++ 46 ∷ task) ++ 35 ∷ digits
 offline_text graph task digits = simp append_assoc
 
 -- a text that is read as an offline key is the text of that key

@@ -90,10 +90,11 @@ fn read_line<R: Read>(reader: &mut R, line: &mut ArrayVec<u8, LINE_LIMIT>) -> Re
     Err(Failed)
 }
 
-/// The next byte, or None at the end. As the standard library's own loops do, it tries again where a
-/// signal interrupts the read.
+/// The next byte, or None at the end. As the standard library's own loops do, it tries again where
+/// a signal interrupts the read.
 fn next_byte<R: Read>(reader: &mut R) -> Result<Option<u8>, Failed>
-    ensures { IfOk result (λ byte. GivesByte (R.remaining reader.old) byte (R.remaining reader.new)) }
+    ensures { IfOk result
+        (λ byte. GivesByte (R.remaining reader.old) byte (R.remaining reader.new)) }
 {
     let mut one = [0; 1];
     for _turn in 0..u64::MAX {

@@ -14,11 +14,11 @@ use Rattle.line_source.specs.Lines.{Heard}
 use Rattle.live_lines.specs.declared.commands.LiveCommand.TheVariants.{Arrive, Pass, End}
 use Rattle.live_lines.specs.Commands.{Asked}
 use Rattle.live_lines.specs.Rows.{record_row, record_text}
-use Rattle.live_dialogue.specs.Dialogues.{Exchange, command_heard, asked, next_history, exchanges_from, exchanges, history_heard, answer_text, fault_text, arrival_made, arrivals_made, answers_text, faults_text, rows_text, start_text, is_end, asks_end, GoesOn, IsOver, BreaksOff}
+use Rattle.live_dialogue.specs.Dialogues.{Exchange, command_heard, asked, next_history, exchanges_from, exchanges, history_heard, answer_text, fault_text, arrival_made, arrivals_made, answers_text, faults_text, rows_text, start_text, is_end, asks_end, GoesOn, IsOver}
 use Rattle.live_dialogue.specs.declared.streams.DialogueFault.{DialogueFault}
 use Rattle.live_dialogue.specs.declared.streams.DialogueFault.TheVariants.{Input, Record as RecordFault, Output}
-use Rattle.live_dialogue.specs.Streams.{Texts, Seen, exchange_texts, dialogue_texts, IsCounted, IsPut, IsPutInPart, IsPutFault, IsCut, IsBroken}
-use Rattle.live_dialogue.proofs.StreamLemmas.{joined, IsPut-trans, IsPutInPart-on, Rose-after}
+use Rattle.live_dialogue.specs.Streams.{Texts, Seen, exchange_texts, dialogue_texts, last_texts, ArePut, ArePutInPart, IsBroken, IsCutAtStart, IsCutInAnswer}
+use Rattle.live_dialogue.proofs.StreamLemmas.{joined, ArePut-trans}
 
 -- the history after some and then others
 pub history_heard-append : (set : TaskSet) (cycle : ℕ) (h : History) (first later : List Heard) → history_heard set cycle h (first ++ later) ≡ history_heard set cycle (history_heard set cycle h first) later
@@ -115,11 +115,6 @@ pub IsOver-now : (set : TaskSet) (first : List Heard) (heard : Heard) → GoesOn
 IsOver-now set first heard goes_on ends =
     record { first = first; last = heard; all = refl; goes_on = goes_on; ends = ends }
 
--- and breaks off where its answer fails
-pub BreaksOff-now : (set : TaskSet) (first : List Heard) (heard : Heard) → GoesOn set first → BreaksOff set (first ++ heard ∷ [])
-BreaksOff-now set first heard goes_on =
-    record { first = first; last = heard ∷ []; all = refl; one = omega arith; goes_on = goes_on }
-
 -- the text of the arrival in the row after the last
 pub arrival-text : (set : TaskSet) (cycle row : ℕ) (h : History) (event : Event) → row ≡ last_row h → trace_text set (entries set cycle h (arrive (row + 1) event ∷ [])) ≡ answer_text set cycle h (Ok (Arrive event))
 arrival-text set cycle row h event same =
@@ -138,18 +133,18 @@ row-text set other row time h event own same =
     ∙ sym (append-nil (record_row set (record { row = last_row h + 1; slot = time_of h; event = event })))
 
 -- a dialogue that goes on by one answer
-pub turn-put : (set : TaskSet) (cycle number : ℕ) (before between after : Seen) (heards : List Heard) (heard : Heard) (a : Asked) → number ≡ 1 + length heards → a ≡ asked set (history_heard set cycle started heards) heard → IsPut before between (dialogue_texts set cycle heards) → IsPut between after (exchange_texts set cycle number (history_heard set cycle started heards) a) → IsPut before after (dialogue_texts set cycle (heards ++ heard ∷ []))
+pub turn-put : (set : TaskSet) (cycle number : ℕ) (before between after : Seen) (heards : List Heard) (heard : Heard) (a : Asked) → number ≡ length heards + 1 → a ≡ asked set (history_heard set cycle started heards) heard → ArePut before between (dialogue_texts set cycle heards) → ArePut between after (exchange_texts set cycle number (history_heard set cycle started heards) a) → ArePut before after (dialogue_texts set cycle (heards ++ heard ∷ []))
 turn-put set cycle number before between after heards heard a counted is first later =
     let h = history_heard set cycle started heards in
-    let told = subst (λ (b : Asked). IsPut between after (exchange_texts set cycle number h b)) is later in
-    subst (IsPut before after) (texts-more set cycle number heards heard counted) (IsPut-trans before between after (dialogue_texts set cycle heards) (exchange_texts set cycle number h (asked set h heard)) first told)
+    let told = subst (λ (b : Asked). ArePut between after (exchange_texts set cycle number h b)) is later in
+    subst (ArePut before after) (texts-more set cycle number heards heard (omega (arith, counted))) (ArePut-trans before between after (dialogue_texts set cycle heards) (exchange_texts set cycle number h (asked set h heard)) first told)
 
--- or by a part of it
-pub turn-part : (set : TaskSet) (cycle number : ℕ) (before between after : Seen) (heards : List Heard) (heard : Heard) (a : Asked) → number ≡ 1 + length heards → a ≡ asked set (history_heard set cycle started heards) heard → IsPut before between (dialogue_texts set cycle heards) → IsPutInPart between after (exchange_texts set cycle number (history_heard set cycle started heards) a) → IsPutInPart before after (dialogue_texts set cycle (heards ++ heard ∷ []))
-turn-part set cycle number before between after heards heard a counted is first later =
+-- where a part of the answer is put, it is of the texts of the last that is heard
+pub turn-part : (set : TaskSet) (cycle number : ℕ) (fault : DialogueFault) (between after : Seen) (heards : List Heard) (heard : Heard) (a : Asked) → number ≡ length heards + 1 → a ≡ asked set (history_heard set cycle started heards) heard → ArePutInPart fault between after (exchange_texts set cycle number (history_heard set cycle started heards) a) → ArePutInPart fault between after (last_texts set cycle heards heard)
+turn-part set cycle number fault between after heards heard a counted is part =
     let h = history_heard set cycle started heards in
-    let told = subst (λ (b : Asked). IsPutInPart between after (exchange_texts set cycle number h b)) is later in
-    subst (IsPutInPart before after) (texts-more set cycle number heards heard counted) (IsPutInPart-on before between after (dialogue_texts set cycle heards) (exchange_texts set cycle number h (asked set h heard)) first told)
+    let own = subst (λ (b : Asked). ArePutInPart fault between after (exchange_texts set cycle number h b)) is part in
+    subst (λ n. ArePutInPart fault between after (exchange_texts set cycle n h (asked set h heard))) counted own
 
 -- the history after one line more
 pub turn-history : (set : TaskSet) (cycle : ℕ) (heards : List Heard) (heard : Heard) (a : Asked) → a ≡ asked set (history_heard set cycle started heards) heard → next_history set cycle (history_heard set cycle started heards) a ≡ history_heard set cycle started (heards ++ heard ∷ [])
@@ -157,10 +152,14 @@ turn-history set cycle heards heard a is =
     ap (next_history set cycle (history_heard set cycle started heards)) is
     ∙ sym (history_heard-append set cycle started heards (heard ∷ []))
 
--- a dialogue that is cut off by a put that failed is broken so
-pub IsBroken-cut : {S : Type 0} (Gave : S → S → List Heard → Type 0) (misread : S → ℕ) (set : TaskSet) (cycle : ℕ) (fault : DialogueFault) (from to : S) (before between after : Seen) → IsCut set cycle (Gave from to) before after → IsCounted before between → IsPutFault fault between after → IsBroken Gave misread set cycle fault from to before after
-IsBroken-cut Gave misread set cycle Input from to before between after cut counted failed = absurd failed
-IsBroken-cut Gave misread set cycle RecordFault from to before between after cut counted failed =
-    (cut, Rose-after before.rows_lost between.rows_lost after.rows_lost counted.rows failed)
-IsBroken-cut Gave misread set cycle Output from to before between after cut counted failed =
-    (cut, Rose-after before.answers_lost between.answers_lost after.answers_lost counted.answers failed)
+-- a dialogue that is cut off by a put that failed is broken so: in its first line
+pub IsBroken-at_start : {S : Type 0} (Gave : S → S → List Heard → Type 0) (misread : S → ℕ) (set : TaskSet) (cycle : ℕ) (fault : DialogueFault) (from to : S) (before after : Seen) → IsCutAtStart set cycle (Gave from to) fault before after → IsBroken Gave misread set cycle fault from to before after
+IsBroken-at_start Gave misread set cycle Input from to before after cut = absurd cut.part.breaks
+IsBroken-at_start Gave misread set cycle RecordFault from to before after cut = inl cut
+IsBroken-at_start Gave misread set cycle Output from to before after cut = inl cut
+
+-- or in an answer
+pub IsBroken-in_answer : {S : Type 0} (Gave : S → S → List Heard → Type 0) (misread : S → ℕ) (set : TaskSet) (cycle : ℕ) (fault : DialogueFault) (from to : S) (before after : Seen) → IsCutInAnswer set cycle (Gave from to) fault before after → IsBroken Gave misread set cycle fault from to before after
+IsBroken-in_answer Gave misread set cycle Input from to before after cut = absurd cut.part.breaks
+IsBroken-in_answer Gave misread set cycle RecordFault from to before after cut = inr cut
+IsBroken-in_answer Gave misread set cycle Output from to before after cut = inr cut

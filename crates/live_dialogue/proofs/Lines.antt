@@ -16,21 +16,13 @@ use Rattle.slot_core.specs.Runs.Traces.{Occurrence, slot, told_of, shown_entry, 
 use Rattle.slot_core.specs.Sets.Cycles.{cycle_of}
 use Rattle.slot_facts.proofs.Replays.Entries.{time_of-ran}
 use Rattle.slot_facts.proofs.Replays.Named.{told-named}
+use Rattle.arrival_replay.proofs.Happenings.{line-told}
 
--- what an executive does, it does at each history for which it stands: the line that is told is that
--- of the entry
-pub line-told : (before after : Executive) (next : Occurrence) (what : What) (time : ℕ) (h : History) → time ≡ before.scene.time → StandsFor before h → Does before after next what → entry_line after.plan.tasks (shown_entry after.plan.tasks after.plan.cycle time what (what ∷ h)) ≡ trace_text before.plan.tasks (entries before.plan.tasks before.plan.cycle h (next ∷ []))
-line-told before after next what time h now stands does =
-    let p = before.plan in
-    ap (λ (q : PlanParts). entry_line q.tasks (shown_entry q.tasks q.cycle time what (what ∷ h))) does.plan
-    ∙ ap (λ t. entry_line p.tasks (shown_entry p.tasks p.cycle t what (what ∷ h))) (now ∙ stands.same.time)
-    ∙ ap (λ w. entry_line p.tasks (shown_entry p.tasks p.cycle (time_of h) w (w ∷ h))) (does.told h stands)
-    ∙ sym (append-nil (entry_line p.tasks (shown_entry p.tasks p.cycle (time_of h) (told_of p.tasks p.cycle h next) (told_of p.tasks p.cycle h next ∷ h))))
-
--- and it stands for the history with what the definitions tell
-pub stands-told : (before after : Executive) (next : Occurrence) (what : What) (h : History) → StandsFor before h → Does before after next what → StandsFor after (told_of before.plan.tasks before.plan.cycle h next ∷ h)
-stands-told before after next what h stands does =
-    subst (λ w. StandsFor after (w ∷ h)) (does.told h stands) (does.stands h stands)
+-- the line that an executive tells is the text of the entry, at each history for which it stands
+pub text-told : (before after : Executive) (next : Occurrence) (what : What) (time : ℕ) (h : History) → time ≡ before.scene.time → StandsFor before h → Does before after next what → entry_line after.plan.tasks (shown_entry after.plan.tasks after.plan.cycle time what (what ∷ h)) ≡ trace_text before.plan.tasks (entries before.plan.tasks before.plan.cycle h (next ∷ []))
+text-told before after next what time h now stands does =
+    line-told before after next what time h now stands does
+    ∙ sym (append-nil (entry_line before.plan.tasks (shown_entry before.plan.tasks before.plan.cycle (time_of h) (told_of before.plan.tasks before.plan.cycle h next) (told_of before.plan.tasks before.plan.cycle h next ∷ h))))
 
 -- after a slot it is one slot later
 pub time-passed : (before after : Executive) (what : What) → Does before after slot what → after.scene.time ≡ before.scene.time + 1

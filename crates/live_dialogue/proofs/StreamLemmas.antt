@@ -1,11 +1,14 @@
 -- Texts that are put one after the other.
-use Rattle.std.proofs.Common.{ℕ, ◌≤◌, List, [], ◌++◌, Option, inl, inr, refl, sym, append-nil, arith}
+use Rattle.std.proofs.Common.{◌≡◌, ℕ, ◌≤◌, List, [], ◌++◌, Option, Ok, Err, inl, inr, refl, sym, subst, arith}
+use Rattle.std.specs.Prelude.{IfErr, OnErr, Result}
 use Rattle.std.proofs.KnownBytes.{Appends-nil, Appends-trans}
 use Rattle.std.specs.Io.KnownBytes.{Appends}
 use Rattle.slot_core.specs.Calls.Counts.{Rose}
 use Rattle.slot_io.specs.Sinks.{AppendsPart}
-use Rattle.slot_io.proofs.SinkParts.{AppendsPart-on, AppendsPart-none}
-use Rattle.live_dialogue.specs.Streams.{Texts, Seen, IsCounted, IsTold, IsPut, IsPutInPart}
+use Rattle.slot_io.proofs.Counts.{Rose-after, Rose-before}
+use Rattle.live_dialogue.specs.declared.streams.DialogueFault.{DialogueFault}
+use Rattle.live_dialogue.specs.declared.streams.DialogueFault.TheVariants.{Record, Output}
+use Rattle.live_dialogue.specs.Streams.{Texts, Seen, AreFaultsTold, ArePut, ArePutInPart, BreaksAt, BreaksInAnswer, BreaksInRow, IsCounted}
 
 -- texts, and then others
 abbrev pub joined : Texts → Texts → Texts
@@ -28,65 +31,74 @@ IsCounted-trans a b c first later =
       faults = omega (arith, first.faults, later.faults);
     }
 
--- a count that rose and does not fall then, rose
-pub Rose-before : (a b c : ℕ) → Rose a b → b ≤ c → Rose a c
-Rose-before a b c rose kept = omega (arith, rose, kept)
-
--- a count that does not fall and rises then, rose
-pub Rose-after : (a b c : ℕ) → a ≤ b → Rose b c → Rose a c
-Rose-after a b c kept rose = omega (arith, rose, kept)
-
 -- what is told one after the other is told
-IsTold-trans : (a b c : Seen) (first later : List ℕ) → IsTold a b first → IsTold b c later → a.faults_lost ≤ b.faults_lost → b.faults_lost ≤ c.faults_lost → IsTold a c (first ++ later)
-IsTold-trans a b c first later (inl x) (inl y) kept more = inl (Appends-trans a.faults b.faults c.faults first later x y)
-IsTold-trans a b c first later (inr x) other kept more = inr (Rose-before a.faults_lost b.faults_lost c.faults_lost x more)
-IsTold-trans a b c first later (inl x) (inr y) kept more = inr (Rose-after a.faults_lost b.faults_lost c.faults_lost kept y)
+AreFaultsTold-trans : (a b c : Seen) (first later : List ℕ) → AreFaultsTold a b first → AreFaultsTold b c later → a.faults_lost ≤ b.faults_lost → b.faults_lost ≤ c.faults_lost → AreFaultsTold a c (first ++ later)
+AreFaultsTold-trans a b c first later (inl x) (inl y) kept more = inl (Appends-trans a.faults b.faults c.faults first later x y)
+AreFaultsTold-trans a b c first later (inr x) other kept more = inr (Rose-before a.faults_lost b.faults_lost c.faults_lost x more)
+AreFaultsTold-trans a b c first later (inl x) (inr y) kept more = inr (Rose-after a.faults_lost b.faults_lost c.faults_lost kept y)
 
 -- texts that are put one after the other are put
-pub IsPut-trans : (a b c : Seen) (first later : Texts) → IsPut a b first → IsPut b c later → IsPut a c (joined first later)
-IsPut-trans a b c first later x y =
+pub ArePut-trans : (a b c : Seen) (first later : Texts) → ArePut a b first → ArePut b c later → ArePut a c (joined first later)
+ArePut-trans a b c first later x y =
     record {
       answers = Appends-trans a.answers b.answers c.answers first.answers later.answers x.answers y.answers;
       rows = Appends-trans a.rows b.rows c.rows first.rows later.rows x.rows y.rows;
-      faults = IsTold-trans a b c first.faults later.faults x.faults y.faults x.counted.faults y.counted.faults;
-      counted = IsCounted-trans a b c x.counted y.counted;
-    }
-
--- and where a part of the later ones is put, a part of all is
-pub IsPutInPart-on : (a b c : Seen) (first later : Texts) → IsPut a b first → IsPutInPart b c later → IsPutInPart a c (joined first later)
-IsPutInPart-on a b c first later x y =
-    record {
-      answers = AppendsPart-on a.answers b.answers c.answers first.answers later.answers (first.answers ++ later.answers) refl x.answers y.answers;
-      rows = AppendsPart-on a.rows b.rows c.rows first.rows later.rows (first.rows ++ later.rows) refl x.rows y.rows;
-      faults = IsTold-trans a b c first.faults later.faults x.faults y.faults x.counted.faults y.counted.faults;
+      faults = AreFaultsTold-trans a b c first.faults later.faults x.faults y.faults x.counted.faults y.counted.faults;
       counted = IsCounted-trans a b c x.counted y.counted;
     }
 
 -- an answer and a row are put, and no fault is told
-pub IsPut-row : (answers answers_after rows rows_after faults : Option (List ℕ)) (answers_lost answers_lost_after rows_lost rows_lost_after faults_lost : ℕ) (answer row : List ℕ)
-    → Appends answers answers_after answer → Appends rows rows_after row → answers_lost ≤ answers_lost_after → rows_lost ≤ rows_lost_after
-    → IsPut (record { answers = answers; answers_lost = answers_lost; rows = rows; rows_lost = rows_lost; faults = faults; faults_lost = faults_lost }) (record { answers = answers_after; answers_lost = answers_lost_after; rows = rows_after; rows_lost = rows_lost_after; faults = faults; faults_lost = faults_lost }) (record { answers = answer; rows = row; faults = [] })
-IsPut-row answers answers_after rows rows_after faults answers_lost answers_lost_after rows_lost rows_lost_after faults_lost answer row put kept counted more =
+pub ArePut-row : (before : Seen) (answers rows : Option (List ℕ)) (answers_lost rows_lost : ℕ) (answer row : List ℕ)
+    → Appends before.answers answers answer → Appends before.rows rows row → before.answers_lost ≤ answers_lost → before.rows_lost ≤ rows_lost
+    → ArePut before (record before { answers = answers; answers_lost = answers_lost; rows = rows; rows_lost = rows_lost }) (record { answers = answer; rows = row; faults = [] })
+ArePut-row before answers rows answers_lost rows_lost answer row told kept counted more =
     record {
-      answers = put;
+      answers = told;
       rows = kept;
-      faults = inl (Appends-nil faults);
+      faults = inl (Appends-nil before.faults);
       counted = record { answers = counted; rows = more; faults = omega arith };
     }
 
--- and a part of them is
-pub IsPutInPart-row : (answers answers_after rows rows_after faults : Option (List ℕ)) (answers_lost answers_lost_after rows_lost rows_lost_after faults_lost : ℕ) (answer row : List ℕ)
-    → AppendsPart answers answers_after answer → AppendsPart rows rows_after row → answers_lost ≤ answers_lost_after → rows_lost ≤ rows_lost_after
-    → IsPutInPart (record { answers = answers; answers_lost = answers_lost; rows = rows; rows_lost = rows_lost; faults = faults; faults_lost = faults_lost }) (record { answers = answers_after; answers_lost = answers_lost_after; rows = rows_after; rows_lost = rows_lost_after; faults = faults; faults_lost = faults_lost }) (record { answers = answer; rows = row; faults = [] })
-IsPutInPart-row answers answers_after rows rows_after faults answers_lost answers_lost_after rows_lost rows_lost_after faults_lost answer row put kept counted more =
+-- a put of the row fails, before any of the answer
+pub ArePutInPart-row : (fault : DialogueFault) (before : Seen) (rows : Option (List ℕ)) (rows_lost : ℕ) (answer row : List ℕ)
+    → fault ≡ Record → AppendsPart before.rows rows row → before.rows_lost ≤ rows_lost → Rose before.rows_lost rows_lost
+    → ArePutInPart fault before (record before { rows = rows; rows_lost = rows_lost }) (record { answers = answer; rows = row; faults = [] })
+ArePutInPart-row fault before rows rows_lost answer row is part counted failed =
+    let after : Seen = record before { rows = rows; rows_lost = rows_lost } in
+    let texts : Texts = record { answers = answer; rows = row; faults = [] } in
+    let breaks : BreaksInRow before after texts = record { rows = part; answers = refl; failed = failed } in
     record {
-      answers = put;
-      rows = kept;
-      faults = inl (Appends-nil faults);
+      breaks = subst (λ (f : DialogueFault). BreaksAt f before after texts) (sym is) breaks;
+      faults = inl (Appends-nil before.faults);
+      counted = record { answers = omega arith; rows = counted; faults = omega arith };
+    }
+
+-- or one of the answer, after the row
+pub ArePutInPart-answer : (fault : DialogueFault) (before : Seen) (answers rows : Option (List ℕ)) (answers_lost rows_lost : ℕ) (answer row : List ℕ)
+    → fault ≡ Output → AppendsPart before.answers answers answer → Appends before.rows rows row → before.answers_lost ≤ answers_lost → before.rows_lost ≤ rows_lost → Rose before.answers_lost answers_lost
+    → ArePutInPart fault before (record before { answers = answers; answers_lost = answers_lost; rows = rows; rows_lost = rows_lost }) (record { answers = answer; rows = row; faults = [] })
+ArePutInPart-answer fault before answers rows answers_lost rows_lost answer row is part kept counted more failed =
+    let after : Seen = record before { answers = answers; answers_lost = answers_lost; rows = rows; rows_lost = rows_lost } in
+    let texts : Texts = record { answers = answer; rows = row; faults = [] } in
+    let breaks : BreaksInAnswer before after texts = record { rows = kept; answers = part; failed = failed } in
+    record {
+      breaks = subst (λ (f : DialogueFault). BreaksAt f before after texts) (sym is) breaks;
+      faults = inl (Appends-nil before.faults);
       counted = record { answers = counted; rows = more; faults = omega arith };
     }
 
--- what is put whole is put in part
-pub AppendsPart-whole : (a b : Option (List ℕ)) (text : List ℕ) → Appends a b text → AppendsPart a b text
-AppendsPart-whole a b text put =
-    AppendsPart-on a b b text [] text (sym (append-nil text)) put (AppendsPart-none b [])
+-- so of an answer without a row
+pub ArePutInPart-lines : (fault : DialogueFault) (before : Seen) (answers : Option (List ℕ)) (answers_lost : ℕ) (answer : List ℕ)
+    → fault ≡ Output → AppendsPart before.answers answers answer → before.answers_lost ≤ answers_lost → Rose before.answers_lost answers_lost
+    → ArePutInPart fault before (record before { answers = answers; answers_lost = answers_lost }) (record { answers = answer; rows = []; faults = [] })
+ArePutInPart-lines fault before answers answers_lost answer is part counted failed =
+    ArePutInPart-answer fault before answers before.rows answers_lost before.rows_lost answer [] is part (Appends-nil before.rows) counted (omega arith) failed
+
+-- the fault that is answered
+pub at-fault : {X : Type 0} (r : Result X DialogueFault) (fault : DialogueFault) (P : DialogueFault → Type 0) → r ≡ Err fault → P fault → IfErr r P
+at-fault {X} r fault P is holds = subst (λ (r : Result X DialogueFault). IfErr r P) (sym is) holds
+
+-- what a put of the answers that failed tells, with its fault
+pub at-output : {X P Q : Type 0} (r : Result X DialogueFault) (R : DialogueFault → Type 0) → OnErr r P → OnErr r Q → IfErr r (λ fault. fault ≡ Output) → ((fault : DialogueFault) → fault ≡ Output → P → Q → R fault) → IfErr r R
+at-output (Ok x) R part failed is gives = tt
+at-output (Err fault) R part failed is gives = gives fault is part failed

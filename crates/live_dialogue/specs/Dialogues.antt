@@ -1,5 +1,6 @@
--- A dialogue: lines that are heard one after the other, and what answers each at the history so far.
-use Rattle.std.specs.Prelude.{◌≡◌, ℕ, ◌+◌, ◌^◌, ◌≤◌, Bool, true, false, List, [], ◌∷◌, ◌++◌, codes, flat_map, length, nat_le, nat_lt, if◌then◌else◌, Ok, Err}
+-- A dialogue: lines that are heard one after the other, and what answers each at the history so
+-- far.
+use Rattle.std.specs.Prelude.{◌≡◌, ℕ, ◌+◌, ◌^◌, Bool, true, false, List, [], ◌∷◌, ◌++◌, codes, flat_map, nat_le, nat_lt, if◌then◌else◌, Ok, Err}
 use Rattle.std.specs.List.{list_any}
 use Rattle.std.proofs.Math.ListN.{replicate}
 use Rattle.slot_core.specs.Calls.Results.{◌>>=◌}
@@ -133,12 +134,3 @@ pub record IsOver (set : TaskSet) (heards : List Heard) : Type 0 where
   pub all : heards ≡ first ++ last ∷ []
   pub goes_on : GoesOn set first
   pub ends : asks_end set last ≡ true
-
--- a dialogue breaks off: before anything is heard, or in the answer to the last that is heard; the
--- end is not asked for before that
-pub record BreaksOff (set : TaskSet) (heards : List Heard) : Type 0 where
-  pub first : List Heard
-  pub last : List Heard
-  pub all : heards ≡ first ++ last
-  pub one : length last ≤ 1
-  pub goes_on : GoesOn set first

@@ -1,5 +1,5 @@
 -- What a dialogue puts on its streams: the answers, the rows of the record, and the faults.
-use Rattle.std.specs.Prelude.{◌≡◌, ◌<◌, ◌≤◌, ◌⊎◌, ℕ, ◌+◌, ◌-◌, ◌^◌, true, List, ◌++◌, length, Option, Ok, Err, ⊤}
+use Rattle.std.specs.Prelude.{◌≡◌, ◌<◌, ◌≤◌, ◌⊎◌, ℕ, ◌+◌, ◌-◌, ◌^◌, true, List, [], ◌∷◌, ◌++◌, length, Option, Ok, Err, ⊤}
 use Rattle.std.specs.Io.KnownBytes.{Appends}
 use Rattle.slot_core.specs.Calls.Counts.{Rose}
 use Rattle.slot_core.specs.declared.tasks.TaskSet.{TaskSet}
@@ -7,6 +7,7 @@ use Rattle.slot_core.specs.declared.TheConstants.{ARRIVAL_LIMIT}
 use Rattle.slot_core.specs.Keeping.Executives.{Executive}
 use Rattle.slot_core.specs.Runs.Arrivals.{event_fits}
 use Rattle.slot_core.specs.Runs.Histories.{History}
+use Rattle.slot_core.specs.Runs.Traces.{started}
 use Rattle.slot_io.specs.Sinks.{AppendsPart}
 use Rattle.line_source.specs.Lines.{Heard}
 use Rattle.live_lines.specs.declared.commands.LiveCommand.TheVariants.{Arrive, Pass, End}
@@ -15,7 +16,7 @@ use Rattle.live_lines.specs.Rows.{record_text}
 use Rattle.live_dialogue.specs.declared.streams.DialogueFault.{DialogueFault}
 use Rattle.live_dialogue.specs.declared.streams.DialogueFault.TheVariants.{Input, Record, Output}
 use Rattle.live_dialogue.specs.declared.streams.Streams.{Streams}
-use Rattle.live_dialogue.specs.Dialogues.{exchanges, answers_text, faults_text, rows_text, start_text, answer_text, fault_text, arrival_made, GoesOn, IsOver, BreaksOff}
+use Rattle.live_dialogue.specs.Dialogues.{asked, exchanges, history_heard, answers_text, faults_text, rows_text, start_text, answer_text, fault_text, arrival_made, GoesOn, IsOver}
 
 -- texts for the streams
 pub record Texts : Type 0 where
@@ -78,29 +79,40 @@ pub record IsCounted (before after : Seen) : Type 0 where
   pub faults : before.faults_lost ≤ after.faults_lost
 
 -- a text of faults is told, or a put of it failed, which is counted
-abbrev pub IsTold : Seen → Seen → List ℕ → Type 0
-IsTold before after text =
+abbrev pub AreFaultsTold : Seen → Seen → List ℕ → Type 0
+AreFaultsTold before after text =
     Appends before.faults after.faults text ⊎ Rose before.faults_lost after.faults_lost
 
 -- the texts are put
-pub record IsPut (before after : Seen) (texts : Texts) : Type 0 where
+pub record ArePut (before after : Seen) (texts : Texts) : Type 0 where
   pub answers : Appends before.answers after.answers texts.answers
   pub rows : Appends before.rows after.rows texts.rows
-  pub faults : IsTold before after texts.faults
+  pub faults : AreFaultsTold before after texts.faults
   pub counted : IsCounted before after
 
--- a part of the answers and of the rows is put, each from its front, and the faults are told
-pub record IsPutInPart (before after : Seen) (texts : Texts) : Type 0 where
-  pub answers : AppendsPart before.answers after.answers texts.answers
+-- a put of the row failed: a part of it is put, and nothing of the answer
+pub record BreaksInRow (before after : Seen) (texts : Texts) : Type 0 where
   pub rows : AppendsPart before.rows after.rows texts.rows
-  pub faults : IsTold before after texts.faults
-  pub counted : IsCounted before after
+  pub answers : after.answers ≡ before.answers
+  pub failed : Rose before.rows_lost after.rows_lost
 
--- a put of the answers or of the record failed, as the fault says
-abbrev pub IsPutFault : DialogueFault → Seen → Seen → Type 0
-IsPutFault Input before after = ⊥
-IsPutFault Record before after = Rose before.rows_lost after.rows_lost
-IsPutFault Output before after = Rose before.answers_lost after.answers_lost
+-- a put of the answer failed: the row is put, and a part of the answer
+pub record BreaksInAnswer (before after : Seen) (texts : Texts) : Type 0 where
+  pub rows : Appends before.rows after.rows texts.rows
+  pub answers : AppendsPart before.answers after.answers texts.answers
+  pub failed : Rose before.answers_lost after.answers_lost
+
+-- the put that failed is one of those that the fault names
+abbrev pub BreaksAt : DialogueFault → Seen → Seen → Texts → Type 0
+BreaksAt Input before after texts = ⊥
+BreaksAt Record before after texts = BreaksInRow before after texts
+BreaksAt Output before after texts = BreaksInAnswer before after texts
+
+-- the texts are put up to a put that failed: first the faults, then the row, then the answer
+pub record ArePutInPart (fault : DialogueFault) (before after : Seen) (texts : Texts) : Type 0 where
+  pub breaks : BreaksAt fault before after texts
+  pub faults : AreFaultsTold before after texts.faults
+  pub counted : IsCounted before after
 
 -- a dialogue is over: the source gave what was heard, with which the end was asked for, and all
 -- of its texts are put
@@ -109,7 +121,7 @@ pub record IsDialogue (set : TaskSet) (cycle : ℕ) (Gave : List Heard → Type 
   pub heards : List Heard
   pub gave : Gave heards
   pub over : IsOver set heards
-  pub put : IsPut before after (dialogue_texts set cycle heards)
+  pub put : ArePut before after (dialogue_texts set cycle heards)
 
 -- a dialogue is left: all that was heard is answered, and the end was not asked for
 pub record IsLeft (set : TaskSet) (cycle : ℕ) (Gave : List Heard → Type 0) (before after : Seen)
@@ -117,15 +129,31 @@ pub record IsLeft (set : TaskSet) (cycle : ℕ) (Gave : List Heard → Type 0) (
   pub heards : List Heard
   pub gave : Gave heards
   pub goes_on : GoesOn set heards
-  pub put : IsPut before after (dialogue_texts set cycle heards)
+  pub put : ArePut before after (dialogue_texts set cycle heards)
 
--- a dialogue is cut off in the first line or in an answer: a part of its texts is put
-pub record IsCut (set : TaskSet) (cycle : ℕ) (Gave : List Heard → Type 0) (before after : Seen)
-    : Type 0 where
-  pub heards : List Heard
-  pub gave : Gave heards
-  pub breaks : BreaksOff set heards
-  pub put : IsPutInPart before after (dialogue_texts set cycle heards)
+-- the texts of the last that is heard, after others
+abbrev pub last_texts : TaskSet → ℕ → List Heard → Heard → Texts
+last_texts set cycle first last =
+    let h = history_heard set cycle started first in
+    exchange_texts set cycle (length first + 1) h (asked set h last)
+
+-- a dialogue is cut off in its first line: nothing is heard, and a part of the line is put
+pub record IsCutAtStart (set : TaskSet) (cycle : ℕ) (Gave : List Heard → Type 0)
+    (fault : DialogueFault) (before after : Seen) : Type 0 where
+  pub gave : Gave []
+  pub part : ArePutInPart fault before after (dialogue_texts set cycle [])
+
+-- a dialogue is cut off in the answer to the last that is heard: the texts of all before it are
+-- put, in which the end is not asked for, and after them a part of its own
+pub record IsCutInAnswer (set : TaskSet) (cycle : ℕ) (Gave : List Heard → Type 0)
+    (fault : DialogueFault) (before after : Seen) : Type 0 where
+  pub first : List Heard
+  pub last : Heard
+  pub gave : Gave (first ++ last ∷ [])
+  pub goes_on : GoesOn set first
+  pub between : Seen
+  pub put : ArePut before between (dialogue_texts set cycle first)
+  pub part : ArePutInPart fault between after (last_texts set cycle first last)
 
 -- how a dialogue ends before the end is asked for: it is left where a read failed, or where as many
 -- lines came as can be counted, and cut off where a put failed
@@ -135,4 +163,5 @@ IsBroken {S} Gave misread set cycle Input from to before after =
     (between : S) × (left : IsLeft set cycle (Gave from between) before after)
     × (Rose (misread from) (misread to) ⊎ (length left.heards ≡ 2 ^ 64 - 1))
 IsBroken {S} Gave misread set cycle fault from to before after =
-    IsCut set cycle (Gave from to) before after × IsPutFault fault before after
+    IsCutAtStart set cycle (Gave from to) fault before after
+    ⊎ IsCutInAnswer set cycle (Gave from to) fault before after

@@ -15,7 +15,7 @@ ghost use Rattle.slot_io.specs.Sinks.{AppendsPart};
 ghost use Rattle.live_lines.specs.Commands.{fits_set};
 ghost use Rattle.line_source.specs.Lines.{heard};
 ghost use Rattle.live_dialogue.specs.Dialogues.{allowed, asked, command_heard, next_history};
-ghost use Rattle.live_dialogue.specs.Streams.{exchange_texts, seen, FitsNow, IsPut, IsPutFault, IsPutInPart};
+ghost use Rattle.live_dialogue.specs.Streams.{exchange_texts, seen, ArePut, ArePutInPart, FitsNow};
 
 use crate::puts::{put_answer, put_end, put_entry, put_fault, put_row};
 use crate::streams::{DialogueFault, Streams};
@@ -81,20 +81,18 @@ pub(crate) fn answer<T: SpareTable, K: Sink, R: Sink, E: Sink, L: Ledger>(
     steps: &mut Steps<L>,
 ) -> Result<(), DialogueFault>
     requires { FitsNow exec.old asked }
-    ensures put { OnOk result ((h : History) → StandsFor exec.old h → IsPut
+    ensures put { OnOk result ((h : History) → StandsFor exec.old h → ArePut
         (seen K.written K.faults R.written R.faults E.written E.faults streams.old)
         (seen K.written K.faults R.written R.faults E.written E.faults streams.new)
         (exchange_texts exec.old.plan.tasks exec.old.plan.cycle number h asked)) }
-    ensures part { OnErr result ((h : History) → StandsFor exec.old h → IsPutInPart
+    ensures part { IfErr result (λ fault. (h : History) → StandsFor exec.old h → ArePutInPart
+        fault
         (seen K.written K.faults R.written R.faults E.written E.faults streams.old)
         (seen K.written K.faults R.written R.faults E.written E.faults streams.new)
         (exchange_texts exec.old.plan.tasks exec.old.plan.cycle number h asked)) }
     ensures stands { OnOk result ((h : History) → StandsFor exec.old h → StandsFor
         exec.new
         (next_history exec.old.plan.tasks exec.old.plan.cycle h asked)) }
-    ensures fault { IfErr result (λ fault. IsPutFault fault
-        (seen K.written K.faults R.written R.faults E.written E.faults streams.old)
-        (seen K.written K.faults R.written R.faults E.written E.faults streams.new)) }
     ensures plan { exec.new.plan ≡ exec.old.plan }
 {
     match asked {
@@ -112,12 +110,13 @@ fn take<T: SpareTable, K: Sink, R: Sink, E: Sink>(
     streams: &mut Streams<K, R, E>,
 ) -> Result<(), DialogueFault>
     requires { FitsNow exec.old (Ok (LiveCommand.Arrive event)) }
-    ensures put { OnOk result ((h : History) → StandsFor exec.old h → IsPut
+    ensures put { OnOk result ((h : History) → StandsFor exec.old h → ArePut
         (seen K.written K.faults R.written R.faults E.written E.faults streams.old)
         (seen K.written K.faults R.written R.faults E.written E.faults streams.new)
         (exchange_texts exec.old.plan.tasks exec.old.plan.cycle 0 h
         (Ok (LiveCommand.Arrive event)))) }
-    ensures part { OnErr result ((h : History) → StandsFor exec.old h → IsPutInPart
+    ensures part { IfErr result (λ fault. (h : History) → StandsFor exec.old h → ArePutInPart
+        fault
         (seen K.written K.faults R.written R.faults E.written E.faults streams.old)
         (seen K.written K.faults R.written R.faults E.written E.faults streams.new)
         (exchange_texts exec.old.plan.tasks exec.old.plan.cycle 0 h
@@ -126,9 +125,6 @@ fn take<T: SpareTable, K: Sink, R: Sink, E: Sink>(
         exec.new
         (next_history exec.old.plan.tasks exec.old.plan.cycle h
         (Ok (LiveCommand.Arrive event)))) }
-    ensures fault { IfErr result (λ fault. IsPutFault fault
-        (seen K.written K.faults R.written R.faults E.written E.faults streams.old)
-        (seen K.written K.faults R.written R.faults E.written E.faults streams.new)) }
     ensures plan { exec.new.plan ≡ exec.old.plan }
 {
     let arrival = Arrival {
@@ -242,17 +238,15 @@ fn refuse<K: Sink, R: Sink, E: Sink>(
     fault: LineFault,
     streams: &mut Streams<K, R, E>,
 ) -> Result<(), DialogueFault>
-    ensures put { OnOk result ((set : TaskSet) (cycle : ℕ) (h : History) → IsPut
+    ensures put { OnOk result ((set : TaskSet) (cycle : ℕ) (h : History) → ArePut
         (seen K.written K.faults R.written R.faults E.written E.faults streams.old)
         (seen K.written K.faults R.written R.faults E.written E.faults streams.new)
         (exchange_texts set cycle number h (Err fault))) }
-    ensures part { OnErr result ((set : TaskSet) (cycle : ℕ) (h : History) → IsPutInPart
+    ensures part { IfErr result (λ broken. (set : TaskSet) (cycle : ℕ) (h : History) → ArePutInPart
+        broken
         (seen K.written K.faults R.written R.faults E.written E.faults streams.old)
         (seen K.written K.faults R.written R.faults E.written E.faults streams.new)
         (exchange_texts set cycle number h (Err fault))) }
-    ensures fault { IfErr result (λ fault. IsPutFault fault
-        (seen K.written K.faults R.written R.faults E.written E.faults streams.old)
-        (seen K.written K.faults R.written R.faults E.written E.faults streams.new)) }
 {
     put_fault(&mut streams.faults, number, fault);
     put_answer(&mut streams.answers, b"refused\n")

@@ -7,9 +7,8 @@ abbrev pub IsEmpty : Option (List ℕ) → Type 0
 IsEmpty written = IfSome written (λ bytes. bytes ≡ [])
 
 -- the streams before the first line: where arrivals are recorded their file is made, empty, and
--- else nothing has changed
+-- nothing else has changed
 abbrev pub IsReady : Bool → Seen → Seen → Type 0
 IsReady false before after = after ≡ before
 IsReady true before after =
-    IsEmpty after.rows
-    × (after ≡ record before { rows = after.rows; rows_lost = after.rows_lost })
+    IsEmpty after.rows × (after ≡ record before { rows = after.rows })

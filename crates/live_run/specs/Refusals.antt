@@ -4,7 +4,7 @@ use Rattle.live_dialogue.specs.declared.streams.DialogueFault.{DialogueFault}
 use Rattle.live_dialogue.specs.declared.streams.DialogueFault.TheVariants.{Input, Record, Output}
 use Rattle.run_outcome.specs.declared.refusal.Refusal.TheVariants.{WriteFault as OutputFault}
 use Rattle.run_outcome.specs.declared.status.Status.{Status}
-use Rattle.run_outcome.specs.Refusals.{has_fixed_line, reason_of, refusal_status, refusal_text}
+use Rattle.run_outcome.specs.Refusals.{has_fixed_line, reason_of, refusal_status}
 use Rattle.live_run.specs.declared.refusal.LiveRefusal.{LiveRefusal}
 use Rattle.live_run.specs.declared.refusal.LiveRefusal.TheVariants.{Usage, Run, Unmade, Unrecorded, Unheard}
 use Rattle.live_run.specs.Calls.{record_name}
@@ -50,11 +50,3 @@ is_fixed Unheard = true
 -- the line of a refusal
 abbrev pub live_line : List (List ℕ) → List (List ℕ) → LiveRefusal → List ℕ
 live_line words names refusal = live_reason words names refusal ++ 10 ∷ []
-
--- the reason in short, where the words are not known
-abbrev pub live_refusal_text : LiveRefusal → List ℕ
-live_refusal_text Usage = live_usage
-live_refusal_text (Run refusal) = refusal_text refusal
-live_refusal_text Unmade = codes "cannot write the record"
-live_refusal_text Unrecorded = codes "cannot write the record"
-live_refusal_text Unheard = codes "cannot read standard input"

@@ -112,8 +112,8 @@ IsWorkOf held faults blamed Gave misread files files_after words None from to be
     (result ≡ Err Usage) × (files_after ≡ files) × (to ≡ from) × (after ≡ before)
 IsWorkOf held faults blamed Gave misread files files_after words (Some call) from to before after
     result =
-    IsLiveWork held faults blamed Gave misread files files_after (plan_words words call) call from to
-    before after result
+    IsLiveWork held faults blamed Gave misread files files_after (plan_words words call) call from
+    to before after result
     ⊎ ((result ≡ Err (Run Memory)) × (files_after ≡ files) × (to ≡ from) × (after ≡ before))
 
 -- the run of a call, with the words by which its plan is read and blamed

@@ -8,11 +8,13 @@ use slot_core::Failed;
 use slot_io::{HostSink, Sink};
 use std::{fs, rt};
 
-/// A sink that may be a file. Where it was not made it is none, and takes rows without keeping them.
+/// A sink that may be a file. Where it was not made it is none, and takes rows without keeping
+/// them.
 pub trait RecordFile: Sink {
     /// Makes the file of this name, empty, and puts what follows into it.
     fn make(&mut self, name: &str) -> Result<(), Failed>
         ensures empty { OnOk result (IsEmpty (Self.written self.new)) }
+        ensures kept { OnOk result (Self.faults self.new ≡ Self.faults self.old) }
         ensures counted { Self.faults self.old ≤ Self.faults self.new }
         ensures failed { OnErr result (Rose (Self.faults self.old) (Self.faults self.new)) };
 }

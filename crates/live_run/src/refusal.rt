@@ -8,11 +8,9 @@ ghost use Rattle.live_run.specs.declared.refusal.LiveRefusal.TheVariants.{Run as
 use live_dialogue::DialogueFault;
 use run_outcome::{Refusal, Status};
 use slot_core::Memory;
-use std::error::Error;
-use std::fmt;
 
 /// Why a live run is not done.
-#[derive(Debug, Drop)]
+#[derive(Drop)]
 pub enum LiveRefusal {
     /// The words are none of the forms.
     Usage,
@@ -39,27 +37,6 @@ impl LiveRefusal {
         }
     }
 }
-
-impl fmt::Display for LiveRefusal {
-    ghost use Rattle.std.specs.Prelude.{Some};
-    ghost use Rattle.live_run.specs.Refusals.{live_refusal_text};
-
-    ghost output = { λ refusal. Some (live_refusal_text refusal) };
-
-    fn fmt<W: fmt::Write>(&self, f: &mut fmt::Formatter<W>) -> fmt::Result {
-        match self {
-            LiveRefusal::Usage => write!(
-                f,
-                "usage: slotlive T [--record FILE], slotlive --table B [--record FILE]"
-            ),
-            LiveRefusal::Run(refusal) => write!(f, "{refusal}"),
-            LiveRefusal::Unmade | LiveRefusal::Unrecorded => write!(f, "cannot write the record"),
-            LiveRefusal::Unheard => write!(f, "cannot read standard input"),
-        }
-    }
-}
-
-impl Error for LiveRefusal {}
 
 impl From<Refusal> for LiveRefusal {
     ghost from_gives = { λ refusal live. live ≡ RunRefusal refusal };

@@ -83,6 +83,7 @@ fn talk_with<S: LineSource, K: Sink, R: RecordFile, E: Sink>(
 /// Makes the record that the last word names.
 fn make_record<R: RecordFile>(words: &Words, rows: &mut R) -> Result<(), LiveRefusal>
     ensures empty { OnOk result (IsEmpty (R.written rows.new)) }
+    ensures kept { OnOk result (R.faults rows.new ≡ R.faults rows.old) }
     ensures counted { R.faults rows.old ≤ R.faults rows.new }
     ensures unmade { OnErr result (result ≡ Err LiveRefusal.Unmade) }
     ensures failed { OnErr result (Rose (R.faults rows.old) (R.faults rows.new)) }

@@ -1,6 +1,6 @@
 //! The task sets of a generated load.
 
-ghost use Rattle.std.specs.Prelude.{◌≡◌, ◌≤◌, ◌<◌, ◌++◌, ◌∷◌, [], true, codes, decimal, map, IfOk};
+ghost use Rattle.std.specs.Prelude.{◌≡◌, ◌≤◌, ◌<◌, ◌++◌, ◌∷◌, [], true, codes, decimal, map, IfOk, OnOk};
 ghost use Rattle.std.specs.List.{range_with_len};
 ghost use Rattle.slot_core.specs.declared.TheConstants.{LOAD_LIMIT};
 ghost use Rattle.slot_core.specs.Sets.Cycles.{cycle_of};
@@ -85,10 +85,19 @@ fn tasks(alloc: Global) -> Result<Tasks, Memory>
     ensures { IfOk result (λ tasks. tasks ≡ load_tasks) }
 {
     let mut tasks = Tasks::new(alloc);
-    tasks.push(task(alloc, b"a", &[])?)?;
-    tasks.push(task(alloc, b"b", &[0])?)?;
-    tasks.push(task(alloc, b"c", &[1])?)?;
+    push_task(alloc, &mut tasks, b"a", &[])?;
+    push_task(alloc, &mut tasks, b"b", &[0])?;
+    push_task(alloc, &mut tasks, b"c", &[1])?;
     Ok(tasks)
+}
+
+/// Appends a task of one slot, with the tasks that it comes after.
+fn push_task(alloc: Global, tasks: &mut Tasks, name: &[u8], after: &[u16]) -> Result<(), Memory>
+    requires { is_name name.now ≡ true }
+    ensures { OnOk result (tasks.new ≡ tasks.old ++ load_task name.now after.now ∷ []) }
+{
+    let task = task(alloc, name, after)?;
+    tasks.push(task)
 }
 
 /// A task of one slot, with the tasks that it comes after.

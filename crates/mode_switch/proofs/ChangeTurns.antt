@@ -16,7 +16,7 @@ use Rattle.slot_facts.proofs.Lists.Members.{Has, Has-filter_passes}
 use Rattle.slot_facts.proofs.Lists.Permuted.{Has-permuted}
 use Rattle.slot_facts.proofs.Lists.SameItems.{counted, jobs-same_items, same-after_run, same-sym}
 use Rattle.slot_facts.proofs.Offline.DistinctKeys.{IsApart}
-use Rattle.mode_switch.specs.Keeping.{MayRun, carried_after, carried_left, front_run, own_after}
+use Rattle.mode_switch.specs.Keeping.{HasItsJob, carried_after, carried_left, front_run, own_after}
 use Rattle.mode_switch.specs.Runs.{ran_in, turn_between}
 use Rattle.mode_switch.specs.declared.turns.Turn.{Turn}
 use Rattle.mode_switch.specs.declared.turns.Turn.TheVariants.{Idle, Old, New}
@@ -95,12 +95,12 @@ chosen_one t own job e =
     (Has-filter_passes (λ (j : Job). nat_le j.est t) own job (IsEarliest-from_earliest (ready t own) job e).among).0
 
 -- so the turn may run
-pub MayRun-turn : (t : ℕ) (carried own : List Job) (turn : Turn) → IsTurn t carried own turn → MayRun turn carried own
-MayRun-turn t carried own Idle is_turn = tt
-MayRun-turn t carried own (Old key) is_turn =
+pub HasItsJob-turn : (t : ℕ) (carried own : List Job) (turn : Turn) → IsTurn t carried own turn → HasItsJob turn carried own
+HasItsJob-turn t carried own Idle is_turn = tt
+HasItsJob-turn t carried own (Old key) is_turn =
     let first = first-from_old (slice_get carried 0) (earliest (ready t own)) key (sym is_turn.is) in
     some_first carried first.0 first.1
-MayRun-turn t carried own (New key) is_turn =
+HasItsJob-turn t carried own (New key) is_turn =
     let other = other-from_new (slice_get carried 0) (earliest (ready t own)) key (sym is_turn.is) in
     counted (λ (j : Job). same_key j.key key) own other.0 (chosen_one t own other.0 other.1) (same_key-itself other.0.key key other.2)
 
@@ -147,10 +147,10 @@ own_after-same (Old key) xs ys same = same
 own_after-same (New key) xs ys same = same-after_run key xs ys same
 
 -- whether it may run does not depend on the times of the carried jobs
-pub MayRun-any : (turn : Turn) (xs ys own : List Job) → length xs ≡ length ys → MayRun turn xs own → MayRun turn ys own
-MayRun-any Idle xs ys own same may = tt
-MayRun-any (Old key) xs ys own same may = omega arith
-MayRun-any (New key) xs ys own same may = may
+pub HasItsJob-any : (turn : Turn) (xs ys own : List Job) → length xs ≡ length ys → HasItsJob turn xs own → HasItsJob turn ys own
+HasItsJob-any Idle xs ys own same may = tt
+HasItsJob-any (Old key) xs ys own same may = omega arith
+HasItsJob-any (New key) xs ys own same may = may
 
 -- the turn by what the calls before it tell
 pub turn-told : (at ended ran t : ℕ) (lent items jobs : List Job) (first other : Option Job) (turn : Turn) → turn ≡ turn_between first other → first ≡ slice_get (carried_left at lent ended ran) 0 → lent ≡ items → other ≡ earliest (ready t jobs) → turn ≡ turn_between (slice_get (carried_left at items ended ran) 0) (earliest (ready t jobs))

@@ -6,7 +6,8 @@ use Rattle.std.proofs.lemmas.Grind.{flat_map-append}
 use Rattle.std.specs.Io.KnownBytes.{Appends}
 use Rattle.std.proofs.KnownBytes.{Appends-nil, Appends-trans}
 use Rattle.slot_io.specs.Sinks.{AppendsPart}
-use Rattle.slot_io.proofs.SinkParts.{AppendsPart-more, AppendsPart-on}
+use Rattle.slot_io.proofs.LineTexts.{part-first, part-second, part-third}
+use Rattle.slot_io.proofs.SinkParts.{AppendsPart-more}
 use Rattle.slot_core.specs.declared.jobs.Job.{Job}
 use Rattle.slot_core.specs.declared.tasks.TaskSet.{TaskSet}
 use Rattle.mode_switch.specs.declared.turns.Turn.{Turn}
@@ -68,21 +69,17 @@ passed-once initial before after n so_far passes =
 -- a part of the first line is a part of the text of a change
 pub text-granted : (a b : Option (List ℕ)) (first : TaskSet) (change : ChangeParts) (at n : ℕ) → at ≡ change.at → AppendsPart a b (granted_line at) → AppendsPart a b (change_text first change.plan.tasks change.at change.carried n)
 text-granted a b first change at n same part =
-    let line = granted_line change.at in
     let lines = turn_lines first change.plan.tasks change.at change.carried (n - change.at) in
-    AppendsPart-more a a b [] line (lines ++ end_line n) (line ++ lines ++ end_line n) (append_assoc line lines (end_line n)) (Appends-nil a) (subst (λ t. AppendsPart a b (granted_line t)) same part)
+    part-first a b (granted_line change.at) lines (end_line n) (subst (λ t. AppendsPart a b (granted_line t)) same part)
 
 -- so are that line and a part of the turns
 pub text-turns : (a b d : Option (List ℕ)) (first : TaskSet) (change : ChangeParts) (at n : ℕ) → at ≡ change.at → Appends a b (granted_line at) → AppendsPart b d (turn_lines first change.plan.tasks change.at change.carried (n - at)) → AppendsPart a d (change_text first change.plan.tasks change.at change.carried n)
 text-turns a b d first change at n same whole part =
-    let line = granted_line change.at in
     let lines = λ (m : ℕ). turn_lines first change.plan.tasks change.at change.carried m in
-    AppendsPart-more a b d line (lines (n - change.at)) (end_line n) (line ++ lines (n - change.at) ++ end_line n) (append_assoc line (lines (n - change.at)) (end_line n)) (subst (λ t. Appends a b (granted_line t)) same whole) (subst (λ t. AppendsPart b d (lines (n - t))) same part)
+    part-second a b d (granted_line change.at) (lines (n - change.at)) (end_line n) (subst (λ t. Appends a b (granted_line t)) same whole) (subst (λ t. AppendsPart b d (lines (n - t))) same part)
 
 -- and all but the end, and a part of that
 pub text-end : (a b d e : Option (List ℕ)) (first : TaskSet) (change : ChangeParts) (at n : ℕ) → at ≡ change.at → Appends a b (granted_line at) → Appends b d (turn_lines first change.plan.tasks change.at change.carried (n - at)) → AppendsPart d e (end_line n) → AppendsPart a e (change_text first change.plan.tasks change.at change.carried n)
 text-end a b d e first change at n same whole next part =
-    let line = granted_line change.at in
     let lines = λ (m : ℕ). turn_lines first change.plan.tasks change.at change.carried m in
-    let front = Appends-trans a b d line (lines (n - change.at)) (subst (λ t. Appends a b (granted_line t)) same whole) (subst (λ t. Appends b d (lines (n - t))) same next) in
-    AppendsPart-on a d e (line ++ lines (n - change.at)) (end_line n) (line ++ lines (n - change.at) ++ end_line n) refl front part
+    part-third a b d e (granted_line change.at) (lines (n - change.at)) (end_line n) (subst (λ t. Appends a b (granted_line t)) same whole) (subst (λ t. Appends b d (lines (n - t))) same next) part

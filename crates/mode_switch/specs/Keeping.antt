@@ -67,11 +67,11 @@ abbrev pub own_after : Turn → List Job → List Job
 own_after (New key) jobs = after_run key jobs
 own_after _ jobs = jobs
 
--- a turn may run: a carried job remains, or there is a job of its key
-abbrev pub MayRun : Turn → List Job → List Job → Type 0
-MayRun Idle carried own = ⊤
-MayRun (Old key) carried own = 1 ≤ length carried
-MayRun (New key) carried own = 1 ≤ count_by (λ (j : Job). same_key j.key key) own
+-- the job of a turn is there: a carried job remains, or there is a job of its key
+abbrev pub HasItsJob : Turn → List Job → List Job → Type 0
+HasItsJob Idle carried own = ⊤
+HasItsJob (Old key) carried own = 1 ≤ length carried
+HasItsJob (New key) carried own = 1 ≤ count_by (λ (j : Job). same_key j.key key) own
 
 -- the history of a change
 abbrev pub history_of_change : ChangeParts → History

@@ -3,8 +3,8 @@ use Rattle.std.specs.Prelude.{ℕ, ◌+◌, List}
 use Rattle.slot_core.specs.declared.jobs.Job.{Job}
 use Rattle.slot_core.specs.Keeping.Plans.{PlanParts}
 
--- the second plan, the time of the change, the jobs carried over with their slots left then, and the
--- slots that have passed since
+-- the second plan, the time of the change, the jobs carried over with their slots left then, and
+-- the slots that have passed since
 pub record ChangeParts : Type 0 where
   pub plan : PlanParts
   pub at : ℕ

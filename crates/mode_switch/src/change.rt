@@ -34,7 +34,7 @@ use std::marker::{Brand, Model};
 use std::sync::ledger::{Blank, Ledger};
 
 /// Why a change of plan is refused.
-#[derive(Clone, Copy, PartialEq, Eq, Debug)]
+#[derive(Clone, Copy, PartialEq, Eq)]
 pub enum ChangeFault {
     /// Memory ran out.
     Memory,
@@ -54,6 +54,12 @@ impl fmt::Display for ChangeFault {
             ChangeFault::Memory => write!(f, "out of memory"),
             ChangeFault::NoRoom(e) => write!(f, "noroom {} {} {}", e.until, e.need, e.room),
         }
+    }
+}
+
+impl fmt::Debug for ChangeFault {
+    fn fmt<W: fmt::Write>(&self, f: &mut fmt::Formatter<W>) -> fmt::Result {
+        fmt::Display::fmt(self, f)
     }
 }
 

@@ -56,8 +56,8 @@ pub fn a_schedule_fits_each_window()
 {}
 
 /// The same change with no time shifted: carried jobs keep their windows, the jobs of the second
-/// set and its arrivals come from the time of the change on. It can be served exactly where it can be
-/// with times counted from the change, and as much is due by each time.
+/// set and its arrivals come from the time of the change on. It can be served exactly where it can
+/// be with times counted from the change, and as much is due by each time.
 pub fn changes_at_are_exact()
     ensures { ChangesAtAreExact }
 {}

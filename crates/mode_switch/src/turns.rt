@@ -3,7 +3,7 @@
 ghost use Rattle.std.specs.Prelude.{◌≡◌, ℕ, ◌≤◌, All, length, slice_get};
 ghost use Rattle.slot_core.specs.declared.jobs.Job.{Job};
 ghost use Rattle.slot_core.specs.Runs.Matches.{HaveSameItems};
-ghost use Rattle.mode_switch.specs.Keeping.{MayRun, carried_after, carried_left, front_run, own_after};
+ghost use Rattle.mode_switch.specs.Keeping.{HasItsJob, carried_after, carried_left, front_run, own_after};
 ghost use Rattle.mode_switch.specs.Runs.{turn_between};
 
 use job_queue::JobQueue;
@@ -83,7 +83,7 @@ pub(crate) fn run<L: Ledger>(
     steps: &mut Steps<L>,
 ) -> (usize, u32)
     requires left { All (λ (j : Job). 1 ≤ j.left) (carried_left 0 carried.now ended ran) }
-    requires may { MayRun turn (carried_left 0 carried.now ended ran) own.old.jobs }
+    requires may { HasItsJob turn (carried_left 0 carried.now ended ran) own.old.jobs }
     ensures carried { (c : ℕ) → carried_left c carried.now result.0 result.1
         ≡ carried_after turn (carried_left c carried.now ended ran) }
     ensures own { HaveSameItems own.new.jobs (own_after turn own.old.jobs) }

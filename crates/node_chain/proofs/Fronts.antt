@@ -1,6 +1,6 @@
 -- Items of a list from a place on, after a slice of it was written.
-use Rattle.std.proofs.Common.{◌≡◌, ℕ, zero, suc, ◌+◌, ◌-◌, ◌≤◌, List, [], ◌∷◌, ◌++◌, length, set, take, drop, insert, refl, sym, ◌∙◌, ap, get_or, add-one, arith}
-use Rattle.std.proofs.lemmas.List.{set_at, length_push, append-nil, append_assoc, drop_all, take_all, drop_at, length-append, length-take, length-drop, drop_more, length-take-le, drop-drop, take_rest}
+use Rattle.std.proofs.Common.{◌≡◌, ℕ, zero, suc, ◌+◌, ◌-◌, ◌≤◌, List, [], ◌∷◌, ◌++◌, length, set, take, drop, insert, refl, ◌∙◌, ap, get_or, add-one, arith}
+use Rattle.std.proofs.lemmas.List.{set_at, length_push, append-nil, append_assoc, drop_all, take_all, drop_at, length-append, length-take, length-drop, drop_more, length-take-le}
 use borrow.Rule.Slice.PartMut.{put_mid}
 
 -- the last of rotated rows is written
@@ -20,20 +20,6 @@ written_back items written n count same =
 length-put_mid : {X : Type 0} (a k : ℕ) (xs ys : List X) → a + k ≤ length xs → length ys ≡ k → length (put_mid a k xs ys) ≡ length xs
 length-put_mid a k xs ys within same =
     omega (arith, length-append (take a xs) (ys ++ drop k (drop a xs)), length-append ys (drop k (drop a xs)), length-take a xs, length-drop k (drop a xs), length-drop a xs)
-
--- the items from `head` on after those were written
-pub written_from : {X : Type 0} (items written : List X) (head n k : ℕ) → n ≡ length items → head ≤ length items → k ≡ length items - head → length written ≡ k → drop head (take n (put_mid head k items written ++ drop (length (put_mid head k items written)) items)) ≡ written
-written_from items written head n k count within rest same =
-    let all = put_mid head k items written in
-    let back : take n (all ++ drop (length all) items) ≡ all = written_back items all n count (length-put_mid head k items written (omega arith) same) in
-    let none : drop k (drop head items) ≡ [] = drop_all k (drop head items) (omega (arith, length-drop head items)) in
-    ap (drop head) back ∙ drop_at (take head items) (written ++ drop k (drop head items)) head (length-take-le head items within) ∙ ap (λ xs. written ++ xs) none ∙ append-nil written
-
--- a slice of which all from a place on was written
-pub put_from : {X : Type 0} (rows written : List X) (k : ℕ) → put_mid k (length rows - k) rows written ≡ take k rows ++ written
-put_from rows written k =
-    let none : drop (length rows - k) (drop k rows) ≡ [] = drop_all (length rows - k) (drop k rows) (omega (arith, length-drop k rows)) in
-    ap (λ xs. take k rows ++ (written ++ xs)) none ∙ ap (λ xs. take k rows ++ xs) (append-nil written)
 
 -- what a place before the items becomes
 insert-after_first : {X : Type 0} (x : X) (rows : List X) (place : ℕ) (row : X) → (drop 1 (take (suc place) (x ∷ rows)) ++ row ∷ []) ++ drop (suc place) (x ∷ rows) ≡ insert rows place row
@@ -58,12 +44,3 @@ inserted items (suc k) place n row count some within =
     let before : suc k - 1 ≡ k = omega arith in
     let many : suc k + place - k ≡ suc place = omega arith in
     rw (before, many) (inserted_after items k place n row count within)
-
--- the items from `head` on but the first, after those were written
-pub written_after : {X : Type 0} (items written : List X) (head n k : ℕ) → n ≡ length items → head ≤ length items → k ≡ length items - head → length written ≡ k → drop (head + 1) (take n (put_mid head k items written ++ drop (length (put_mid head k items written)) items)) ≡ drop 1 written
-written_after items written head n k count within rest same =
-    sym (drop-drop 1 head (take n (put_mid head k items written ++ drop (length (put_mid head k items written)) items))) ∙ ap (drop 1) (written_from items written head n k count within rest same)
-
--- a slice of the items from `head` on
-pub slice_from : {X : Type 0} (slice items : List X) (head : ℕ) → slice ≡ items → take (length slice - head) (drop head slice) ≡ drop head items
-slice_from slice items head e = rw e (take_rest items head)

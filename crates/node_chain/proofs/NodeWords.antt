@@ -1,8 +1,8 @@
 -- What the nodes of a block are after words are put.
-use Rattle.std.proofs.Common.{◌≡◌, ℕ, ℤ, zero, suc, ◌+◌, ◌*◌, ◌/◌, ◌%◌, ◌≤◌, ◌<◌, ◌^◌, List, length, replicate, slice_set, pos, refl, sym, ap, inl, inr, ◌∙◌, arith, add-zero, w64, SFits}
+use Rattle.std.proofs.Common.{◌≡◌, ℕ, zero, suc, ◌+◌, ◌*◌, ◌/◌, ◌%◌, ◌≤◌, ◌<◌, ◌^◌, List, length, replicate, slice_set, pos, refl, sym, ap, inl, inr, ◌∙◌, arith, add-zero, w64, SFits}
 use Rattle.std.proofs.lemmas.Int.{to_z-of_z}
 use Rattle.std.specs.Int.{cast_signed, cast_unsigned}
-use Rattle.std.proofs.lemmas.List.{get_or-set_same, get_or-set_other, set-get_or, length-replicate, length-set}
+use Rattle.std.proofs.lemmas.List.{get_or-set_same, get_or-set_other, length-replicate, length-set}
 use Rattle.std.proofs.lemmas.List.FromFn.{fill_by_all, get_or-map-range_with_len, length-map-range_with_len}
 use Rattle.slot_core.specs.declared.jobs.Span.{Span}
 use Rattle.node_chain.specs.declared.block.Node.{Node}
@@ -225,14 +225,6 @@ module _ (words : List ℕ) (count place : ℕ) (s : Span) (all : length words �
 
   pub span-put : nodes_of spanned_there count ≡ with_span place s (nodes_of words count)
   span-put = nodes-set words spanned_there count place own lt here_now others_stay
-
--- a span with another spare is put by its last word alone
-pub spare-put : (words : List ℕ) (i : ℕ) (spare : ℤ) → with_span_words i (record (span_in words i) { spare = spare }) words ≡ slice_set words (i + 3) (cast_unsigned w64 spare)
-spare-put words i spare =
-    let one = word_at words (i + 1) in let two = word_at words (i + 2) in let last = cast_unsigned w64 spare in
-    ap (λ ws. slice_set (slice_set (slice_set ws (i + 1) one) (i + 2) two) (i + 3) last) (set-get_or words i 0)
-    ∙ ap (λ ws. slice_set (slice_set ws (i + 2) two) (i + 3) last) (set-get_or words (i + 1) 0)
-    ∙ ap (λ ws. slice_set ws (i + 3) last) (set-get_or words (i + 2) 0)
 
 -- the words of a new block, of which so many nodes have their links
 pub record AreFresh (words : List ℕ) (count n : ℕ) : Type 0 where

@@ -101,16 +101,6 @@ impl Block {
     {
         put_span(&mut self.words, span_place(self.count, place), span);
     }
-
-    /// Gives the span at a place another spare capacity. Nothing else is written there.
-    pub(crate) fn set_spare(&mut self, place: u32, spare: i64)
-        requires { place < length self.old }
-        ensures { self.new
-            ≡ with_span place (record (span_of self.old place) { spare = spare }) self.old }
-    {
-        let last = span_place(self.count, place) + SPAN_WORDS - 1;
-        self.words.put(last, spare.cast_unsigned());
-    }
 }
 
 /// The links of a node in one word.

@@ -20,14 +20,14 @@ pub struct NodeId(pub u32);
 /// given back when it is dropped.
 ///
 /// Beside the nodes it keeps their ids in order, so that a span is found by how many stand before
-/// it. A step is a node that is read or written. Ids are not counted: an insertion looks through
-/// those up to its place, and moves those before it by one place of 4 bytes, or those behind it
-/// where none is free in front. An append moves all of them to the front of their places where none
-/// is free behind.
+/// it. A step is a node that is read or written. Ids are not counted: an insertion moves those
+/// before it by one place of 4 bytes, or those behind it where none is free in front, and looks
+/// through those before it where it is told an id. An append moves all of them to the front of
+/// their places where none is free behind.
 #[derive(Drop)]
 pub struct Chain {
     block: Block,
-    ids: Order,
+    ids: Order<NodeId>,
     /// The first unused place, where there is one.
     free: u32,
     len: u32,
@@ -72,6 +72,7 @@ impl Chain {
     pub fn audit(&self)
         ensures { IsChain self.now.pairs self.now.capacity }
     {
+        // It only tells the prover what the parts of a chain are.
         let _kept = &self.block;
     }
 
@@ -158,20 +159,6 @@ impl Chain {
         self.block.set_span(place, span);
     }
 
-    /// Gives the span of this id another spare capacity. One step.
-    pub fn set_spare<L: Ledger>(&mut self, id: NodeId, spare: i64, steps: &mut Steps<L>)
-        requires { IsListed self.old.pairs id }
-        ensures span { (i : ℕ) (s : Span) → id_at self.old.pairs i ≡ Some id
-            → span_at self.old.pairs i ≡ Some s
-            → self.new.pairs ≡ slice_set self.old.pairs i (id, record s { spare = spare }) }
-        ensures capacity { self.new.capacity ≡ self.old.capacity }
-        ensures one_step { steps.new ≡ steps.old + 1 }
-    {
-        let NodeId(place) = id;
-        steps.tick();
-        self.block.set_spare(place, spare);
-    }
-
     /// Inserts a span before the one of this id, and returns its id, which no span in the chain
     /// had. Three steps.
     pub fn insert_before<L: Ledger>(
@@ -189,11 +176,24 @@ impl Chain {
         ensures three_steps { steps.new ≡ steps.old + 3 }
     {
         let index = self.ids.index_of(id);
-        let NodeId(after) = id;
+        self.insert_at(index as u32, span, steps)
+    }
+
+    /// Inserts a span before the one with so many before it, and returns its id, which no span in
+    /// the chain had. Three steps.
+    pub fn insert_at<L: Ledger>(&mut self, index: u32, span: Span, steps: &mut Steps<L>) -> NodeId
+        requires within { index < length self.old.pairs }
+        requires room { length self.old.pairs < self.old.capacity }
+        ensures span { self.new.pairs ≡ insert self.old.pairs index (result, span) }
+        ensures fresh { IsListed self.old.pairs result → ⊥ }
+        ensures capacity { self.new.capacity ≡ self.old.capacity }
+        ensures three_steps { steps.new ≡ steps.old + 3 }
+    {
+        let NodeId(after) = self.at(index);
         steps.tick();
         let place = self.free;
         self.free = join(&mut self.block, place, after, span, steps);
-        self.ids.insert(index, NodeId(place));
+        self.ids.insert(index as usize, NodeId(place));
         self.len += 1;
         NodeId(place)
     }

@@ -10,9 +10,9 @@
 
 mod block;
 pub mod chain;
-pub mod front;
+mod front;
 mod links;
-mod order;
+pub mod order;
 mod raw;
 mod words;
 

@@ -5,7 +5,7 @@
 ghost use Rattle.std.specs.Prelude.{◌≡◌, ◌≤◌, ◌++◌, ◌∷◌, [], true, codes, length, flat_map, All, IfOk, OnErr, OnOk};
 ghost use Rattle.std.specs.Io.KnownBytes.{Appends};
 ghost use Rattle.slot_core.specs.declared.jobs.Job.{Job};
-ghost use Rattle.slot_core.specs.Runs.Arrivals.{key_in_set};
+ghost use Rattle.slot_core.specs.Runs.Arrivals.{are_fitting, key_in_set};
 ghost use Rattle.slot_core.specs.Calls.Counts.{Rose};
 ghost use Rattle.slot_core.specs.Output.Reports.{check_line, counts_line, job_line, plan_line, show_text, span_line};
 ghost use Rattle.slot_core.specs.Output.Texts.{worded};
@@ -14,8 +14,11 @@ ghost use Rattle.slot_io.specs.Sinks.{AppendsPart};
 ghost use Rattle.margin_find.specs.Texts.{margin_text};
 ghost use Rattle.table_codec.specs.Grammar.{spelling};
 ghost use Rattle.run_outcome.specs.Writings.{IsWriting};
+ghost use Rattle.command_line.specs.Commands.{IsPlanOutputInRange};
 ghost use Rattle.plan_reports.specs.Lines.{verified_line};
+ghost use Rattle.plan_reports.specs.Texts.{plan_text};
 
+use command_line::PlanOutput;
 use cycle_plan::Plan;
 use margin_find::{find_margins, put_margins};
 use run_outcome::Refusal;
@@ -25,8 +28,31 @@ use slot_io::Sink;
 use std::alloc::Global;
 use trace_text::{Line, job_line, span_line};
 
+/// Writes this of the plan, and of these arrivals over so many slots.
+pub fn write_plan<K: Sink>(
+    alloc: Global,
+    output: PlanOutput,
+    slots: u32,
+    plan: &Plan,
+    arrivals: &[Arrival],
+    out: &mut K,
+) -> Result<(), Refusal>
+    requires in_range { IsPlanOutputInRange slots output }
+    requires fitting { are_fitting plan.now.tasks slots arrivals.now ≡ true }
+    ensures { IsWriting K.written K.faults (plan_text output slots plan.now arrivals.now) result
+        out.old out.new }
+{
+    match output {
+        PlanOutput::Counts => check_plan(alloc, plan, out),
+        PlanOutput::Table => write_table(alloc, plan, out),
+        PlanOutput::Listing => show_plan(alloc, plan, out),
+        PlanOutput::Margins => write_margins(alloc, plan, out),
+        PlanOutput::Lines => put_lines(slots, arrivals, out),
+    }
+}
+
 /// Writes the numbers of the plan, in one put.
-pub fn check_plan<K: Sink>(alloc: Global, plan: &Plan, out: &mut K) -> Result<(), Refusal>
+fn check_plan<K: Sink>(alloc: Global, plan: &Plan, out: &mut K) -> Result<(), Refusal>
     ensures { IsWriting K.written K.faults (check_line plan.now.tasks) result out.old out.new }
 {
     let line = check_line(alloc, plan)?;
@@ -56,7 +82,7 @@ fn counts_line(alloc: Global, cycle: u32, jobs: u64, spans: u64) -> Result<Vec<u
 }
 
 /// Writes the table of the plan, in one put.
-pub fn write_table<K: Sink>(alloc: Global, plan: &Plan, out: &mut K) -> Result<(), Refusal>
+fn write_table<K: Sink>(alloc: Global, plan: &Plan, out: &mut K) -> Result<(), Refusal>
     ensures { IsWriting K.written K.faults (spelling plan.now) result out.old out.new }
 {
     let bytes = table_codec::encode(alloc, plan)?;
@@ -66,7 +92,7 @@ pub fn write_table<K: Sink>(alloc: Global, plan: &Plan, out: &mut K) -> Result<(
 
 /// Writes how much each task of the plan may grow, one put a line. All margins are found before the
 /// first put.
-pub fn write_margins<K: Sink>(alloc: Global, plan: &Plan, out: &mut K) -> Result<(), Refusal>
+fn write_margins<K: Sink>(alloc: Global, plan: &Plan, out: &mut K) -> Result<(), Refusal>
     ensures { IsWriting K.written K.faults (margin_text plan.now.tasks) result out.old out.new }
 {
     let margins = find_margins(alloc, plan)?;
@@ -76,7 +102,7 @@ pub fn write_margins<K: Sink>(alloc: Global, plan: &Plan, out: &mut K) -> Result
 
 /// Writes the plan: its numbers, its jobs in deadline order, and its spans, one put a line. It
 /// takes no memory after the first put.
-pub fn show_plan<K: Sink>(alloc: Global, plan: &Plan, out: &mut K) -> Result<(), Refusal>
+fn show_plan<K: Sink>(alloc: Global, plan: &Plan, out: &mut K) -> Result<(), Refusal>
     ensures { IsWriting K.written K.faults (show_text plan.now) result out.old out.new }
 {
     let line = plan_line(alloc, plan)?;
@@ -153,7 +179,7 @@ fn show_spans<K: Sink>(spans: &[Span], out: &mut K) -> Result<(), Failed>
 }
 
 /// Writes how many lines the trace of so many slots and these arrivals has, in one put.
-pub fn put_lines<K: Sink>(slots: u32, arrivals: &[Arrival], out: &mut K) -> Result<(), Refusal>
+fn put_lines<K: Sink>(slots: u32, arrivals: &[Arrival], out: &mut K) -> Result<(), Refusal>
     requires slots { slots ≤ REPLAY_LIMIT }
     requires arrivals { length arrivals.now ≤ ARRIVAL_LIMIT }
     ensures { IsWriting K.written K.faults (verified_line slots (length arrivals.now)) result

@@ -5,7 +5,7 @@ ghost use Rattle.slot_core.specs.declared.jobs.Span.{Span};
 ghost use Rattle.spare_capacity.specs.Examples.{span};
 
 use slot_core::Span;
-use spare_capacity::{available, fill, fill_front, refill_back};
+use spare_capacity::{available, fill, fill_front};
 use std::process::Abort;
 
 /// Three cycles of a set in which every second span lacks two slots, without capacities.
@@ -62,7 +62,7 @@ fn fills_the_front_again(rt: HostRuntime) {
     let mut rows = rows();
     fill(&mut rows);
     rows[1].work = 5;
-    refill_back(&mut rows, 1);
+    fill_front(&mut rows, 2);
     expect_spares(&rt, &rows, [3, 1, 1, -2, 1, -2]);
     rows[0].work = 0;
     fill_front(&mut rows, 1);

@@ -1,31 +1,18 @@
 -- Rows of the jobs of runs, one run more.
-use Rattle.std.proofs.Common.{◌≡◌, ℕ, zero, suc, ◌+◌, ◌<◌, Bool, true, false, ◌&&◌, ◌||◌, not, List, [], ◌∷◌, ◌++◌, length, Option, Some, None, refl, sym, ap, ◌∙◌, inl, inr, arith, cond}
-use Rattle.std.specs.Prelude.{position, slice_get, if◌then◌else◌}
+use Rattle.std.proofs.Common.{◌≡◌, ℕ, suc, ◌<◌, Bool, true, false, not, List, [], ◌∷◌, ◌++◌, length, Option, Some, None, refl, sym, ap, subst, ◌∙◌, inl, inr}
+use Rattle.std.specs.Prelude.{position, slice_get}
 use Rattle.std.specs.List.{list_all, list_any}
 use Rattle.std.specs.List.Sorted.{IsPermutation}
 use Rattle.std.specs.Option.{unwrap_or}
-use Rattle.std.specs.Str.{bytes_eq}
-use Rattle.std.proofs.lemmas.Bool.{and_parts, and_from, cases_Bool, eq-eqb, or_left, or_right, false≢true}
+use Rattle.std.proofs.lemmas.Bool.{and_parts, and_from, cases_Bool, or_left, or_right, false≢true}
 use Rattle.std.proofs.lemmas.List.Folds.{list_any-append, list_all-append}
 use Rattle.std.proofs.lemmas.List.Sorted.{list_any-IsPermutation}
 use Rattle.std.proofs.lemmas.Option.{slice_get_within}
-use Rattle.key_texts.proofs.NameLemmas.{bytes_eq-same}
 use Rattle.key_texts.proofs.PlaceLemmas.{position-Some, position-None}
 use Rattle.trace_lines.specs.declared.line.KeyName.{KeyName}
-use Rattle.trace_lines.specs.declared.line.KeyName.TheVariants.{Offline, Sporadic as SporadicKey, Firm as FirmKey, Soft as SoftKey}
 use Rattle.run_blocks.specs.declared.rows.Row.{Row}
-use Rattle.run_blocks.specs.Rows.{are_run, AreRowsOf, has_row, have_rows, IsOneRowMore, row_at, row_holds, row_of}
-
--- the row that a key asks for holds its job
-row_of-holds : (apart : Bool) (key : KeyName) → row_holds (row_of apart key) key ≡ true
-row_of-holds true (Offline graph task instance) = and_from _ _ (bytes_eq-same graph) (bytes_eq-same task)
-row_of-holds false (Offline graph task instance) = and_from _ _ (bytes_eq-same graph) (bytes_eq-same task)
-row_of-holds true (SporadicKey name row) = bytes_eq-same name
-row_of-holds false (SporadicKey name row) = bytes_eq-same name
-row_of-holds true (FirmKey row) = eq-eqb row row refl
-row_of-holds false (FirmKey row) = refl
-row_of-holds true (SoftKey row) = refl
-row_of-holds false (SoftKey row) = refl
+use Rattle.run_blocks.specs.Rows.{are_run, AreRowsSoFar, has_row, have_rows, IsOneRowMore, may_stand, row_at, row_holds, row_of}
+use Rattle.run_blocks.proofs.DistinctRows.{AreDistinct-more, AreDistinct-none, row_of-holds, row_of-stands}
 
 -- a job that has a row has a place
 pub row_at-within : (rows : List Row) (key : KeyName) → has_row rows key ≡ true → row_at rows key < length rows
@@ -55,8 +42,9 @@ all-permuted p xs ys permuted =
     all-not-any p xs ∙ ap not (list_any-IsPermutation (λ x. not (p x)) xs ys permuted) ∙ sym (all-not-any p ys)
 
 -- rows of no runs
-pub AreRowsOf-none : AreRowsOf [] []
-AreRowsOf-none = record { held = refl; run = refl }
+pub AreRowsSoFar-none : (apart : Bool) → AreRowsSoFar apart [] []
+AreRowsSoFar-none apart =
+    record { kept = record { held = refl; run = refl; distinct = AreDistinct-none }; stand = refl }
 
 -- jobs that have rows have them where each row stays
 held-more : (before after : List Row) (runs : List (ℕ × KeyName)) → ((key : KeyName) → has_row before key ≡ true → has_row after key ≡ true) → have_rows before runs ≡ true → have_rows after runs ≡ true
@@ -74,23 +62,38 @@ run-more (row ∷ rows) runs more run =
     and_from _ _ also (run-more rows runs more rest)
 
 -- one run more, of a job that then has a row
-pub AreRowsOf-more : (apart : Bool) (before after : List Row) (runs : List (ℕ × KeyName)) (time : ℕ) (key : KeyName) → AreRowsOf before runs → IsOneRowMore apart key before after → AreRowsOf after (runs ++ (time, key) ∷ [])
-AreRowsOf-more apart before after runs time key rows more =
+pub AreRowsSoFar-more : (apart : Bool) (before after : List Row) (runs : List (ℕ × KeyName)) (time : ℕ) (key : KeyName) → AreRowsSoFar apart before runs → IsOneRowMore apart key before after → AreRowsSoFar apart after (runs ++ (time, key) ∷ [])
+AreRowsSoFar-more apart before after runs time key rows more =
     elim (cases_Bool (has_row before key)) [
-      | inl there ↦
-          let same : before ≡ after = more.0 there in
-          rw (← same) (record {
-            held = list_all-append (λ (r : ℕ × KeyName). has_row before r.1) runs ((time, key) ∷ []) ∙ rw (rows.held, there) refl;
-            run = run-more before runs ((time, key) ∷ []) rows.run;
-          })
-      | inr new ↦
-          let permuted : IsPermutation (row_of apart key ∷ before) after = more.1 new in
-          let any = λ (k : KeyName). list_any-IsPermutation (λ row. row_holds row k) (row_of apart key ∷ before) after permuted in
-          let own : has_row after key ≡ true = sym (any key) ∙ rw (row_of-holds apart key) refl in
-          let stays = λ (k : KeyName) (held : has_row before k ≡ true). sym (any k) ∙ or_right (row_holds (row_of apart key) k) (has_row before k) held in
-          let mine : list_any (λ (r : ℕ × KeyName). row_holds (row_of apart key) r.1) (runs ++ (time, key) ∷ []) ≡ true = list_any-append (λ (r : ℕ × KeyName). row_holds (row_of apart key) r.1) runs ((time, key) ∷ []) ∙ or_right _ _ (or_left _ _ (row_of-holds apart key)) in
-          record {
-            held = list_all-append (λ (r : ℕ × KeyName). has_row after r.1) runs ((time, key) ∷ []) ∙ rw (held-more before after runs stays rows.held, own) refl;
-            run = sym (all-permuted (λ row. list_any (λ (r : ℕ × KeyName). row_holds row r.1) (runs ++ (time, key) ∷ [])) (row_of apart key ∷ before) after permuted) ∙ and_from _ _ mine (run-more before runs ((time, key) ∷ []) rows.run);
-          }
+      | inl there ↦ there_already before after runs time key rows (more.0 there) there
+      | inr new ↦ newly before after runs time key rows (more.1 new) new
     ]
+  where
+    there_already : (before after : List Row) (runs : List (ℕ × KeyName)) (time : ℕ) (key : KeyName) → AreRowsSoFar apart before runs → before ≡ after → has_row before key ≡ true → AreRowsSoFar apart after (runs ++ (time, key) ∷ [])
+    there_already before after runs time key rows same there =
+        subst
+        (λ rs. AreRowsSoFar apart rs (runs ++ (time, key) ∷ []))
+        same
+        (record {
+          kept = record {
+            held = list_all-append (λ (r : ℕ × KeyName). has_row before r.1) runs ((time, key) ∷ []) ∙ rw (rows.kept.held, there) refl;
+            run = run-more before runs ((time, key) ∷ []) rows.kept.run;
+            distinct = rows.kept.distinct;
+          };
+          stand = rows.stand;
+        })
+
+    newly : (before after : List Row) (runs : List (ℕ × KeyName)) (time : ℕ) (key : KeyName) → AreRowsSoFar apart before runs → IsPermutation (row_of apart key ∷ before) after → has_row before key ≡ false → AreRowsSoFar apart after (runs ++ (time, key) ∷ [])
+    newly before after runs time key rows permuted new =
+        let any = λ (k : KeyName). list_any-IsPermutation (λ row. row_holds row k) (row_of apart key ∷ before) after permuted in
+        let own : has_row after key ≡ true = sym (any key) ∙ rw (row_of-holds apart key) refl in
+        let stays = λ (k : KeyName) (held : has_row before k ≡ true). sym (any k) ∙ or_right (row_holds (row_of apart key) k) (has_row before k) held in
+        let mine : list_any (λ (r : ℕ × KeyName). row_holds (row_of apart key) r.1) (runs ++ (time, key) ∷ []) ≡ true = list_any-append (λ (r : ℕ × KeyName). row_holds (row_of apart key) r.1) runs ((time, key) ∷ []) ∙ or_right _ _ (or_left _ _ (row_of-holds apart key)) in
+        record {
+          kept = record {
+            held = list_all-append (λ (r : ℕ × KeyName). has_row after r.1) runs ((time, key) ∷ []) ∙ rw (held-more before after runs stays rows.kept.held, own) refl;
+            run = sym (all-permuted (λ row. list_any (λ (r : ℕ × KeyName). row_holds row r.1) (runs ++ (time, key) ∷ [])) (row_of apart key ∷ before) after permuted) ∙ and_from _ _ mine (run-more before runs ((time, key) ∷ []) rows.kept.run);
+            distinct = AreDistinct-more apart before after key rows.kept.distinct rows.stand new permuted;
+          };
+          stand = sym (all-permuted (may_stand apart) (row_of apart key ∷ before) after permuted) ∙ and_from _ _ (row_of-stands apart key) rows.stand;
+        }

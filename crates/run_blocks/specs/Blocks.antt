@@ -37,7 +37,8 @@ pub record AreBlocks (rows : List Row) (blocks : List Block) : Type 0 where
   pub apart : AreApart blocks
 
 -- blocks that stand for these runs
-pub record AreBlocksOf (rows : List Row) (blocks : List Block) (runs : List (ℕ × KeyName)) : Type 0 where
+pub record AreBlocksOf (rows : List Row) (blocks : List Block) (runs : List (ℕ × KeyName))
+    : Type 0 where
   pub placed : are_placed rows blocks ≡ true
   pub apart : AreApart blocks
   pub stands : blocks_runs blocks ≡ runs

@@ -1,8 +1,8 @@
 -- Rows of a trace, and the jobs that they hold.
-use Rattle.std.specs.Prelude.{ℕ, ◌≡◌, Bool, true, false, ◌&&◌, ◌==◌, List, ◌∷◌, length, position}
+use Rattle.std.specs.Prelude.{ℕ, ◌≡◌, ◌≤◌, Bool, true, false, ◌&&◌, ◌==◌, List, ◌∷◌, length, position, slice_get, count_by}
 use Rattle.std.specs.List.{list_all, list_any}
 use Rattle.std.specs.List.Sorted.{IsPermutation}
-use Rattle.std.specs.Option.{unwrap_or}
+use Rattle.std.specs.Option.{option_map_or, unwrap_or}
 use Rattle.std.specs.Str.{bytes_eq}
 use Rattle.trace_lines.specs.declared.line.KeyName.{KeyName}
 use Rattle.trace_lines.specs.declared.line.KeyName.TheVariants.{Offline, Sporadic as SporadicKey, Firm as FirmKey, Soft as SoftKey}
@@ -34,6 +34,14 @@ has_row rows key = list_any (λ row. row_holds row key) rows
 abbrev pub row_at : List Row → KeyName → ℕ
 row_at rows key = unwrap_or (position (λ row. row_holds row key) rows) (length rows)
 
+-- the row at a place holds the job
+abbrev pub row_holds_at : List Row → ℕ → KeyName → Bool
+row_holds_at rows place key = option_map_or (λ row. row_holds row key) (slice_get rows place) false
+
+-- no job has two rows
+abbrev pub AreDistinct : List Row → Type 0
+AreDistinct rows = (key : KeyName) → count_by (λ row. row_holds row key) rows ≤ 1
+
 -- the job of each run has a row
 abbrev pub have_rows : List Row → List (ℕ × KeyName) → Bool
 have_rows rows runs = list_all (λ (run : ℕ × KeyName). has_row rows run.1) runs
@@ -43,10 +51,26 @@ abbrev pub are_run : List Row → List (ℕ × KeyName) → Bool
 are_run rows runs =
     list_all (λ row. list_any (λ (run : ℕ × KeyName). row_holds row run.1) runs) rows
 
--- rows of the jobs of these runs
+-- rows of the jobs of these runs, one for each
 pub record AreRowsOf (rows : List Row) (runs : List (ℕ × KeyName)) : Type 0 where
   pub held : have_rows rows runs ≡ true
   pub run : are_run rows runs ≡ true
+  pub distinct : AreDistinct rows
+
+-- the row may stand where firm jobs have rows of their own, or where one row is for all of them
+abbrev pub may_stand : Bool → Row → Bool
+may_stand true Firm = false
+may_stand false (FirmJob row) = false
+may_stand apart row = true
+
+-- each row may
+abbrev pub may_all_stand : Bool → List Row → Bool
+may_all_stand apart rows = list_all (may_stand apart) rows
+
+-- rows of the jobs of the runs so far
+pub record AreRowsSoFar (apart : Bool) (rows : List Row) (runs : List (ℕ × KeyName)) : Type 0 where
+  pub kept : AreRowsOf rows runs
+  pub stand : may_all_stand apart rows ≡ true
 
 -- the rows stay where one holds the job of the key, and else its row stands among them too
 abbrev pub IsOneRowMore : Bool → KeyName → List Row → List Row → Type 0

@@ -3,7 +3,7 @@
 ghost use Rattle.std.specs.Prelude.{◌≡◌, ◌<◌, ◌≤◌, ℕ, List, [], ◌∷◌, ◌++◌, true, IfOk, OnOk, length, position};
 ghost use Rattle.trace_lines.specs.Traces.{run_at, runs_of};
 ghost use Rattle.trace_lines.specs.declared.line.KeyName.{KeyName};
-ghost use Rattle.run_blocks.specs.Rows.{are_run, AreRowsOf, has_row, have_rows, IsOneRowMore, row_at, row_holds, row_of};
+ghost use Rattle.run_blocks.specs.Rows.{are_run, AreDistinct, AreRowsOf, AreRowsSoFar, has_row, have_rows, IsOneRowMore, row_at, row_holds, row_of};
 
 use crate::FIRM_ROW_LIMIT;
 use slot_core::{Memory, Name};
@@ -67,6 +67,7 @@ impl Row {
 pub fn rows_of(alloc: Global, lines: &[TraceLine]) -> Result<Vec<Row>, Memory>
     ensures held { IfOk result (λ rows. have_rows rows.items (runs_of lines.now) ≡ true) }
     ensures run { IfOk result (λ rows. are_run rows.items (runs_of lines.now) ≡ true) }
+    ensures distinct { IfOk result (λ rows. AreDistinct rows.items) }
 {
     let apart = has_few_firm_jobs(alloc, lines)?;
     let mut rows = Vec::new(alloc);
@@ -87,8 +88,8 @@ fn push_rows(rows: &mut Vec<Row>, lines: &[TraceLine], apart: bool) -> Result<()
 
 /// Sees that the job that the line runs, if it runs one, has a row.
 fn push_row_of(rows: &mut Vec<Row>, line: &TraceLine, apart: bool) -> Result<(), Memory>
-    ensures { OnOk result ((runs : List (ℕ × KeyName)) → AreRowsOf rows.old.items runs
-        → AreRowsOf rows.new.items (runs ++ run_at line.now.time line.now.words)) }
+    ensures { OnOk result ((runs : List (ℕ × KeyName)) → AreRowsSoFar apart rows.old.items runs
+        → AreRowsSoFar apart rows.new.items (runs ++ run_at line.now.time line.now.words)) }
 {
     match &line.words {
         Words::Run(key) => push_row(rows, key, apart),

@@ -116,21 +116,6 @@ reason_of words (NoChange e) =
 reason_of words WriteFault = codes "cannot write"
 reason_of words Memory = codes "out of memory"
 
--- what a file is
-abbrev pub file_text : File → List ℕ
-file_text Tasks = codes "task file"
-file_text Table = codes "table file"
-file_text Second = codes "second task file"
-file_text Arrivals = codes "arrivals file"
-file_text Trace = codes "trace file"
-
--- the reason in short, where the words are not known: a file is told by what it is
-abbrev pub refusal_text : Refusal → List ℕ
-refusal_text (Unreadable file) = codes "cannot read " ++ file_text file
-refusal_text (TooLarge file) = codes "too large " ++ worded (file_text file) (limit_of file)
-refusal_text (NotVerified reason) = codes "trace not verified"
-refusal_text refusal = reason_of [] refusal
-
 -- the line of a refusal
 abbrev pub refusal_line : List (List ℕ) → Refusal → List ℕ
 refusal_line words refusal = reason_of words refusal ++ 10 ∷ []

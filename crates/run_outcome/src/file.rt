@@ -4,13 +4,12 @@ ghost use Rattle.std.specs.Prelude.{◌≡◌, ◌≤◌};
 ghost use Rattle.run_outcome.specs.Refusals.{arrivals_place, word_at, name_of, limit_of};
 
 use slot_core::{ARRIVALS_FILE_LIMIT, READ_LIMIT, TABLE_FILE_LIMIT, TASK_FILE_LIMIT, Words};
-use std::fmt;
 
 /// How many words ask for a change of plan, which names a second task file.
 pub const CHANGE_WORDS: usize = 6;
 
 /// A file of the command line.
-#[derive(Clone, Copy, PartialEq, Eq, Debug)]
+#[derive(Clone, Copy)]
 pub enum File {
     /// The task file, the second word.
     Tasks,
@@ -22,23 +21,6 @@ pub enum File {
     Arrivals,
     /// The file of a recorded trace, the fourth word.
     Trace,
-}
-
-impl fmt::Display for File {
-    ghost use Rattle.std.specs.Prelude.{Some};
-    ghost use Rattle.run_outcome.specs.Refusals.{file_text};
-
-    ghost output = { λ file. Some (file_text file) };
-
-    fn fmt<W: fmt::Write>(&self, f: &mut fmt::Formatter<W>) -> fmt::Result {
-        match self {
-            File::Tasks => write!(f, "task file"),
-            File::Table => write!(f, "table file"),
-            File::Second => write!(f, "second task file"),
-            File::Arrivals => write!(f, "arrivals file"),
-            File::Trace => write!(f, "trace file"),
-        }
-    }
 }
 
 impl File {

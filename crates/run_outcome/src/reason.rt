@@ -10,7 +10,7 @@ use std::marker::Model;
 pub const REASON_LIMIT: usize = 192;
 
 /// A text of at most `REASON_LIMIT` bytes, which contracts see as a list. It takes no memory.
-#[derive(Debug, Drop)]
+#[derive(Drop)]
 pub struct Reason {
     text: ArrayVec<u8, REASON_LIMIT>,
 }

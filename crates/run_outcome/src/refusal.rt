@@ -7,12 +7,10 @@ ghost use Rattle.run_outcome.specs.declared.refusal.Refusal.TheVariants.{WriteFa
 use crate::{File, Reason, Status};
 use arrival_csv::ArrivalFault;
 use slot_core::{Evidence, Failed, Memory, TaskFault, Window};
-use std::error::Error;
-use std::fmt;
 use table_faults::TableFault;
 
 /// Why a run is not done, with the values that its line on standard error tells.
-#[derive(Debug, Drop)]
+#[derive(Drop)]
 pub enum Refusal {
     /// The words are none of the forms.
     Usage,
@@ -69,42 +67,6 @@ impl Refusal {
         }
     }
 }
-
-impl fmt::Display for Refusal {
-    ghost use Rattle.std.specs.Prelude.{Some};
-    ghost use Rattle.run_outcome.specs.Refusals.{refusal_text};
-
-    ghost output = { λ refusal. Some (refusal_text refusal) };
-
-    fn fmt<W: fmt::Write>(&self, f: &mut fmt::Formatter<W>) -> fmt::Result {
-        match self {
-            Refusal::Usage => write!(
-                f,
-                "usage: slotshift check T, table T, show B, replay T A N, \
-                 replay-table B A N, gantt T A N, selfrun N, migrate B, verify T A X N, \
-                 explain T A N R, switch T U A N C, margin T"
-            ),
-            Refusal::Unreadable(file) => write!(f, "cannot read {file}"),
-            Refusal::TooLarge(file) => write!(f, "too large {file} {}", file.limit()),
-            Refusal::BadTasks(fault) => write!(f, "tasks {fault}"),
-            Refusal::Infeasible(w) => write!(f, "infeasible {} {} {}", w.from, w.until, w.demand),
-            Refusal::BadTable(fault) => write!(f, "table {fault}"),
-            Refusal::BadArrivals(fault) => write!(f, "arrivals {fault}"),
-            Refusal::NotVerified(_) => write!(f, "trace not verified"),
-            Refusal::BadSecond(fault) => write!(f, "tasks {fault}"),
-            Refusal::SecondInfeasible(w) => {
-                write!(f, "infeasible {} {} {}", w.from, w.until, w.demand)
-            }
-            Refusal::NoRow(row) => write!(f, "no row {row}"),
-            Refusal::NotCycleEnd(cycle) => write!(f, "switch not at cycle end {cycle}"),
-            Refusal::NoChange(e) => write!(f, "switch noroom {} {} {}", e.until, e.need, e.room),
-            Refusal::WriteFault => write!(f, "cannot write"),
-            Refusal::Memory => write!(f, "out of memory"),
-        }
-    }
-}
-
-impl Error for Refusal {}
 
 impl From<Memory> for Refusal {
     ghost from_gives = { λ _ refusal. refusal ≡ MemoryRefusal };

@@ -1,6 +1,6 @@
 //! The line that tells why a run is refused.
 
-ghost use Rattle.std.specs.Prelude.{◌≡◌, ◌++◌, ℕ, List, false, IfOk, IfSome, OnOk, codes, is_some, string_bytes};
+ghost use Rattle.std.specs.Prelude.{◌≡◌, ◌++◌, ℕ, List, false, IfOk, IfSome, OnOk, codes, is_some};
 ghost use Rattle.slot_core.specs.Output.FaultTexts.{task_fault_text};
 ghost use Rattle.slot_core.specs.Output.Texts.{worded};
 ghost use Rattle.arrival_csv.specs.FaultTexts.{arrival_fault_text};
@@ -143,8 +143,8 @@ fn push_bad_tasks(alloc: Global, line: &mut Vec<u8>, fault: TaskFault) -> Result
     ensures { OnOk result
         (line.new.items ≡ line.old.items ++ (codes "tasks " ++ task_fault_text fault)) }
 {
-    let words = task_fault_words(alloc, fault)?;
-    push_both(line, b"tasks ", words.as_bytes())
+    let words = format!(in alloc; "tasks {fault}")?;
+    push(line, words.as_bytes())
 }
 
 /// Appends what is wrong with the table file.
@@ -152,8 +152,8 @@ fn push_bad_table(alloc: Global, line: &mut Vec<u8>, fault: TableFault) -> Resul
     ensures { OnOk result
         (line.new.items ≡ line.old.items ++ (codes "table " ++ table_fault_text fault)) }
 {
-    let words = table_fault_words(alloc, fault)?;
-    push_both(line, b"table ", words.as_bytes())
+    let words = format!(in alloc; "table {fault}")?;
+    push(line, words.as_bytes())
 }
 
 /// Appends what is wrong with the arrivals file.
@@ -161,30 +161,6 @@ fn push_bad_arrivals(alloc: Global, line: &mut Vec<u8>, fault: ArrivalFault) -> 
     ensures { OnOk result
         (line.new.items ≡ line.old.items ++ (codes "arrivals " ++ arrival_fault_text fault)) }
 {
-    let words = arrival_fault_words(alloc, fault)?;
-    push_both(line, b"arrivals ", words.as_bytes())
-}
-
-/// The words of a fault of a task file.
-fn task_fault_words(alloc: Global, fault: TaskFault) -> Result<String, Memory>
-    ensures { IfOk result (λ words. string_bytes words ≡ task_fault_text fault) }
-{
-    let words = format!(in alloc; "{fault}")?;
-    Ok(words)
-}
-
-/// The words of a fault of a table file.
-fn table_fault_words(alloc: Global, fault: TableFault) -> Result<String, Memory>
-    ensures { IfOk result (λ words. string_bytes words ≡ table_fault_text fault) }
-{
-    let words = format!(in alloc; "{fault}")?;
-    Ok(words)
-}
-
-/// The words of a fault of an arrivals file.
-fn arrival_fault_words(alloc: Global, fault: ArrivalFault) -> Result<String, Memory>
-    ensures { IfOk result (λ words. string_bytes words ≡ arrival_fault_text fault) }
-{
-    let words = format!(in alloc; "{fault}")?;
-    Ok(words)
+    let words = format!(in alloc; "arrivals {fault}")?;
+    push(line, words.as_bytes())
 }

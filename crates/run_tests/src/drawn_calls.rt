@@ -30,12 +30,18 @@ fn drawn_calls<R: Abort, L: Ledger>(rt: &R, alloc: Global, blank: Blank) -> Resu
     let mut steps: Steps<L> = Steps::new(blank);
     let mut table = RowTable::with_room(alloc, &cycle, 3, ROOM)?;
     let mut chain = ChainTable::with_room(alloc, &cycle, 3, ROOM)?;
+    let mut list = Vec::new(alloc);
+    for copy in 0..3 {
+        append(&mut list, 10 * copy)?;
+    }
     let mut word: u64 = 1;
     for _call in 0..3000 {
         word = word.wrapping_mul(6_364_136_223_846_793_005).wrapping_add(1);
         call(&mut table, word >> 32, &mut steps);
         call(&mut chain, word >> 32, &mut steps);
+        plain_call(&mut list, word >> 32)?;
         expect_alike(rt, alloc, &table, &chain, &mut steps)?;
+        expect_listed(rt, alloc, &table, list.as_slice(), &mut steps)?;
     }
     Ok(())
 }
@@ -103,6 +109,108 @@ fn change_work<T: SpareTable, L: Ledger>(
         table.charge(row.end, slots, steps);
     } else if !more && u64::from(slots) <= row.work {
         table.give_back(row.end, slots, steps);
+    }
+}
+
+/// The same call on a plain list of spans, whose capacities are left out.
+fn plain_call(list: &mut Vec<Span>, word: u64) -> Result<(), Memory> {
+    let time = list.first().map_or(0, |row| row.start);
+    let end = list.last().map_or(0, |row| row.end);
+    let free = list.len() <= ROOM as usize - 2;
+    let amount = (word / 8 % 64) as u32;
+    match word % 8 {
+        0 => plain_work(list, amount, true),
+        1 => plain_work(list, amount, false),
+        2 | 3 => {
+            let at = time.saturating_add(u64::from(amount));
+            if free && time < at && at <= end {
+                plain_split(list, at)?;
+            }
+        }
+        4 => {
+            if free && end <= 1_000_000 {
+                append(list, end)?;
+            }
+        }
+        _ => {
+            if time < end && 1 < end - time {
+                plain_pass(list);
+            }
+        }
+    }
+    Ok(())
+}
+
+fn plain_work(list: &mut [Span], amount: u32, more: bool) {
+    if list.is_empty() {
+        return;
+    }
+    let place = amount as usize % list.len();
+    let slots = u64::from(amount % 8);
+    let work = list[place].work;
+    if more && work <= 1_000_000 {
+        list[place].work = work + slots;
+    } else if !more && slots <= work {
+        list[place].work = work - slots;
+    }
+}
+
+fn plain_split(list: &mut Vec<Span>, at: u64) -> Result<(), Memory> {
+    for place in 0..list.len() {
+        let row = list[place];
+        if row.start < at && at < row.end {
+            list[place].start = at;
+            list.insert(
+                place,
+                Span {
+                    end: at,
+                    work: 0,
+                    ..row
+                },
+            )?;
+            return Ok(());
+        }
+    }
+    Ok(())
+}
+
+fn plain_pass(list: &mut Vec<Span>) {
+    if list.is_empty() {
+        return;
+    }
+    let start = list[0].start.saturating_add(1);
+    if start == list[0].end {
+        let _passed = list.remove(0);
+    } else {
+        list[0].start = start;
+    }
+}
+
+/// Appends the cycle, so many slots later.
+fn append(list: &mut Vec<Span>, by: u64) -> Result<(), Memory> {
+    list.push(span(by, by.saturating_add(4), 1, 0))?;
+    list.push(span(by.saturating_add(4), by.saturating_add(10), 8, 0))?;
+    Ok(())
+}
+
+/// The spans of the table are those of the list, but for their capacities.
+fn expect_listed<R: Abort, L: Ledger>(
+    rt: &R,
+    alloc: Global,
+    table: &RowTable,
+    list: &[Span],
+    steps: &mut Steps<L>,
+) -> Result<(), Memory> {
+    let mut rows = spans(alloc, table, steps)?;
+    leave_capacities_out(&mut rows);
+    assert!(rt; rows.as_slice() == list);
+    Ok(())
+}
+
+/// Leaves the capacities out.
+fn leave_capacities_out(rows: &mut [Span]) {
+    for i in 0..rows.len() {
+        rows[i].spare = 0;
     }
 }
 

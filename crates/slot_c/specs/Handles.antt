@@ -7,13 +7,18 @@ use Rattle.std.specs.Box.Ownership.{box_owns}
 use Rattle.std.specs.Global.{Global}
 use Rattle.std.specs.contracts.impls.GlobalAllocator.TheImpl.{ghosts as heap_ghosts}
 use Rattle.slot_core.specs.Keeping.Executives.{Executive}
-use Rattle.interval_row.specs.contracts.chain_table.ChainTable.{the_row as table_row}
-use Rattle.interval_row.specs.contracts.chain_table.ChainTableSpareTable.TheImpl.{ghosts as table_ghosts}
+use Rattle.node_chain.specs.contracts.chain.Chain.{the_row as chain_row}
+use Rattle.interval_row.specs.contracts.store.ChainStore.TheImpl.{ghosts as chain_ghosts}
+use Rattle.interval_row.specs.contracts.span_table.Table.{the_row as table_row}
+use Rattle.interval_row.specs.contracts.span_table.TableSpareTable.TheImpl.{ghosts as table_ghosts, no_dict}
 use Rattle.slot_exec.specs.contracts.exec.Exec.{the_row as exec_row}
 
--- an executive over the chain
+-- a table over the chain, and an executive over that
+abbrev pub table : RattleType
+table = table_row chain_row chain_ghosts
+
 abbrev pub row : RattleType
-row = exec_row table_row table_ghosts
+row = exec_row table (table_ghosts chain_row chain_ghosts no_dict no_dict)
 
 -- where one is there, what a box of it owns at this place; else nothing
 abbrev pub owned_where : Bool → Global → Ptr → Executive → Fml

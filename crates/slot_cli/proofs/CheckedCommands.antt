@@ -1,5 +1,5 @@
 -- What is asked of the arrivals holds where they are written.
-use Rattle.std.proofs.Common.{◌≡◌, ℕ, ◌≤◌, List, length, refl, subst}
+use Rattle.std.proofs.Common.{◌≡◌, ℕ, List, refl, subst}
 use Rattle.std.specs.Prelude.{⊤}
 use Rattle.slot_core.specs.declared.events.Arrival.{Arrival}
 use Rattle.slot_core.specs.Keeping.Plans.{PlanParts}
@@ -7,21 +7,18 @@ use Rattle.command_line.specs.declared.Check.{Check}
 use Rattle.command_line.specs.declared.Check.TheVariants.{HasRow, AtCycleEnd}
 use Rattle.command_line.specs.declared.Command.{Command}
 use Rattle.command_line.specs.declared.Output.{Output}
-use Rattle.command_line.specs.declared.Output.TheVariants.{Counts, Table, Listing, Margins, Trace, Chart, Lines, Tally, Explanation, Change}
+use Rattle.command_line.specs.declared.Output.TheVariants.{OfPlan, OfRun, Change}
+use Rattle.command_line.specs.declared.RunOutput.TheVariants.{Trace, Chart, Tally, Explanation}
 use Rattle.command_line.specs.Commands.{slots_of, IsInRange}
 use Rattle.run_steps.specs.Steps.{IsChecked}
 use Rattle.slot_cli.specs.Due.{MayBeWritten}
 
-may_be_written : (output : Output) (check : Check) (slots : ℕ) (plan : PlanParts) (arrivals : List Arrival) → ((row : ℕ) → output ≡ Explanation row → check ≡ HasRow row) → ((n : ℕ) → output ≡ Change n → check ≡ AtCycleEnd) → IsChecked check slots plan arrivals → MayBeWritten output slots plan arrivals
-may_be_written Counts check slots plan arrivals row turn checked = tt
-may_be_written Table check slots plan arrivals row turn checked = tt
-may_be_written Listing check slots plan arrivals row turn checked = tt
-may_be_written Margins check slots plan arrivals row turn checked = tt
-may_be_written Trace check slots plan arrivals row turn checked = tt
-may_be_written Chart check slots plan arrivals row turn checked = tt
-may_be_written Lines check slots plan arrivals row turn checked = tt
-may_be_written (Tally n) check slots plan arrivals row turn checked = tt
-may_be_written (Explanation r) check slots plan arrivals row turn checked =
+may_be_written : (output : Output) (check : Check) (slots : ℕ) (plan : PlanParts) (arrivals : List Arrival) → ((row : ℕ) → output ≡ OfRun (Explanation row) → check ≡ HasRow row) → ((n : ℕ) → output ≡ Change n → check ≡ AtCycleEnd) → IsChecked check slots plan arrivals → MayBeWritten output slots plan arrivals
+may_be_written (OfPlan output) check slots plan arrivals row turn checked = tt
+may_be_written (OfRun Trace) check slots plan arrivals row turn checked = tt
+may_be_written (OfRun Chart) check slots plan arrivals row turn checked = tt
+may_be_written (OfRun (Tally n)) check slots plan arrivals row turn checked = tt
+may_be_written (OfRun (Explanation r)) check slots plan arrivals row turn checked =
     subst (λ (c : Check). IsChecked c slots plan arrivals) (row r refl) checked
 may_be_written (Change n) check slots plan arrivals row turn checked =
     subst (λ (c : Check). IsChecked c slots plan arrivals) (turn n refl) checked

@@ -1,16 +1,12 @@
 pub mod ChangedRuns
 pub mod CheckedCommands
-pub mod ExplainedRows
-pub mod Explanations
 pub mod InfeasibleRuns
-pub mod PartLemmas
 pub mod PrintedRuns
 pub mod RunPlans
 pub mod ServedRuns
 pub mod StatusLemmas
 pub mod TableReplays
 pub mod TextStages
-pub mod TraceLines
 pub mod VerdictLemmas
 pub mod VerifiedRuns
 pub mod WorkLemmas

@@ -20,7 +20,8 @@ use Rattle.run_outcome.specs.declared.refusal.Refusal.TheVariants.{Unreadable, T
 use Rattle.run_outcome.specs.Refusals.{Outcome, limit_of}
 use Rattle.command_line.specs.declared.Arrivals.TheVariants.{Recorded}
 use Rattle.command_line.specs.declared.Command.{Command}
-use Rattle.command_line.specs.declared.Output.TheVariants.{Trace}
+use Rattle.command_line.specs.declared.Output.TheVariants.{OfRun}
+use Rattle.command_line.specs.declared.RunOutput.TheVariants.{Trace}
 use Rattle.command_line.specs.declared.Check.TheVariants.{Unchecked}
 use Rattle.command_line.specs.declared.Second.TheVariants.{Unread}
 use Rattle.command_line.specs.declared.Source.{Source}
@@ -50,7 +51,7 @@ words_of_replay_table = words_of (codes "replay-table")
 -- the command that writes the trace of so many slots with recorded arrivals
 abbrev trace_of : Source → ℕ → Command
 trace_of source slots =
-    record { source = source; second = Unread; arrivals = Recorded slots; check = Unchecked; output = Trace }
+    record { source = source; second = Unread; arrivals = Recorded slots; check = Unchecked; output = OfRun Trace }
 
 -- what a table is written of
 written-of : (made : Outcome PlanParts) (bytes : List ℕ) → (made >>= (λ plan. let o : Outcome Writing = Ok (in_whole (spelling plan)) in o) >>= whole_of) ≡ Ok bytes → (plan : PlanParts) × (made ≡ Ok plan) × (bytes ≡ spelling plan)

@@ -34,7 +34,9 @@ use Rattle.command_line.specs.declared.Arrivals.TheVariants.{Recorded}
 use Rattle.command_line.specs.declared.Check.{Check}
 use Rattle.command_line.specs.declared.Check.TheVariants.{Unchecked, Verified}
 use Rattle.command_line.specs.declared.Command.{Command}
-use Rattle.command_line.specs.declared.Output.TheVariants.{Lines, Trace}
+use Rattle.command_line.specs.declared.Output.TheVariants.{OfPlan, OfRun}
+use Rattle.command_line.specs.declared.PlanOutput.TheVariants.{Lines}
+use Rattle.command_line.specs.declared.RunOutput.TheVariants.{Trace}
 use Rattle.command_line.specs.declared.Second.TheVariants.{Unread}
 use Rattle.command_line.specs.declared.Source.TheVariants.{Tasks}
 use Rattle.command_line.specs.Commands.{command_of, number_up_to, of_trace, over_slots, slots_of}
@@ -111,11 +113,11 @@ words_of_verify t a x n = codes "verify" ∷ t ∷ a ∷ x ∷ n ∷ []
 -- the command that replays so many slots, and the one that verifies their trace
 abbrev replay_of : ℕ → Command
 replay_of slots =
-    record { source = Tasks; second = Unread; arrivals = Recorded slots; check = Unchecked; output = Trace }
+    record { source = Tasks; second = Unread; arrivals = Recorded slots; check = Unchecked; output = OfRun Trace }
 
 abbrev verify_of : ℕ → Command
 verify_of slots =
-    record { source = Tasks; second = Unread; arrivals = Recorded slots; check = Verified; output = Lines }
+    record { source = Tasks; second = Unread; arrivals = Recorded slots; check = Verified; output = OfPlan Lines }
 
 -- what a replay is due is the text of the trace of a plan and arrivals
 pub record IsReplayed (held : Held) (words : List (List ℕ)) (slots : ℕ) (text : List ℕ) : Type 0 where

@@ -196,25 +196,6 @@ in_parts_not_whole : (parts : Bool) → parts ≡ true → not parts ≡ true �
 in_parts_not_whole true is whole = cc
 in_parts_not_whole false is whole = cc
 
--- a text that is written whole is a writing of both parts
-pub parts-of_whole : {T X : Type 0} (written : T → Option (List ℕ)) (failed : T → ℕ) (parts : Bool) (text : List ℕ) (result : Outcome X) (before after : T) → IsWriting written failed text result before after → IsPartWriting written failed parts (in_whole text) result before after
-parts-of_whole written failed parts text (Ok done) before after writing = (text, refl, writing)
-parts-of_whole written failed parts text (Err WriteFault) before after writing = writing
-parts-of_whole written failed parts text (Err Memory) before after writing = inl writing
-parts-of_whole written failed parts text (Err (NoChange e)) before after writing = absurd writing
-parts-of_whole written failed parts text (Err Usage) before after writing = absurd writing
-parts-of_whole written failed parts text (Err (Unreadable file)) before after writing = absurd writing
-parts-of_whole written failed parts text (Err (TooLarge file)) before after writing = absurd writing
-parts-of_whole written failed parts text (Err (BadTasks fault)) before after writing = absurd writing
-parts-of_whole written failed parts text (Err (Infeasible window)) before after writing = absurd writing
-parts-of_whole written failed parts text (Err (BadTable fault)) before after writing = absurd writing
-parts-of_whole written failed parts text (Err (BadArrivals fault)) before after writing = absurd writing
-parts-of_whole written failed parts text (Err (NotVerified reason)) before after writing = absurd writing
-parts-of_whole written failed parts text (Err (BadSecond fault)) before after writing = absurd writing
-parts-of_whole written failed parts text (Err (SecondInfeasible window)) before after writing = absurd writing
-parts-of_whole written failed parts text (Err (NoRow row)) before after writing = absurd writing
-parts-of_whole written failed parts text (Err (NotCycleEnd cycle)) before after writing = absurd writing
-
 -- where what is due is written the work ends so
 pub work-writing : {S T X : Type 0} (held : S → Option Held) (faults : S → ℕ) (blamed : S → Option (List ℕ)) (written : T → Option (List ℕ)) (failed : T → ℕ) (old new : S) (out_old out_new : T) (words : List (List ℕ)) (command : Command) (w : Writing) (result : Outcome X) → ((files : Held) → held old ≡ Some files → writing_of files words command ≡ Ok w) → IsPartWriting written failed (writes_in_parts command.output) w result out_old out_new → faults new ≡ faults old → IsWork held faults blamed written failed old new out_old out_new words (Some command) result
 work-writing {X = X} held faults blamed written failed old new out_old out_new words command w (Ok done) due (rest, is_rest, put) same =

@@ -1,28 +1,22 @@
 -- What is due of a run, where the files tell what they hold.
-use Rattle.std.specs.Prelude.{◌≡◌, ℕ, ◌%◌, ◌≤◌, List, [], length, Option, None, Some, Ok, Err, ⊤}
+use Rattle.std.specs.Prelude.{◌≡◌, ℕ, ◌%◌, List, [], Option, None, Some, Ok, Err, ⊤}
 use Rattle.std.specs.Option.{option_map_or}
 use Rattle.slot_core.specs.Calls.Results.{◌>>=◌}
 use Rattle.slot_core.specs.declared.events.Arrival.{Arrival}
 use Rattle.slot_core.specs.declared.tasks.TaskSet.{TaskSet}
-use Rattle.slot_core.specs.Output.Charts.{chart_text, tally_text}
 use Rattle.slot_core.specs.Keeping.Plans.{PlanParts}
-use Rattle.slot_core.specs.Output.Reports.{check_line, show_text}
-use Rattle.slot_core.specs.Output.Texts.{trace_text}
-use Rattle.slot_core.specs.Runs.Traces.{trace}
 use Rattle.slot_io.specs.Files.{Held}
-use Rattle.margin_find.specs.Texts.{margin_text}
-use Rattle.table_codec.specs.Grammar.{spelling}
 use Rattle.run_outcome.specs.declared.refusal.Refusal.TheVariants.{Usage}
 use Rattle.run_outcome.specs.Refusals.{Outcome}
 use Rattle.run_outcome.specs.Writings.{Writing, in_whole, whole_of}
 use Rattle.command_line.specs.declared.Command.{Command}
 use Rattle.command_line.specs.declared.Output.{Output}
-use Rattle.command_line.specs.declared.Output.TheVariants.{Counts, Table, Listing, Margins, Trace, Chart, Lines, Tally, Explanation, Change}
+use Rattle.command_line.specs.declared.Output.TheVariants.{OfPlan, OfRun, Change}
 use Rattle.command_line.specs.Commands.{command_of, slots_of}
-use Rattle.plan_reports.specs.Lines.{verified_line}
+use Rattle.plan_reports.specs.Texts.{plan_text}
+use Rattle.run_reports.specs.Texts.{run_writing, HasRow}
 use Rattle.run_steps.specs.Readings.{plan_from, second_from, arrivals_from, check_from}
 use Rattle.slot_cli.specs.Changed.{changed}
-use Rattle.slot_cli.specs.Explained.{explained}
 
 -- the arrivals of a command
 abbrev pub arrivals_for : Held → List (List ℕ) → Command → TaskSet → Outcome (List Arrival)
@@ -35,26 +29,17 @@ check_for held words command plan arrivals =
 
 -- what an output writes, of a plan, a second one and arrivals over so many slots
 abbrev pub output_due : Output → ℕ → PlanParts → Option PlanParts → List Arrival → Writing
-output_due Counts slots plan second arrivals = in_whole (check_line plan.tasks)
-output_due Table slots plan second arrivals = in_whole (spelling plan)
-output_due Listing slots plan second arrivals = in_whole (show_text plan)
-output_due Margins slots plan second arrivals = in_whole (margin_text plan.tasks)
-output_due Trace slots plan second arrivals =
-    in_whole (trace_text plan.tasks (trace plan.tasks arrivals slots))
-output_due Chart slots plan second arrivals =
-    in_whole (chart_text plan.tasks slots (trace plan.tasks arrivals slots))
-output_due Lines slots plan second arrivals = in_whole (verified_line slots (length arrivals))
-output_due (Tally n) slots plan second arrivals =
-    in_whole (tally_text n slots (trace plan.tasks arrivals slots))
-output_due (Explanation row) slots plan second arrivals = explained plan arrivals slots row
+output_due (OfPlan output) slots plan second arrivals =
+    in_whole (plan_text output slots plan arrivals)
+output_due (OfRun output) slots plan second arrivals = run_writing output slots plan arrivals
 output_due (Change n) slots plan second arrivals =
     option_map_or (λ other. changed plan other arrivals slots n) second (in_whole [])
 
 -- what is asked of the arrivals before an output is written of them
 abbrev pub MayBeWritten : Output → ℕ → PlanParts → List Arrival → Type 0
-MayBeWritten (Explanation row) slots plan arrivals = row ≤ length arrivals
+MayBeWritten (OfPlan output) slots plan arrivals = ⊤
+MayBeWritten (OfRun output) slots plan arrivals = HasRow output arrivals
 MayBeWritten (Change n) slots plan arrivals = slots % plan.cycle ≡ 0
-MayBeWritten _ slots plan arrivals = ⊤
 
 -- what a command writes of them
 abbrev pub writing_from : Command → PlanParts → Option PlanParts → List Arrival → Writing

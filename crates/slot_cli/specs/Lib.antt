@@ -1,6 +1,5 @@
 pub mod Changed
 pub mod Due
-pub mod Explained
 pub mod Printed
 pub mod Recordings
 pub mod Runs

@@ -10,12 +10,13 @@ use Rattle.slot_core.specs.Claims.Service.{IsServed, IsOrdered}
 use Rattle.slot_core.specs.Runs.Traces.{trace, history_of}
 use Rattle.slot_io.specs.Files.{Held}
 use Rattle.command_line.specs.declared.Command.{Command}
-use Rattle.command_line.specs.declared.Output.TheVariants.{Change, Explanation}
+use Rattle.command_line.specs.declared.Output.TheVariants.{OfRun, Change}
+use Rattle.command_line.specs.declared.RunOutput.TheVariants.{Explanation}
 use Rattle.command_line.specs.Commands.{command_of, slots_of}
 use Rattle.run_outcome.specs.Writings.{whole_of}
 use Rattle.run_steps.specs.Readings.{second_from}
 use Rattle.slot_cli.specs.Changed.{IsGranted}
-use Rattle.slot_cli.specs.Explained.{RowShowsWhy}
+use Rattle.run_reports.specs.Explained.{RowShowsWhy}
 use Rattle.slot_cli.specs.Due.{arrivals_for, plan_of_run, writing_from}
 
 -- the history that the trace of a command tells
@@ -56,7 +57,7 @@ pub record IsPrinted (words : List (List ℕ)) (held : Held) (before after : Opt
     pub offers : OffersAreExact plan.tasks plan.cycle (told_by command plan arrivals)
     -- where a row is explained, what is shown against its offer adds up and refuses it
     pub explains :
-        (row : ℕ) → command.output ≡ Explanation row
+        (row : ℕ) → command.output ≡ OfRun (Explanation row)
         → RowShowsWhy plan arrivals (slots_of command) row
     -- where the plan is changed, there is a second one, the change is granted, and the run after it
     -- serves the jobs that are carried over and those of the second plan

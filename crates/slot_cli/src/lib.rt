@@ -26,9 +26,9 @@ ghost use Rattle.slot_cli.specs.Recordings.{IsVerified};
 ghost use Rattle.slot_cli.specs.Runs.{in_parts, leaves_output_at, HasFrontAtMost, IsRefusedChange, IsRun};
 ghost use Rattle.slot_cli.specs.Verdicts.{RunMeansSchedules};
 
+mod change;
 pub mod host;
 pub mod laws;
-mod parts;
 mod work;
 
 pub use host::run_on_host;

@@ -56,7 +56,7 @@ impl fmt::Display for Failed {
 impl Error for Failed {}
 
 /// A table of the task file. Indexes count from 0.
-#[derive(Clone, Copy, PartialEq, Eq, Debug)]
+#[derive(Clone, Copy, PartialEq, Eq)]
 pub enum Part {
     /// The whole file.
     Top,
@@ -85,7 +85,7 @@ impl fmt::Display for Part {
 }
 
 /// A key of the task file.
-#[derive(Clone, Copy, PartialEq, Eq, Debug)]
+#[derive(Clone, Copy, PartialEq, Eq)]
 pub enum Field {
     Soft,
     Graph,
@@ -164,7 +164,7 @@ impl fmt::Display for Field {
 }
 
 /// A key in one table of the task file.
-#[derive(Clone, Copy, PartialEq, Eq, Debug)]
+#[derive(Clone, Copy, PartialEq, Eq)]
 pub struct Place {
     /// The table.
     pub part: Part,
@@ -184,7 +184,7 @@ impl fmt::Display for Place {
 }
 
 /// Why a task file or a task set is refused.
-#[derive(Clone, Copy, PartialEq, Eq, Debug)]
+#[derive(Clone, Copy, PartialEq, Eq)]
 pub enum TaskFault {
     /// Memory ran out.
     Memory,
@@ -256,6 +256,12 @@ impl fmt::Display for TaskFault {
             TaskFault::TooMany(place, count) => write!(f, "too many {place} {count}"),
             TaskFault::CycleTooLong(multiple) => write!(f, "cycle too long {multiple}"),
         }
+    }
+}
+
+impl fmt::Debug for TaskFault {
+    fn fmt<W: fmt::Write>(&self, f: &mut fmt::Formatter<W>) -> fmt::Result {
+        fmt::Display::fmt(self, f)
     }
 }
 

@@ -1,7 +1,7 @@
 //! Jobs, spans and windows. All times are in slots.
 
 /// The name of a job. Keys are ordered by kind, then by their numbers.
-#[derive(Clone, Copy, PartialEq, Eq, PartialOrd, Ord, Debug)]
+#[derive(Clone, Copy, PartialEq, Eq, PartialOrd, Ord)]
 pub enum Key {
     /// Graph, task and instance of an offline job.
     Offline(u16, u16, u64),
@@ -27,7 +27,7 @@ pub struct RawJob {
 }
 
 /// A guaranteed job with its derived window [est, dl).
-#[derive(Clone, Copy, PartialEq, Eq, Debug)]
+#[derive(Clone, Copy, PartialEq, Eq)]
 pub struct Job {
     /// Its name.
     pub key: Key,
@@ -53,7 +53,7 @@ pub struct SoftJob {
 }
 
 /// A stretch [start, end) between two neighbouring points.
-#[derive(Clone, Copy, PartialEq, Eq, Default, Debug)]
+#[derive(Clone, Copy, PartialEq, Eq, Default)]
 pub struct Span {
     /// Its first slot.
     pub start: u64,
@@ -66,7 +66,7 @@ pub struct Span {
 }
 
 /// A window [from, until) with the slots that the cycle test counts in it.
-#[derive(Clone, Copy, PartialEq, Eq, Debug)]
+#[derive(Clone, Copy, PartialEq, Eq)]
 pub struct Window {
     /// Its first slot.
     pub from: u64,
@@ -77,7 +77,7 @@ pub struct Window {
 }
 
 /// Why an offer is refused: up to `until` it needs `need` slots, and there are `room`.
-#[derive(Clone, Copy, PartialEq, Eq, Debug)]
+#[derive(Clone, Copy, PartialEq, Eq)]
 pub struct Evidence {
     /// The time by which more is needed than there are slots.
     pub until: u64,

@@ -8,7 +8,7 @@ use Rattle.slot_core.specs.Runs.Answers.{firm_answer}
 use Rattle.slot_core.specs.Runs.Demand.{HasRoom}
 use Rattle.slot_core.specs.Runs.Scenes.{Scene}
 use Rattle.slot_facts.proofs.Offers.Answers.{no_room_exactly, no_room-from_short, short-from_no_room}
-use Rattle.slot_exec.specs.Offers.{ShowsNoRoom}
+use Rattle.slot_exec.specs.Offers.{ShowsNoRoomForOffer}
 
 module _ (sporadics : List Sporadic) (cycle : ℕ) (scene : Scene) (slots within : ℕ) (result : FirmAnswer) (told : result ≡ firm_answer sporadics cycle scene slots within) where
   -- in reach, that comes exactly where there is no room
@@ -19,7 +19,7 @@ module _ (sporadics : List Sporadic) (cycle : ℕ) (scene : Scene) (slots within
   )
 
   -- and its evidence shows it
-  pub evidence-told : (e : Evidence) → result ≡ NoRoom e → ShowsNoRoom sporadics cycle scene slots within e
+  pub evidence-told : (e : Evidence) → result ≡ NoRoom e → ShowsNoRoomForOffer sporadics cycle scene slots within e
   evidence-told e refused =
       let s = short-from_no_room sporadics cycle scene slots within e (sym told ∙ refused) in
       let need = ap (λ (x : Evidence). x.need) s.exact in

@@ -27,7 +27,7 @@ offer_answer spans reserve time cycle slots within =
 
 -- the evidence shows that an offer has no room: `until` is the least time, from its deadline to the
 -- horizon, by which more is needed than there are slots, and these are the two numbers
-pub record ShowsNoRoom
+pub record ShowsNoRoomForOffer
     (sporadics : List Sporadic) (cycle : ℕ) (scene : Scene) (slots within : ℕ) (e : Evidence)
     : Type 0 where
   pub after : scene.time + within ≤ e.until

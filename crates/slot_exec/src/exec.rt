@@ -9,7 +9,7 @@ ghost use Rattle.slot_core.specs.Runs.Answers.{done_answer, firm_answer, soft_an
 ghost use Rattle.slot_core.specs.Runs.Choice.{choice};
 ghost use Rattle.slot_core.specs.declared.jobs.Evidence.{Evidence};
 ghost use Rattle.slot_core.specs.Runs.Demand.{HasRoom};
-ghost use Rattle.slot_exec.specs.Offers.{ShowsNoRoom};
+ghost use Rattle.slot_exec.specs.Offers.{ShowsNoRoomForOffer};
 ghost use Rattle.slot_core.specs.Keeping.Executives.{Does, IsKept, Shows, StandsFor, StandsForSome};
 ghost use Rattle.slot_core.specs.Claims.Futures.{OfferIsExact};
 ghost use Rattle.slot_core.specs.Runs.Histories.{History};
@@ -269,8 +269,8 @@ impl<T: SpareTable> Exec<T> {
         ensures no_room { 1 ≤ d → d ≤ self.old.plan.cycle
             → (((e : Evidence) × (result ≡ Firm.NoRoom e))
             ↔ ¬ (HasRoom self.old.plan.tasks.sporadics self.old.plan.cycle self.old.scene c d)) }
-        ensures evidence { (e : Evidence) → result ≡ Firm.NoRoom e
-            → ShowsNoRoom self.old.plan.tasks.sporadics self.old.plan.cycle self.old.scene c d e }
+        ensures evidence { (e : Evidence) → result ≡ Firm.NoRoom e → ShowsNoRoomForOffer
+            self.old.plan.tasks.sporadics self.old.plan.cycle self.old.scene c d e }
         ensures exact { (h : History) → StandsFor self.old h
             → OfferIsExact self.old.plan.tasks self.old.plan.cycle h c d result }
         ensures stays { result ≢ Firm.Accepted → self.new ≡ record self.old { last_row = row } }

@@ -3,7 +3,7 @@ use Rattle.std.proofs.Common.{◌≡◌, ℕ, ◌+◌, ◌-◌, min, List, [], �
 use Rattle.std.proofs.Math.Seq.{take-append-add, take-length}
 use Rattle.std.proofs.lemmas.List.{take-append-le, take_min, take-append-drop, length-drop}
 use Rattle.std.proofs.KnownBytes.{Appends-nil, Appends-trans, Appends-kept}
-use Rattle.std.specs.Prelude.{Err, Ok, OnErr, Result}
+use Rattle.std.specs.Prelude.{Err, Ok, OnErr, OnOk, Result}
 use Rattle.std.specs.Io.KnownBytes.{Appends, Keeps}
 use Rattle.slot_io.specs.Sinks.{AppendsPart}
 
@@ -40,7 +40,12 @@ take_rest front rest n =
 pub AppendsPart-none : (a : Option (List ℕ)) (whole : List ℕ) → AppendsPart a a whole
 AppendsPart-none a whole = (0, Appends-nil a)
 
--- what holds anyhow holds where there is an error
+-- what holds anyhow holds where a call succeeds
+pub OnOk-anyhow : {T E P : Type 0} (r : Result T E) → P → OnOk r P
+OnOk-anyhow (Ok x) p = p
+OnOk-anyhow (Err e) p = tt
+
+-- and where it fails
 pub OnErr-anyhow : {T E P : Type 0} (r : Result T E) → P → OnErr r P
 OnErr-anyhow (Ok x) p = tt
 OnErr-anyhow (Err e) p = p

@@ -6,6 +6,7 @@ use Rattle.std.proofs.lemmas.List.{drop_more, length-drop}
 use Rattle.std.proofs.lemmas.Option.{slice_get-get_or}
 use Rattle.slot_core.specs.declared.jobs.Span.{Span}
 use Rattle.spare_capacity.specs.Recurrence.{filled, first_spare, room}
+use Rattle.spare_capacity.proofs.Filled.{drop-filled}
 use Rattle.spare_capacity.proofs.Steps.{no_row}
 use Rattle.spare_capacity.specs.Laws.{room_of_all, sum_of_rooms, IsLeastRoom}
 
@@ -38,12 +39,6 @@ IsLeastFront-filled s [] =
       reached = (zero, omega arith, omega (arith, ints));
     }
 IsLeastFront-filled s (t ∷ ts) = IsLeastFront-cons s (t ∷ ts) (first_spare (filled (t ∷ ts))) (IsLeastFront-filled t ts)
-
--- the rest of filled rows is filled
-drop-filled : (n : ℕ) (rows : List Span) → drop n (filled rows) ≡ filled (drop n rows)
-drop-filled zero rows = refl
-drop-filled (suc n) [] = refl
-drop-filled (suc n) (s ∷ ss) = drop-filled n ss
 
 -- counted from the first place, as the law does
 IsLeastRoom-from_front : (rows : List Span) (at : ℕ) (least : ℤ) → at < length rows → IsLeastFront (drop at rows) least → IsLeastRoom rows at least

@@ -1,7 +1,7 @@
 -- What one step of the recurrence does to rows whose later ones have their capacities.
-use Rattle.std.specs.Prelude.{◌≡◌, ℕ, zero, suc, ◌-◌, ◌≤◌, ◌^◌, pos, neg_ℤ, ◌≤ℤ◌, List, [], ◌∷◌, ⊤}
+use Rattle.std.specs.Prelude.{◌-◌, ◌≤◌, ◌^◌, pos, neg_ℤ, ◌≤ℤ◌, List, [], ◌∷◌}
 use Rattle.slot_core.specs.declared.jobs.Span.{Span}
-use Rattle.spare_capacity.specs.Recurrence.{filled, first_spare, with_spare}
+use Rattle.spare_capacity.specs.Recurrence.{first_spare, with_spare}
 
 -- the rows, with the capacity of the first by that of the second
 abbrev pub refilled : List Span → List Span
@@ -18,10 +18,3 @@ pub record IsShort (s : Span) : Type 0 where
 abbrev pub CanRefill : List Span → Type 0
 CanRefill [] = ⊥
 CanRefill (s ∷ ss) = IsShort s × (neg_ℤ (pos (2 ^ 60)) ≤ℤ first_spare ss)
-
--- each capacity but that of the row at this place is by the recurrence, from the capacity that
--- stands after it
-abbrev pub IsStaleAt : ℕ → List Span → Type 0
-IsStaleAt at [] = ⊤
-IsStaleAt zero (s ∷ ss) = ss ≡ filled ss
-IsStaleAt (suc at) (s ∷ ss) = (s ≡ with_spare s (first_spare ss)) × IsStaleAt at ss

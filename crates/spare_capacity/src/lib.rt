@@ -3,11 +3,10 @@
 //! All times, lengths and works are in slots.
 #![tactic(auto)]
 
-ghost use Rattle.std.specs.Prelude.{◌≡◌, ◌↔◌, ◌+◌, ◌≤◌, ◌<◌, ◌^◌, ◌++◌, IsTrue, length, take, drop, pos, neg_ℤ, ◌≤ℤ◌};
-ghost use Rattle.std.specs.Int.{int_min};
+ghost use Rattle.std.specs.Prelude.{◌≡◌, ◌+◌, ◌≤◌, ◌<◌, ◌^◌, ◌++◌, length, take, drop, pos, neg_ℤ, ◌≤ℤ◌};
 ghost use Rattle.slot_core.specs.declared.jobs.Span.{Span};
 ghost use Rattle.spare_capacity.specs.Recurrence.{filled, first_spare, with_spare, AreConsecutive};
-ghost use Rattle.spare_capacity.specs.Refill.{refilled, CanRefill, IsShort, IsStaleAt};
+ghost use Rattle.spare_capacity.specs.Refill.{refilled, CanRefill, IsShort};
 
 mod deadlines;
 pub mod laws;
@@ -38,31 +37,6 @@ pub fn fill_front(rows: &mut [Span], count: usize)
     for at in (0..count.min(rows.len())).rev() {
         refill(rows, at);
     }
-}
-
-/// Sets the capacities again after the length or the work of one span changed, from that span back
-/// to the first one that borrows the same as before.
-pub fn refill_back(rows: &mut [Span], at: usize)
-    requires consecutive { AreConsecutive rows.old }
-    requires few { length rows.old ≤ 2 ^ 20 }
-    requires within { at < length rows.old }
-    requires stale { IsStaleAt at rows.old }
-    ensures { rows.new ≡ filled rows.old }
-{
-    for place in (0..at + 1).rev() {
-        let before = rows[place];
-        refill(rows, place);
-        if borrows_alike(before, rows[place]) {
-            return;
-        }
-    }
-}
-
-/// Whether the span borrows as much from the one before it as it did.
-fn borrows_alike(before: Span, after: Span) -> bool
-    ensures { IsTrue result ↔ int_min (pos 0) before.spare ≡ int_min (pos 0) after.spare }
-{
-    before.spare.min(0) == after.spare.min(0)
 }
 
 /// Sets the capacity of the row at this place by that of the row after it.

@@ -40,6 +40,7 @@ no_row = record {
   wcet = 0;
   separation = 0;
   deadline = 0;
+  inverse = 0;
   next = 0;
 }
 

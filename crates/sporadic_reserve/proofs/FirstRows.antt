@@ -37,6 +37,7 @@ IsRow-first s h =
       near = separation.1;
       within = ranges.deadline.1;
       soon = omega arith;
+      inverse = refl;
     }
 
 -- and their numbers are in range where those of the tasks are

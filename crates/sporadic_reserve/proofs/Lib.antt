@@ -2,4 +2,5 @@ pub mod Arrivals
 pub mod Counts
 pub mod Demands
 pub mod FirstRows
+pub mod Inverses
 pub mod Rises

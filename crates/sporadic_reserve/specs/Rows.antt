@@ -1,9 +1,11 @@
 -- The rows of a reserve: the numbers of a sporadic task and its next legal arrival.
-use Rattle.std.specs.Prelude.{◌≤◌, ◌^◌, List, [], map}
+use Rattle.std.specs.Prelude.{◌≡◌, ◌≤◌, ◌^◌, List, [], map}
+use Rattle.std.specs.Int.{div_ceil}
 use Rattle.std.specs.List.{AllByRecursion}
 use Rattle.slot_core.specs.declared.TheConstants.{SLOT_LIMIT}
 use Rattle.slot_core.specs.declared.tasks.Sporadic.{Sporadic}
 use Rattle.sporadic_reserve.specs.declared.rows.Row.{Row}
+use Rattle.sporadic_reserve.specs.declared.rows.TheConstants.{INVERSE_SCALE}
 use Rattle.sporadic_reserve.specs.Reserves.{Reserved}
 
 -- the task of a row, without a name
@@ -21,6 +23,7 @@ first_row s = record {
   wcet = s.wcet;
   separation = s.separation;
   deadline = s.deadline;
+  inverse = div_ceil INVERSE_SCALE s.separation;
   next = 0;
 }
 
@@ -31,7 +34,7 @@ reserved rows = record {
   nexts = map (λ (row : Row). row.next) rows;
 }
 
--- the numbers of a row are in their ranges
+-- the numbers of a row are in their ranges, and its inverse is that of its separation
 pub record IsRow (row : Row) : Type 0 where
   pub some : 1 ≤ row.wcet
   pub short : row.wcet ≤ SLOT_LIMIT
@@ -39,6 +42,7 @@ pub record IsRow (row : Row) : Type 0 where
   pub near : row.separation ≤ SLOT_LIMIT
   pub within : row.deadline ≤ row.separation
   pub soon : row.next ≤ 2 ^ 41
+  pub inverse : row.inverse ≡ div_ceil INVERSE_SCALE row.separation
 
 -- so are those of each row
 abbrev pub AreRows : List Row → Type 0

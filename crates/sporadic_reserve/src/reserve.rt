@@ -9,7 +9,7 @@ ghost use Rattle.slot_core.specs.Feasibility.Sporadics.{sporadic_demand};
 ghost use Rattle.sporadic_reserve.specs.Reserves.{demand_limit, without_name, IsNextRise};
 ghost use Rattle.sporadic_reserve.specs.Rows.{first_row};
 
-use crate::rows::{Row, demand_and_rise, demand_of, move_next, next_rise};
+use crate::rows::{Row, demand_and_rise, demand_of, inverse_of, move_next, next_rise};
 use arrayvec::ArrayVec;
 use slot_core::{SPORADIC_LIMIT, Sporadic};
 use std::marker::Model;
@@ -135,12 +135,14 @@ impl Reserve {
 
 /// The row of a task that may arrive from slot 0 on.
 fn row_of(task: &Sporadic) -> Row
+    requires { 1 ≤ task.now.separation }
     ensures { result ≡ first_row task.now }
 {
     Row {
         wcet: task.wcet,
         separation: task.separation,
         deadline: task.deadline,
+        inverse: inverse_of(task.separation),
         next: 0,
     }
 }

@@ -1,10 +1,18 @@
 //! The demand of sporadic tasks, over rows of their numbers.
 
-ghost use Rattle.std.specs.Prelude.{◌≡◌, ℕ, ◌+◌, ◌*◌, ◌≤◌, ◌<◌, ◌^◌, [], length, max, min, slice_set, MatchOption};
+ghost use Rattle.std.specs.Prelude.{◌≡◌, ℕ, ◌+◌, ◌*◌, ◌/◌, ◌≤◌, ◌<◌, ◌^◌, [], length, max, min, slice_set, MatchOption};
+ghost use Rattle.std.specs.Int.{div_ceil};
 ghost use Rattle.slot_core.specs.declared.TheConstants.{SPORADIC_LIMIT};
 ghost use Rattle.slot_core.specs.Feasibility.Sporadics.{arrivals_due, sporadic_demand};
+ghost use Rattle.sporadic_reserve.specs.declared.rows.TheConstants.{INVERSE_SCALE};
 ghost use Rattle.sporadic_reserve.specs.Reserves.{demand_limit, IsNextRise};
 ghost use Rattle.sporadic_reserve.specs.Rows.{reserved, task_of, AreRows, IsRow};
+
+/// By how much the inverse of a separation is scaled.
+pub const INVERSE_SCALE: u64 = 1 << 32;
+
+/// Below this a number of slots is divided by the inverse of a separation.
+pub const INVERSE_REACH: u64 = 1 << 18;
 
 /// The numbers of a sporadic task, and its next legal arrival.
 #[derive(Clone, Copy, PartialEq, Eq, Default)]
@@ -12,7 +20,30 @@ pub struct Row {
     pub wcet: u32,
     pub separation: u32,
     pub deadline: u32,
+    /// `INVERSE_SCALE` by the separation, rounded up.
+    pub inverse: u64,
     pub next: u64,
+}
+
+/// How many whole separations there are in so many slots. A multiplication serves where there are
+/// fewer than `INVERSE_REACH`.
+fn separations_in(row: Row, slots: u64) -> u64
+    requires { IsRow row }
+    ensures { result ≡ slots / row.separation }
+{
+    if slots < INVERSE_REACH {
+        slots * row.inverse / INVERSE_SCALE
+    } else {
+        slots / u64::from(row.separation)
+    }
+}
+
+/// `INVERSE_SCALE` by a separation, rounded up.
+pub(crate) fn inverse_of(separation: u32) -> u64
+    requires { 1 ≤ separation }
+    ensures { result ≡ div_ceil INVERSE_SCALE separation }
+{
+    INVERSE_SCALE.div_ceil(u64::from(separation))
 }
 
 /// The deadline of the first arrival from `r` on.
@@ -37,17 +68,19 @@ fn arrivals_due(row: Row, r: u64, x: u64) -> u64
     if x < first {
         return 0;
     }
-    (x - first) / u64::from(row.separation) + 1
+    separations_in(row, x - first) + 1
 }
 
-/// The deadline of the first of them that is due after `x`.
-fn next_due(row: Row, r: u64, x: u64) -> u64
+/// The deadline of the first of them that is due after `x`, where so many are due by then.
+fn due_after(row: Row, r: u64, x: u64, count: u64) -> u64
     requires row { IsRow row }
     requires near { r < 2 ^ 41 }
     requires soon { x < 2 ^ 41 }
+    requires count { count ≡ arrivals_due (task_of row) row.next r x }
+    requires few { count ≤ x + 1 }
     ensures { IsNextRise (λ z. arrivals_due (task_of row) row.next r z) x result }
 {
-    first_due(row, r) + arrivals_due(row, r, x) * u64::from(row.separation)
+    first_due(row, r) + count * u64::from(row.separation)
 }
 
 /// The slots that the densest arrivals from `r` on need by `x`.
@@ -81,7 +114,8 @@ pub(crate) fn next_rise(rows: &[Row], r: u64, x: u64) -> Option<u64>
 {
     let mut first = None;
     for row in rows {
-        first = Some(earlier(first, next_due(*row, r, x)));
+        let count = arrivals_due(*row, r, x);
+        first = Some(earlier(first, due_after(*row, r, x, count)));
     }
     first
 }
@@ -103,8 +137,9 @@ pub(crate) fn demand_and_rise(rows: &[Row], r: u64, x: u64) -> (u64, Option<u64>
     let mut needed = 0;
     let mut first = None;
     for row in rows {
-        needed += u64::from(row.wcet) * arrivals_due(*row, r, x);
-        first = Some(earlier(first, next_due(*row, r, x)));
+        let count = arrivals_due(*row, r, x);
+        needed += u64::from(row.wcet) * count;
+        first = Some(earlier(first, due_after(*row, r, x, count)));
     }
     (needed, first)
 }

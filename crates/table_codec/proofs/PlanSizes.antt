@@ -1,6 +1,6 @@
 -- The numbers of a plan have room in the fields of any layout.
 use Rattle.std.proofs.lemmas.List.Sums.{sum_by-cons}
-use Rattle.std.proofs.Common.{◌≡◌, refl, ℕ, ℤ, pos, neg_ℤ, ◌≤ℤ◌, ◌<ℤ◌, suc, ◌^◌, ◌<◌, ◌≤◌, FitsSigned, List, [], ◌∷◌, length, ap, sym, ◌∙◌, subst, arith, rules}
+use Rattle.std.proofs.Common.{◌≡◌, ℕ, ℤ, pos, neg_ℤ, ◌≤ℤ◌, ◌<ℤ◌, ◌^◌, ◌<◌, ◌≤◌, FitsSigned, List, [], ◌∷◌, length, ap, sym, ◌∙◌, subst, arith, rules}
 use Rattle.std.specs.Prelude.{All, Contains, sum_by}
 use Rattle.std.specs.List.{AllByRecursion}
 use Rattle.std.proofs.lemmas.Int.{ints}
@@ -20,6 +20,7 @@ use Rattle.slot_facts.proofs.Lists.Members.{Has, Contains-from_Has, AllByRecursi
 use Rattle.slot_facts.proofs.Sets.Ranges.{SetRanges-from_sound, GraphRanges-from_test}
 use Rattle.slot_facts.proofs.Offline.Jobs.{offline_from_cycle, cycle-at_most, graph_in_range-from_sound}
 use Rattle.slot_facts.proofs.Offline.LaterJobs.{FitsInCycle-from_first}
+use Rattle.slot_facts.proofs.Plans.FirstSpans.{length-spans}
 use Rattle.interval_build.specs.FirstJobs.{AreFirstJobs}
 use Rattle.interval_build.proofs.Due.{work_between-le}
 use Rattle.interval_build.proofs.Filled.{last_point-above}
@@ -126,10 +127,6 @@ fitting_spans layout jobs last s (e ∷ points) rising within most small =
       fitting_spans layout jobs last e points rising.1 within most small,
     )
 
-length-spans_between : (jobs : List Job) (last s : ℕ) (points : List ℕ) → length (spans_between jobs last s points) ≡ length points
-length-spans_between jobs last s [] = refl
-length-spans_between jobs last s (e ∷ points) = ap suc (length-spans_between jobs last e points)
-
 -- the spans of a plan are those between its points
 plan_spans-are : (plan : PlanParts) → IsPlan plan → plan.spans ≡ spans_between plan.jobs (cycle_of plan.tasks) 0 (first_points plan.tasks plan.jobs)
 plan_spans-are plan is_plan =
@@ -139,7 +136,7 @@ plan_spans-are plan is_plan =
 pub few_spans : (plan : PlanParts) → IsPlan plan → length plan.spans ≤ SLOT_LIMIT
 few_spans plan is_plan =
     let points = first_points plan.tasks plan.jobs in
-    omega (arith, ap (λ (ss : List Span). length ss) (plan_spans-are plan is_plan), length-spans_between plan.jobs (cycle_of plan.tasks) 0 points, few_points plan.tasks plan.jobs (AreFirstJobs-from_plan plan is_plan))
+    omega (arith, ap (λ (ss : List Span). length ss) (plan_spans-are plan is_plan), length-spans plan.jobs (cycle_of plan.tasks) 0 points, few_points plan.tasks plan.jobs (AreFirstJobs-from_plan plan is_plan))
 
 pub all_fitting_spans : (layout : Layout) (plan : PlanParts) → IsPlan plan → All (FitsSpan layout) plan.spans
 all_fitting_spans layout plan is_plan =

@@ -12,7 +12,7 @@ use std::fmt;
 
 /// Why a table is refused. Jobs and spans count from 0. Of a pair the first is stored in the table,
 /// and the second computed from its task set.
-#[derive(Clone, Copy, Debug)]
+#[derive(Clone, Copy)]
 pub enum TableFault {
     /// Memory ran out.
     Memory,
@@ -101,6 +101,12 @@ impl fmt::Display for TableFault {
             }
             TableFault::Trailing(at) => write!(f, "trailing {at}"),
         }
+    }
+}
+
+impl fmt::Debug for TableFault {
+    fn fmt<W: fmt::Write>(&self, f: &mut fmt::Formatter<W>) -> fmt::Result {
+        fmt::Display::fmt(self, f)
     }
 }
 

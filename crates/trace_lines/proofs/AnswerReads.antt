@@ -22,7 +22,7 @@ use Rattle.key_texts.specs.Numbers.{number_of}
 use Rattle.key_texts.proofs.CutLemmas.{cut_at-Some, cut_at-append}
 use Rattle.key_texts.proofs.KeyLemmas.{step, digits_lack}
 use Rattle.key_texts.proofs.PlaceLemmas.{Some_same}
-use Rattle.trace_lines.specs.Ranges.{is_number, soft_fits, firm_fits, sporadic_fits, done_fits, gone_fits}
+use Rattle.trace_lines.specs.Ranges.{number_fits, soft_fits, firm_fits, sporadic_fits, done_fits, gone_fits}
 use Rattle.trace_lines.specs.Readings.{soft_answer, no_room, firm_answer, sporadic_answer, done_answer, gone_answer, number_after}
 use Rattle.trace_lines.proofs.ByteLemmas.{all-append, decimal-keys, is_word_byte, keys-words}
 use Rattle.trace_lines.proofs.Choices.{all_three, by_map, by_word}
@@ -61,13 +61,13 @@ no_room-from text a h =
     (let (one, until_is) = numbers.from first.0 until found in
     let (two, need_is) = numbers.from second.0 need there in
     let (three, room_is) = numbers.from second.1 room also in
-    rw (← Some_same is) (all_three (is_number until) (is_number need) (is_number room) one two three, rw (cut_at-Some 32 text parts cut, cut_at-Some 32 parts.1 first after, cut_at-Some 32 first.1 second last, word, until_is, need_is, room_is) (nested (codes "noroom") (decimal until) (decimal need) (decimal room)))))
+    rw (← Some_same is) (all_three (number_fits until) (number_fits need) (number_fits room) one two three, rw (cut_at-Some 32 text parts cut, cut_at-Some 32 parts.1 first after, cut_at-Some 32 first.1 second last, word, until_is, need_is, room_is) (nested (codes "noroom") (decimal until) (decimal need) (decimal room)))))
     (λ none. absurd (cc none))))))))
 
 no_room-to : (e : Evidence) → firm_fits (NoRoom e) ≡ true → no_room (firm_text (NoRoom e)) ≡ Some (NoRoom e)
 no_room-to e fits =
-    let (two, three) = and_parts (is_number e.until && is_number e.need) (is_number e.room) fits in
-    let (one, two) = and_parts (is_number e.until) (is_number e.need) two in
+    let (two, three) = and_parts (number_fits e.until && number_fits e.need) (number_fits e.room) fits in
+    let (one, two) = and_parts (number_fits e.until) (number_fits e.need) two in
     let whole = sym (nested (codes "noroom") (decimal e.until) (decimal e.need) (decimal e.room)) in
     let first = cut_at-append 32 (codes "noroom") (decimal e.until ++ 32 ∷ (decimal e.need ++ 32 ∷ decimal e.room)) refl in
     let second = cut_at-append 32 (decimal e.until) (decimal e.need ++ 32 ∷ decimal e.room) (number-lacks e.until one) in
@@ -140,7 +140,7 @@ pub gone_answers : IsExact gone_answer gone_text gone_fits
 gone_answers = record { from = gone_answer-from; to = gone_answer-to }
 
 -- a word, a space and a number are of bytes of words
-worded-bytes : (word : List ℕ) (n : ℕ) → list_all is_word_byte word ≡ true → is_number n ≡ true → list_all is_word_byte (worded word n) ≡ true
+worded-bytes : (word : List ℕ) (n : ℕ) → list_all is_word_byte word ≡ true → number_fits n ≡ true → list_all is_word_byte (worded word n) ≡ true
 worded-bytes word n all fits = all-append is_word_byte word (32 ∷ decimal n) all (number-words n fits)
 
 -- so is each answer
@@ -153,8 +153,8 @@ firm_text-bytes Accepted fits = refl
 firm_text-bytes Late fits = refl
 firm_text-bytes Far fits = refl
 firm_text-bytes (NoRoom e) fits =
-    let (two, three) = and_parts (is_number e.until && is_number e.need) (is_number e.room) fits in
-    let (one, two) = and_parts (is_number e.until) (is_number e.need) two in
+    let (two, three) = and_parts (number_fits e.until && number_fits e.need) (number_fits e.room) fits in
+    let (one, two) = and_parts (number_fits e.until) (number_fits e.need) two in
     worded-bytes (worded (worded (codes "noroom") e.until) e.need) e.room
     (worded-bytes (worded (codes "noroom") e.until) e.need (worded-bytes (codes "noroom") e.until refl one) two)
     three

@@ -15,7 +15,7 @@ use Rattle.key_texts.proofs.KeyLemmas.{step, digits_lack, name_lacks, row_lacks,
 use Rattle.key_texts.proofs.PlaceLemmas.{Some_same}
 use Rattle.trace_lines.specs.declared.line.KeyName.{KeyName}
 use Rattle.trace_lines.specs.declared.line.KeyName.TheVariants.{Offline, Sporadic as SporadicKey, Firm as FirmKey, Soft as SoftKey}
-use Rattle.trace_lines.specs.Ranges.{is_number, is_row, key_fits}
+use Rattle.trace_lines.specs.Ranges.{number_fits, is_row, key_fits}
 use Rattle.trace_lines.specs.Readings.{firm_row, key_named, name_of, offline_key, row_key, sporadic_key, worded_key}
 use Rattle.trace_lines.specs.Texts.{key_text}
 use Rattle.trace_lines.proofs.ByteLemmas.{all-append, decimal-keys, is_key_byte, name-keys}
@@ -40,7 +40,7 @@ offline_key-from text key h =
     let (second, task_is) = names.from inner.1 task there in
     let whole = cut_at-Some 35 text parts cut in
     let front = cut_at-Some 46 parts.0 inner dot in
-    rw (← same) (all_three (is_name graph) (is_name task) (is_number instance) first second small, rw (whole, front, digits, graph_is, task_is) refl))))))
+    rw (← same) (all_three (is_name graph) (is_name task) (number_fits instance) first second small, rw (whole, front, digits, graph_is, task_is) refl))))))
 
 -- as a sporadic key
 sporadic_key-from : (text : List ℕ) (key : KeyName) → sporadic_key text ≡ Some key → IsTextOf text key
@@ -76,7 +76,7 @@ key_named-from text key h =
 -- the text of an offline key is read as that
 offline_key-to : (graph task : List ℕ) (instance : ℕ) → key_fits (Offline graph task instance) ≡ true → offline_key (key_text (Offline graph task instance)) ≡ Some (Offline graph task instance)
 offline_key-to graph task instance fits =
-    let (named, small) = and_parts (is_name graph && is_name task) (is_number instance) fits in
+    let (named, small) = and_parts (is_name graph && is_name task) (number_fits instance) fits in
     let (first, second) = and_parts (is_name graph) (is_name task) named in
     let lacks = Lacks-append 35 graph (46 ∷ task) (name_lacks 35 graph first refl) (name_lacks 35 task second refl) in
     let cut = cut_at-append 35 (graph ++ 46 ∷ task) (decimal instance) lacks in
@@ -139,7 +139,7 @@ row-keys row range =
 -- the text of a key is too
 pub key_text-bytes : (key : KeyName) → key_fits key ≡ true → list_all is_key_byte (key_text key) ≡ true
 key_text-bytes (Offline graph task instance) fits =
-    let (named, small) = and_parts (is_name graph && is_name task) (is_number instance) fits in
+    let (named, small) = and_parts (is_name graph && is_name task) (number_fits instance) fits in
     let (first, second) = and_parts (is_name graph) (is_name task) named in
     all-append is_key_byte (graph ++ 46 ∷ task) (35 ∷ decimal instance)
     (all-append is_key_byte graph (46 ∷ task) (name-keys graph first) (name-keys task second))

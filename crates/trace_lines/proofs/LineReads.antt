@@ -20,7 +20,7 @@ use Rattle.trace_lines.specs.declared.line.ShownSpan.{ShownSpan}
 use Rattle.trace_lines.specs.declared.line.TraceLine.{TraceLine}
 use Rattle.trace_lines.specs.declared.line.Words.{Words}
 use Rattle.trace_lines.specs.declared.line.Words.TheVariants.{Start, Soft, Firm, Sporadic, Done, Withdraw, Run, Idle, End}
-use Rattle.trace_lines.specs.Ranges.{is_number, line_fits, span_fits, spans_fit, words_fit}
+use Rattle.trace_lines.specs.Ranges.{number_fits, line_fits, span_fits, spans_fit, words_fit}
 use Rattle.trace_lines.specs.Readings.{after_space, before_space, end_line, line_at, line_of, more_of, shown_and_more, shown_line, spans_within, told_and_shown, words_of}
 use Rattle.trace_lines.specs.Texts.{line_text, shown_text, spaced, spans_text, told_text, words_text}
 use Rattle.trace_lines.proofs.ByteLemmas.{is_word_byte}
@@ -69,10 +69,10 @@ after_space-from (b ∷ text) rest h =
     ]
 
 -- the spans and the number of the others that are read
-shown_and_more-from : (text spans : List ℕ) (more : ℕ) → shown_and_more text ≡ Some (spans, more) → (is_number more ≡ true) × (text ≡ (if nat_lt 0 more then (spans ++ 32 ∷ []) ++ 43 ∷ decimal more else spans))
+shown_and_more-from : (text spans : List ℕ) (more : ℕ) → shown_and_more text ≡ Some (spans, more) → (number_fits more ≡ true) × (text ≡ (if nat_lt 0 more then (spans ++ 32 ∷ []) ++ 43 ∷ decimal more else spans))
 shown_and_more-from text spans more h = by_cut (cut_at 43 text) refl h
   where
-    by_cut : (o : Option (List ℕ × List ℕ)) → cut_at 43 text ≡ o → more_of text o ≡ Some (spans, more) → (is_number more ≡ true) × (text ≡ (if nat_lt 0 more then (spans ++ 32 ∷ []) ++ 43 ∷ decimal more else spans))
+    by_cut : (o : Option (List ℕ × List ℕ)) → cut_at 43 text ≡ o → more_of text o ≡ Some (spans, more) → (number_fits more ≡ true) × (text ≡ (if nat_lt 0 more then (spans ++ 32 ∷ []) ++ 43 ∷ decimal more else spans))
     by_cut None cut h =
         let same : (text, 0) ≡ (spans, more) = Some_same h in
         let first : text ≡ spans = ap (λ (p : List ℕ × ℕ). p.0) same in
@@ -90,7 +90,7 @@ shown_and_more-from text spans more h = by_cut (cut_at 43 text) refl h
         rw (← second, ← first) (le-leb n NUMBER_LIMIT high, cut_at-Some 43 text parts cut ∙ rw (some, digits, before_space-from parts.0 front there) refl)))
 
 -- the text of spans and of how many more there are is read as these
-shown_and_more-to : (spans : List ShownSpan) (more : ℕ) → list_all span_fits spans ≡ true → is_number more ≡ true → shown_and_more (shown_text spans more) ≡ Some (spans_text spans, more)
+shown_and_more-to : (spans : List ShownSpan) (more : ℕ) → list_all span_fits spans ≡ true → number_fits more ≡ true → shown_and_more (shown_text spans more) ≡ Some (spans_text spans, more)
 shown_and_more-to spans more fits small =
     let lacks = Lacks-from_all is_word_byte 43 (spans_text spans) (spans_text-bytes spans fits) refl in
     elim (cases_Bool (nat_lt 0 more)) [
@@ -123,7 +123,7 @@ no_end-from text End h =
 -- what a line with such words looks like
 record IsShown (words : Words) (spans : List ShownSpan) (more : ℕ) : Type 0 where
   told : told_text words spans more ≡ (words_text words ++ 32 ∷ []) ++ 124 ∷ 32 ∷ shown_text spans more
-  fits : spans_fit words spans more ≡ (is_between 1 SHOWN_LIMIT (length spans) && list_all span_fits spans && is_number more)
+  fits : spans_fit words spans more ≡ (is_between 1 SHOWN_LIMIT (length spans) && list_all span_fits spans && number_fits more)
 
 IsShown-from_words : (words : Words) (spans : List ShownSpan) (more : ℕ) → IsNoEnd words → IsShown words spans more
 IsShown-from_words Start spans more other = record { told = refl; fits = refl }
@@ -137,7 +137,7 @@ IsShown-from_words Idle spans more other = record { told = refl; fits = refl }
 IsShown-from_words End spans more other = absurd other
 
 -- a text that is read as a line which shows spans
-shown_line-from : (time : ℕ) (text : List ℕ) (line : TraceLine) → is_number time ≡ true → shown_line time text ≡ Some line → (line_fits line ≡ true) × (spaced (decimal time) text ≡ line_text line)
+shown_line-from : (time : ℕ) (text : List ℕ) (line : TraceLine) → number_fits time ≡ true → shown_line time text ≡ Some line → (line_fits line ≡ true) × (spaced (decimal time) text ≡ line_text line)
 shown_line-from time text line small h =
     step (told_and_shown text) h (λ parts found h.
     step (shown_and_more parts.1) h (λ shown there h.
@@ -174,7 +174,7 @@ line_of-from text line h =
 shown_line-to : (time : ℕ) (words : Words) (spans : List ShownSpan) (more : ℕ) → IsNoEnd words → words_fit words ≡ true → spans_fit words spans more ≡ true → shown_line time (told_text words spans more) ≡ Some (record { time = time; words = words; spans = spans; more = more })
 shown_line-to time words spans more other fits shown =
     let form = IsShown-from_words words spans more other in
-    let (front, number) = and_parts (is_between 1 SHOWN_LIMIT (length spans) && list_all span_fits spans) (is_number more) (sym form.fits ∙ shown) in
+    let (front, number) = and_parts (is_between 1 SHOWN_LIMIT (length spans) && list_all span_fits spans) (number_fits more) (sym form.fits ∙ shown) in
     let (range, all) = and_parts (is_between 1 SHOWN_LIMIT (length spans)) (list_all span_fits spans) front in
     let (some, few) = bounds 1 SHOWN_LIMIT (length spans) range in
     let lacks = Lacks-from_all is_word_byte 124 (words_text words) (words_text-bytes words fits) refl in
@@ -202,20 +202,20 @@ line_at-to time Idle spans more fits shown = shown_line-to time Idle spans more 
 pub line_of-to : (line : TraceLine) → line_fits line ≡ true → line_of (line_text line) ≡ Some line
 unfolding line_of
 line_of-to line fits =
-    let (front, shown) = and_parts (is_number line.time && words_fit line.words) (spans_fit line.words line.spans line.more) fits in
-    let (small, words) = and_parts (is_number line.time) (words_fit line.words) front in
+    let (front, shown) = and_parts (number_fits line.time && words_fit line.words) (spans_fit line.words line.spans line.more) fits in
+    let (small, words) = and_parts (number_fits line.time) (words_fit line.words) front in
     rw (cut_at-append 32 (decimal line.time) (told_text line.words line.spans line.more) (number-lacks line.time small), numbers.to line.time small) (line_at-to line.time line.words line.spans line.more words shown)
 
 -- the text of a line has no line feed
 pub line_text-lacks : (line : TraceLine) → line_fits line ≡ true → Lacks 10 (line_text line)
 line_text-lacks line fits =
-    let (front, shown) = and_parts (is_number line.time && words_fit line.words) (spans_fit line.words line.spans line.more) fits in
-    let (small, words) = and_parts (is_number line.time) (words_fit line.words) front in
+    let (front, shown) = and_parts (number_fits line.time && words_fit line.words) (spans_fit line.words line.spans line.more) fits in
+    let (small, words) = and_parts (number_fits line.time) (words_fit line.words) front in
     Lacks-append 10 (decimal line.time) (32 ∷ told_text line.words line.spans line.more)
     (digits_lack 10 line.time (leb-true line.time NUMBER_LIMIT small) refl)
     (told-lacks line.words line.spans line.more words shown)
   where
-    shown-lacks : (spans : List ShownSpan) (more : ℕ) → list_all span_fits spans ≡ true → is_number more ≡ true → Lacks 10 (shown_text spans more)
+    shown-lacks : (spans : List ShownSpan) (more : ℕ) → list_all span_fits spans ≡ true → number_fits more ≡ true → Lacks 10 (shown_text spans more)
     shown-lacks spans more fits small =
         let all = Lacks-from_all is_word_byte 10 (spans_text spans) (spans_text-bytes spans fits) refl in
         elim (cases_Bool (nat_lt 0 more)) [
@@ -230,7 +230,7 @@ line_text-lacks line fits =
     words-lacks : (words : Words) (spans : List ShownSpan) (more : ℕ) → IsNoEnd words → words_fit words ≡ true → spans_fit words spans more ≡ true → Lacks 10 (told_text words spans more)
     words-lacks words spans more other fits shown =
         let form = IsShown-from_words words spans more other in
-        let (front, number) = and_parts (is_between 1 SHOWN_LIMIT (length spans) && list_all span_fits spans) (is_number more) (sym form.fits ∙ shown) in
+        let (front, number) = and_parts (is_between 1 SHOWN_LIMIT (length spans) && list_all span_fits spans) (number_fits more) (sym form.fits ∙ shown) in
         let (_, all) = and_parts (is_between 1 SHOWN_LIMIT (length spans)) (list_all span_fits spans) front in
         let lacks = Lacks-from_all is_word_byte 10 (words_text words) (words_text-bytes words fits) refl in
         subst (Lacks 10) (sym form.told) (Lacks-append 10 (words_text words ++ 32 ∷ []) (124 ∷ 32 ∷ shown_text spans more) (Lacks-append 10 (words_text words) (32 ∷ []) lacks refl) (shown-lacks spans more all number))

@@ -13,15 +13,13 @@ use Rattle.slot_core.specs.declared.events.What.TheVariants.{Start, Soft, Firm, 
 use Rattle.slot_core.specs.declared.tasks.TaskSet.{TaskSet}
 use Rattle.slot_core.specs.Runs.ShownSpans.{ShownSpans}
 use Rattle.slot_core.specs.Output.Texts.{entry_line, graph_name, task_name, sporadic_name, key_text as core_key_text, what_text, span_text as core_span_text, shown_text as core_shown_text, spans_text as tail_text, worded, soft_text, firm_text, sporadic_text, done_text, gone_text}
+use Rattle.key_texts.proofs.KeyLemmas.{offline_text}
 use Rattle.trace_lines.specs.declared.line.ShownSpan.{ShownSpan}
 use Rattle.trace_lines.specs.Laws.{EntriesAreLines, ShowsSpan}
 use Rattle.trace_lines.specs.Named.{named_key, named_line, named_words, shown_span}
 use Rattle.trace_lines.specs.Texts.{key_text, line_text, shown_text, spaced, span_text, spans_text, told_text, words_text}
 
 -- texts around separators, grouped to the left and to the right
-point_and_hash : (graph task digits : List ℕ) → graph ++ codes "." ++ task ++ codes "#" ++ digits ≡ (graph ++ 46 ∷ task) ++ 35 ∷ digits
-point_and_hash graph task digits = simp append_assoc
-
 dash_and_colon : (start end spare : List ℕ) → start ++ codes "-" ++ end ++ codes ":" ++ spare ≡ (start ++ 45 ∷ end) ++ 58 ∷ spare
 dash_and_colon start end spare = simp append_assoc
 
@@ -33,7 +31,7 @@ four_spaces word a b c d = simp append_assoc
 
 -- the text of a key
 key_text-named : (set : TaskSet) (key : Key) → core_key_text set key ≡ key_text (named_key set key)
-key_text-named set (Offline graph task instance) = point_and_hash (graph_name set graph) (task_name set graph task) (decimal instance)
+key_text-named set (Offline graph task instance) = offline_text (graph_name set graph) (task_name set graph task) (decimal instance)
 key_text-named set (SporadicKey index row) = append_assoc (sporadic_name set index) (codes "@") (decimal row)
 key_text-named set (FirmKey row) = refl
 key_text-named set (SoftKey row) = refl

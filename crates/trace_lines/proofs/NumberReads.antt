@@ -13,7 +13,7 @@ use Rattle.key_texts.proofs.DigitLemmas.{number_of-decimal, decimal-number_of, n
 use Rattle.key_texts.proofs.KeyLemmas.{step, digits_lack, row_lacks}
 use Rattle.key_texts.proofs.NameLemmas.{bytes_eq-same}
 use Rattle.key_texts.proofs.PlaceLemmas.{Some_same}
-use Rattle.trace_lines.specs.Ranges.{is_number, is_row}
+use Rattle.trace_lines.specs.Ranges.{number_fits, is_row}
 use Rattle.trace_lines.specs.Readings.{name_of, number_after}
 use Rattle.std.specs.List.{list_all}
 use Rattle.trace_lines.proofs.ByteLemmas.{decimal-keys, is_word_byte, keys-words}
@@ -25,7 +25,7 @@ pub record IsExact {X : Type 0} (read : List ℕ → Option X) (write : X → Li
   pub to : (x : X) → fits x ≡ true → read (write x) ≡ Some x
 
 -- numbers
-pub numbers : IsExact number_of decimal is_number
+pub numbers : IsExact number_of decimal number_fits
 numbers =
     record {
       from = λ text n h. (let (small, is) = number_of-decimal n text h in (le-leb n NUMBER_LIMIT small, is));
@@ -53,7 +53,7 @@ pub names : IsExact name_of (λ name. name) is_name
 names = record { from = name_of-from; to = λ name fits. rw fits refl }
 
 -- a text that is read as a word and a number
-number_after-from : (word text : List ℕ) (n : ℕ) → number_after word text ≡ Some n → (is_number n ≡ true) × (text ≡ worded word n)
+number_after-from : (word text : List ℕ) (n : ℕ) → number_after word text ≡ Some n → (number_fits n ≡ true) × (text ≡ worded word n)
 number_after-from word text n h =
     step (cut_at 32 text) h (λ parts cut h.
     by_word parts.0 word h
@@ -63,7 +63,7 @@ number_after-from word text n h =
     (λ none. absurd (cc none)))
 
 -- a word without a space, a space, and a number
-pub numbers_after : (word : List ℕ) → Lacks 32 word → IsExact (number_after word) (worded word) is_number
+pub numbers_after : (word : List ℕ) → Lacks 32 word → IsExact (number_after word) (worded word) number_fits
 numbers_after word lacks =
     record {
       from = number_after-from word;
@@ -71,7 +71,7 @@ numbers_after word lacks =
     }
 
 -- a number has no space
-pub number-lacks : (n : ℕ) → is_number n ≡ true → Lacks 32 (decimal n)
+pub number-lacks : (n : ℕ) → number_fits n ≡ true → Lacks 32 (decimal n)
 number-lacks n fits = digits_lack 32 n (leb-true n NUMBER_LIMIT fits) refl
 
 -- nor has a row
@@ -79,5 +79,5 @@ pub row-lacks : (row : ℕ) → is_row row ≡ true → Lacks 32 (decimal row)
 row-lacks row fits = row_lacks 32 row fits refl
 
 -- a number is of bytes of words
-pub number-words : (n : ℕ) → is_number n ≡ true → list_all is_word_byte (decimal n) ≡ true
+pub number-words : (n : ℕ) → number_fits n ≡ true → list_all is_word_byte (decimal n) ≡ true
 number-words n fits = keys-words (decimal n) (decimal-keys n (leb-true n NUMBER_LIMIT fits))

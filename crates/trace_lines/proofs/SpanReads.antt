@@ -15,7 +15,7 @@ use Rattle.key_texts.proofs.DigitLemmas.{number_between-decimal, decimal-number_
 use Rattle.key_texts.proofs.KeyLemmas.{step, digits_lack, Lacks-append}
 use Rattle.key_texts.proofs.PlaceLemmas.{Some_same}
 use Rattle.trace_lines.specs.declared.line.ShownSpan.{ShownSpan}
-use Rattle.trace_lines.specs.Ranges.{is_number, is_signed_number, span_fits}
+use Rattle.trace_lines.specs.Ranges.{number_fits, signed_number_fits, span_fits}
 use Rattle.trace_lines.specs.Readings.{signed_number, span_of, spans_cut, spans_within}
 use Rattle.trace_lines.specs.Texts.{spaced, span_text, spans_text}
 use Rattle.trace_lines.proofs.ByteLemmas.{all-append, decimal-keys, is_key_byte, is_word_byte, keys-words}
@@ -27,7 +27,7 @@ one_more : (n : ℕ) → 1 ≤ n → suc (n - 1) ≡ n
 one_more n some = omega arith
 
 -- a text that is read as a number with a sign
-signed_number-from : (text : List ℕ) (z : ℤ) → signed_number text ≡ Some z → (is_signed_number z ≡ true) × (text ≡ signed_decimal z)
+signed_number-from : (text : List ℕ) (z : ℤ) → signed_number text ≡ Some z → (signed_number_fits z ≡ true) × (text ≡ signed_decimal z)
 signed_number-from [] z h = absurd (cc h)
 signed_number-from (b ∷ digits) z h =
     elim (cases_Bool (b == 45)) [
@@ -42,21 +42,21 @@ signed_number-from (b ∷ digits) z h =
     ]
 
 -- the decimal text of a number begins with no minus
-plain_front : (n : ℕ) (text : List ℕ) → is_number n ≡ true → text ≡ decimal n → signed_number text ≡ option_map pos (number_of text)
+plain_front : (n : ℕ) (text : List ℕ) → number_fits n ≡ true → text ≡ decimal n → signed_number text ≡ option_map pos (number_of text)
 plain_front n [] fits is = refl
 plain_front n (b ∷ digits) fits is =
     let lacks : Lacks 45 (b ∷ digits) = ap (list_any (λ c. c == 45)) is ∙ digits_lack 45 n (leb-true n NUMBER_LIMIT fits) refl in
     let (plain, _) = or_parts (b == 45) (list_any (λ c. c == 45) digits) lacks in
     rw plain refl
 
-signed_number-to : (z : ℤ) → is_signed_number z ≡ true → signed_number (signed_decimal z) ≡ Some z
+signed_number-to : (z : ℤ) → signed_number_fits z ≡ true → signed_number (signed_decimal z) ≡ Some z
 signed_number-to (pos n) fits = plain_front n (decimal n) fits refl ∙ rw (numbers.to n fits) refl
 signed_number-to (negsuc n) fits =
     let range : is_between 1 NUMBER_LIMIT (suc n) ≡ true = and_from _ _ (le-leb 1 (suc n) (omega arith)) fits in
     let same : suc n - 1 ≡ n = omega arith in
     rw (decimal-number_between 1 NUMBER_LIMIT (suc n) (decimal (suc n)) (omega arith) range refl) (ap (λ k. Some (negsuc k)) same)
 
-pub signed_numbers : IsExact signed_number signed_decimal is_signed_number
+pub signed_numbers : IsExact signed_number signed_decimal signed_number_fits
 signed_numbers = record { from = signed_number-from; to = signed_number-to }
 
 -- a text that is read as a span
@@ -70,12 +70,12 @@ span_of-from text span h =
     let (one, start_is) = numbers.from ends.0 start found in
     let (two, end_is) = numbers.from ends.1 end there in
     let (three, spare_is) = signed_numbers.from parts.1 spare also in
-    rw (← Some_same h) (all_three (is_number start) (is_number end) (is_signed_number spare) one two three, rw (cut_at-Some 58 text parts cut, cut_at-Some 45 parts.0 ends inner, start_is, end_is, spare_is) refl))))))
+    rw (← Some_same h) (all_three (number_fits start) (number_fits end) (signed_number_fits spare) one two three, rw (cut_at-Some 58 text parts cut, cut_at-Some 45 parts.0 ends inner, start_is, end_is, spare_is) refl))))))
 
 span_of-to : (span : ShownSpan) → span_fits span ≡ true → span_of (span_text span) ≡ Some span
 span_of-to span fits =
-    let (front, three) = and_parts (is_number span.start && is_number span.end) (is_signed_number span.spare) fits in
-    let (one, two) = and_parts (is_number span.start) (is_number span.end) front in
+    let (front, three) = and_parts (number_fits span.start && number_fits span.end) (signed_number_fits span.spare) fits in
+    let (one, two) = and_parts (number_fits span.start) (number_fits span.end) front in
     let small = leb-true span.start NUMBER_LIMIT one in
     let low = leb-true span.end NUMBER_LIMIT two in
     let lacks = Lacks-append 58 (decimal span.start) (45 ∷ decimal span.end) (digits_lack 58 span.start small refl) (digits_lack 58 span.end low refl) in
@@ -87,15 +87,15 @@ pub spans_of_one : IsExact span_of span_text span_fits
 spans_of_one = record { from = span_of-from; to = span_of-to }
 
 -- a number with a sign is of bytes of keys
-signed-bytes : (z : ℤ) → is_signed_number z ≡ true → list_all is_key_byte (signed_decimal z) ≡ true
+signed-bytes : (z : ℤ) → signed_number_fits z ≡ true → list_all is_key_byte (signed_decimal z) ≡ true
 signed-bytes (pos n) fits = decimal-keys n (leb-true n NUMBER_LIMIT fits)
 signed-bytes (negsuc n) fits = decimal-keys (suc n) (leb-true (suc n) NUMBER_LIMIT fits)
 
 -- so is a span
 span_text-bytes : (span : ShownSpan) → span_fits span ≡ true → list_all is_key_byte (span_text span) ≡ true
 span_text-bytes span fits =
-    let (front, three) = and_parts (is_number span.start && is_number span.end) (is_signed_number span.spare) fits in
-    let (one, two) = and_parts (is_number span.start) (is_number span.end) front in
+    let (front, three) = and_parts (number_fits span.start && number_fits span.end) (signed_number_fits span.spare) fits in
+    let (one, two) = and_parts (number_fits span.start) (number_fits span.end) front in
     all-append is_key_byte (decimal span.start ++ 45 ∷ decimal span.end) (58 ∷ signed_decimal span.spare)
     (all-append is_key_byte (decimal span.start) (45 ∷ decimal span.end) (decimal-keys span.start (leb-true span.start NUMBER_LIMIT one)) (decimal-keys span.end (leb-true span.end NUMBER_LIMIT two)))
     (signed-bytes span.spare three)

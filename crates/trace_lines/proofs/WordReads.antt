@@ -21,7 +21,7 @@ use Rattle.trace_lines.specs.declared.line.KeyName.{KeyName}
 use Rattle.trace_lines.specs.declared.line.KeyName.TheVariants.{Firm as FirmKey}
 use Rattle.trace_lines.specs.declared.line.Words.{Words}
 use Rattle.trace_lines.specs.declared.line.Words.TheVariants.{Start, Soft, Firm, Sporadic, Done, Withdraw, Run, Idle, End}
-use Rattle.trace_lines.specs.Ranges.{is_number, is_row, key_fits, soft_fits, firm_fits, sporadic_fits, done_fits, gone_fits, words_fit}
+use Rattle.trace_lines.specs.Ranges.{number_fits, is_row, key_fits, soft_fits, firm_fits, sporadic_fits, done_fits, gone_fits, words_fit}
 use Rattle.trace_lines.specs.Readings.{arrival_words, done_answer, done_words, firm_answer, firm_row, firm_words, gone_answer, key_named, longer_words, name_of, soft_answer, soft_words, sporadic_answer, sporadic_words, withdraw_words, worded_arrival, worded_words, words_of}
 use Rattle.trace_lines.specs.Texts.{arrival_text, key_text, spaced, words_text}
 use Rattle.trace_lines.proofs.AnswerReads.{soft_answers, firm_answers, sporadic_answers, done_answers, gone_answers, soft_text-bytes, firm_text-bytes, sporadic_text-bytes, done_text-bytes, gone_text-bytes}
@@ -43,7 +43,7 @@ soft_words-from row text words range h =
     step (soft_answer parts.1) h (λ answer there h.
     let (fits, slots_is) = numbers.from parts.0 slots found in
     let (answers, answer_is) = soft_answers.from parts.1 answer there in
-    rw (← Some_same h) (all_three (is_row row) (is_number slots) (soft_fits answer) range fits answers, rw (cut_at-Some 32 text parts cut, slots_is, answer_is) refl))))
+    rw (← Some_same h) (all_three (is_row row) (number_fits slots) (soft_fits answer) range fits answers, rw (cut_at-Some 32 text parts cut, slots_is, answer_is) refl))))
 
 -- a firm task
 firm_words-from : (row : ℕ) (text : List ℕ) (words : Words) → is_row row ≡ true → firm_words row text ≡ Some words → TellsArrival (codes "firm") row text words
@@ -141,14 +141,14 @@ words_of-to Idle other fits = refl
 words_of-to End other fits = absurd other
 words_of-to (Run key) other fits = rw (cut_at-append 32 (codes "run") (key_text key) refl, keys.to key fits) refl
 words_of-to (Soft row slots a) other fits =
-    let (front, answers) = and_parts (is_row row && is_number slots) (soft_fits a) fits in
-    let (range, small) = and_parts (is_row row) (is_number slots) front in
+    let (front, answers) = and_parts (is_row row && number_fits slots) (soft_fits a) fits in
+    let (range, small) = and_parts (is_row row) (number_fits slots) front in
     arrival-to (codes "soft") row (spaced (decimal slots) (soft_text a)) refl range refl
     ∙ rw (cut_at-append 32 (decimal slots) (soft_text a) (number-lacks slots small), numbers.to slots small, soft_answers.to a answers) refl
 words_of-to (Firm row slots within a) other fits =
-    let (front, answers) = and_parts (is_row row && is_number slots && is_number within) (firm_fits a) fits in
-    let (front, near) = and_parts (is_row row && is_number slots) (is_number within) front in
-    let (range, small) = and_parts (is_row row) (is_number slots) front in
+    let (front, answers) = and_parts (is_row row && number_fits slots && number_fits within) (firm_fits a) fits in
+    let (front, near) = and_parts (is_row row && number_fits slots) (number_fits within) front in
+    let (range, small) = and_parts (is_row row) (number_fits slots) front in
     arrival-to (codes "firm") row (spaced (decimal slots) (spaced (decimal within) (firm_text a))) refl range refl
     ∙ rw (cut_at-append 32 (decimal slots) (spaced (decimal within) (firm_text a)) (number-lacks slots small), cut_at-append 32 (decimal within) (firm_text a) (number-lacks within near), numbers.to slots small, numbers.to within near, firm_answers.to a answers) refl
 words_of-to (Sporadic row name a) other fits =
@@ -183,14 +183,14 @@ words_text-bytes Idle fits = refl
 words_text-bytes End fits = refl
 words_text-bytes (Run key) fits = spaced-bytes (codes "run") (key_text key) refl (keys-words (key_text key) (key_text-bytes key fits))
 words_text-bytes (Soft row slots a) fits =
-    let (front, answers) = and_parts (is_row row && is_number slots) (soft_fits a) fits in
-    let (range, small) = and_parts (is_row row) (is_number slots) front in
+    let (front, answers) = and_parts (is_row row && number_fits slots) (soft_fits a) fits in
+    let (range, small) = and_parts (is_row row) (number_fits slots) front in
     arrival-bytes (codes "soft") row (spaced (decimal slots) (soft_text a)) refl range
     (spaced-bytes (decimal slots) (soft_text a) (number-words slots small) (soft_text-bytes a answers))
 words_text-bytes (Firm row slots within a) fits =
-    let (front, answers) = and_parts (is_row row && is_number slots && is_number within) (firm_fits a) fits in
-    let (front, near) = and_parts (is_row row && is_number slots) (is_number within) front in
-    let (range, small) = and_parts (is_row row) (is_number slots) front in
+    let (front, answers) = and_parts (is_row row && number_fits slots && number_fits within) (firm_fits a) fits in
+    let (front, near) = and_parts (is_row row && number_fits slots) (number_fits within) front in
+    let (range, small) = and_parts (is_row row) (number_fits slots) front in
     arrival-bytes (codes "firm") row (spaced (decimal slots) (spaced (decimal within) (firm_text a))) refl range
     (spaced-bytes (decimal slots) (spaced (decimal within) (firm_text a)) (number-words slots small)
     (spaced-bytes (decimal within) (firm_text a) (number-words within near) (firm_text-bytes a answers)))

@@ -22,21 +22,21 @@ use Rattle.trace_lines.specs.declared.line.ShownSpan.{ShownSpan}
 use Rattle.trace_lines.specs.declared.line.TraceLine.{TraceLine}
 
 -- a number that a text may have
-abbrev pub is_number : ℕ → Bool
-is_number n = nat_le n NUMBER_LIMIT
+abbrev pub number_fits : ℕ → Bool
+number_fits n = nat_le n NUMBER_LIMIT
 
 -- a row of the arrivals
 abbrev pub is_row : ℕ → Bool
 is_row row = is_between 1 ARRIVAL_LIMIT row
 
 -- a number with a sign
-abbrev pub is_signed_number : ℤ → Bool
-is_signed_number (pos n) = is_number n
-is_signed_number (negsuc n) = is_number (suc n)
+abbrev pub signed_number_fits : ℤ → Bool
+signed_number_fits (pos n) = number_fits n
+signed_number_fits (negsuc n) = number_fits (suc n)
 
 -- a key of names, of a row or of an instance that may be
 abbrev pub key_fits : KeyName → Bool
-key_fits (Offline graph task instance) = is_name graph && is_name task && is_number instance
+key_fits (Offline graph task instance) = is_name graph && is_name task && number_fits instance
 key_fits (SporadicKey name row) = is_name name && is_row row
 key_fits (FirmKey row) = is_row row
 key_fits (SoftKey row) = is_row row
@@ -44,36 +44,36 @@ key_fits (SoftKey row) = is_row row
 -- the numbers of an answer to soft work
 abbrev pub soft_fits : SoftAnswer → Bool
 soft_fits SoftTaken = true
-soft_fits (Full n) = is_number n
+soft_fits (Full n) = number_fits n
 
 -- to a firm task
 abbrev pub firm_fits : FirmAnswer → Bool
 firm_fits Accepted = true
 firm_fits Late = true
 firm_fits Far = true
-firm_fits (NoRoom e) = is_number e.until && is_number e.need && is_number e.room
+firm_fits (NoRoom e) = number_fits e.until && number_fits e.need && number_fits e.room
 
 -- to a sporadic arrival
 abbrev pub sporadic_fits : Spo → Bool
-sporadic_fits (SporadicTaken due) = is_number due
-sporadic_fits (Soon next) = is_number next
+sporadic_fits (SporadicTaken due) = number_fits due
+sporadic_fits (Soon next) = number_fits next
 
 -- to an early end
 abbrev pub done_fits : DoneAnswer → Bool
-done_fits (Freed n) = is_number n
+done_fits (Freed n) = number_fits n
 done_fits NotRunning = true
 
 -- to a withdrawal
 abbrev pub gone_fits : Gone → Bool
-gone_fits (GoneFreed n) = is_number n
+gone_fits (GoneFreed n) = number_fits n
 gone_fits NoJob = true
 
 -- what a line tells
 abbrev pub words_fit : Words → Bool
 words_fit Start = true
-words_fit (Soft row slots a) = is_row row && is_number slots && soft_fits a
+words_fit (Soft row slots a) = is_row row && number_fits slots && soft_fits a
 words_fit (Firm row slots within a) =
-    is_row row && is_number slots && is_number within && firm_fits a
+    is_row row && number_fits slots && number_fits within && firm_fits a
 words_fit (Sporadic row name a) = is_row row && is_name name && sporadic_fits a
 words_fit (Done row key a) = is_row row && key_fits key && done_fits a
 words_fit (Withdraw row firm a) = is_row row && is_row firm && gone_fits a
@@ -83,16 +83,16 @@ words_fit End = true
 
 -- the numbers of a span
 abbrev pub span_fits : ShownSpan → Bool
-span_fits span = is_number span.start && is_number span.end && is_signed_number span.spare
+span_fits span = number_fits span.start && number_fits span.end && signed_number_fits span.spare
 
 -- none at the end of a trace; else at least one span, at most as many as are shown, and a number of
 -- others
 abbrev pub spans_fit : Words → List ShownSpan → ℕ → Bool
 spans_fit End spans more = length spans == 0 && more == 0
 spans_fit words spans more =
-    is_between 1 SHOWN_LIMIT (length spans) && list_all span_fits spans && is_number more
+    is_between 1 SHOWN_LIMIT (length spans) && list_all span_fits spans && number_fits more
 
 -- a line
 abbrev pub line_fits : TraceLine → Bool
 line_fits line =
-    is_number line.time && words_fit line.words && spans_fit line.words line.spans line.more
+    number_fits line.time && words_fit line.words && spans_fit line.words line.spans line.more

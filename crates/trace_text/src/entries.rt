@@ -5,7 +5,7 @@ ghost use Rattle.slot_core.specs.Runs.Arrivals.{key_in_set, what_in_set};
 ghost use Rattle.slot_core.specs.Output.Texts.{entry_line, key_text, spans_text};
 ghost use Rattle.trace_text.specs.declared.TheConstants.{KEY_LIMIT, LINE_LIMIT, SPANS_LIMIT};
 
-use crate::extents::{Anew, ExtentWriter};
+use crate::extents::{Anew, SpanWriter};
 use crate::keys::push_key;
 use crate::line::Line;
 use crate::spans::push_shown;
@@ -23,7 +23,7 @@ pub fn entry_line(entry: &Entry, tasks: &TaskSet) -> Line
 }
 
 /// Writes the line of an entry into an empty line.
-pub(crate) fn push_entry<W: ExtentWriter>(
+pub(crate) fn push_entry<W: SpanWriter>(
     line: &mut Line,
     writer: &mut W,
     entry: &Entry,
@@ -35,13 +35,13 @@ pub(crate) fn push_entry<W: ExtentWriter>(
 {
     line.number(entry.time);
     line.push(b" ");
-    push_what(line, entry.what, tasks);
+    push_what(line, &entry.what, tasks);
     push_tail(line, writer, entry.what, &entry.shown);
     line.push(b"\n");
 }
 
 /// Appends what stands after the words of an entry: nothing at the end, else the spans.
-fn push_tail<W: ExtentWriter>(line: &mut Line, writer: &mut W, what: What, shown: &Shown)
+fn push_tail<W: SpanWriter>(line: &mut Line, writer: &mut W, what: What, shown: &Shown)
     requires { length line.old + SPANS_LIMIT ≤ LINE_LIMIT }
     ensures text { line.new ≡ line.old ++ spans_text what shown.now }
     ensures short { length line.new ≤ length line.old + SPANS_LIMIT }

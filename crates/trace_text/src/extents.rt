@@ -1,52 +1,75 @@
-//! The extents of spans, which are their starts and ends, as texts that are kept from line to line.
+//! The extents of spans, which are their starts and ends, and their spare capacities, as texts that
+//! are kept from line to line.
 
-ghost use Rattle.std.specs.Prelude.{◌≡◌, ◌≤◌, ◌+◌, ◌++◌, length};
-ghost use Rattle.trace_text.specs.declared.TheConstants.{EXTENT_LIMIT, LINE_LIMIT, SPAN_LIMIT};
+ghost use Rattle.std.specs.Prelude.{◌≡◌, ◌≤◌, ◌<◌, ◌+◌, ◌++◌, drop, length, true};
+ghost use Rattle.std.specs.Fmt.{signed_decimal};
+ghost use Rattle.trace_text.specs.declared.TheConstants.{DECIMAL_LIMIT, EXTENT_LIMIT, LINE_LIMIT, SPAN_LIMIT};
+ghost use Rattle.trace_text.specs.declared.extents.TheConstants.{EXTENT_COUNT, EXTENT_SIZE, SPARE_COUNT, SPARE_SIZE};
 ghost use Rattle.trace_text.specs.Extents.{extent_text};
 
-use crate::line::{BLOCK_SIZE, Line};
+use crate::line::Line;
 use slot_core::Span;
 use std::array::from_fn;
 use std::marker::Model;
 
-/// How many texts are kept.
-const CELL_COUNT: usize = 64;
+/// How many texts of extents are kept.
+const EXTENT_COUNT: usize = 64;
 
-/// What writes the extents of spans.
-pub(crate) trait ExtentWriter {
-    /// Appends the extent of the span, after a space and before a colon.
-    fn push_extent(&mut self, line: &mut Line, span: Span)
+/// How many texts of spare capacities are kept.
+const SPARE_COUNT: usize = 128;
+
+/// Most bytes of the text of an extent that is kept: two numbers of ten digits each.
+const EXTENT_SIZE: usize = 24;
+
+/// Most bytes of the text of a spare capacity that is kept.
+const SPARE_SIZE: usize = 8;
+
+/// What writes spans.
+pub(crate) trait SpanWriter {
+    /// Appends the extent of the span, after a space and before a colon, and its spare capacity.
+    fn push_span(&mut self, line: &mut Line, span: &Span)
         requires { length line.old + SPAN_LIMIT ≤ LINE_LIMIT }
-        ensures text { line.new ≡ line.old ++ extent_text span.start span.end }
-        ensures short { length line.new ≤ length line.old + EXTENT_LIMIT };
+        ensures text { line.new ≡ line.old ++ extent_text span.now.start span.now.end
+            ++ signed_decimal span.now.spare }
+        ensures short { length line.new ≤ length line.old + SPAN_LIMIT };
+}
+
+/// Appends the extent of the span, made anew.
+fn push_extent(line: &mut Line, span: &Span)
+    requires { length line.old + SPAN_LIMIT ≤ LINE_LIMIT }
+    ensures text { line.new ≡ line.old ++ extent_text span.now.start span.now.end }
+    ensures short { length line.new ≤ length line.old + EXTENT_LIMIT }
+{
+    line.push(b" ");
+    line.number(span.start);
+    line.push(b"-");
+    line.number(span.end);
+    line.push(b":");
 }
 
 /// Makes each text anew.
 #[derive(Drop)]
 pub(crate) struct Anew;
 
-impl ExtentWriter for Anew {
-    fn push_extent(&mut self, line: &mut Line, span: Span) {
-        line.push(b" ");
-        line.number(span.start);
-        line.push(b"-");
-        line.number(span.end);
-        line.push(b":");
+impl SpanWriter for Anew {
+    fn push_span(&mut self, line: &mut Line, span: &Span) {
+        push_extent(line, span);
+        line.signed_number(span.spare);
     }
 }
 
 /// The text of an extent, which contracts see as its start and its end.
 #[derive(Drop)]
-struct Cell {
+struct ExtentCell {
     start: u64,
     end: u64,
-    bytes: [u8; BLOCK_SIZE],
+    bytes: [u8; EXTENT_SIZE],
     len: usize,
 }
 
-impl Model for Cell {
+impl Model for ExtentCell {
     ghost use Rattle.std.specs.Prelude.{◌≡◌, ◌≤◌, ℕ, take};
-    ghost use Rattle.trace_text.specs.declared.TheConstants.{EXTENT_LIMIT};
+    ghost use Rattle.trace_text.specs.declared.extents.TheConstants.{EXTENT_SIZE};
     ghost use Rattle.trace_text.specs.Extents.{extent_text};
 
     ghost Value = { ℕ × ℕ };
@@ -54,15 +77,15 @@ impl Model for Cell {
     ghost view = { λ c. (c.start, c.end) };
 
     ghost invariant = { λ c.
-        (c.len ≤ EXTENT_LIMIT) × (take c.len c.bytes ≡ extent_text c.start c.end) };
+        (c.len ≤ EXTENT_SIZE) × (take c.len c.bytes ≡ extent_text c.start c.end) };
 }
 
-impl Cell {
+impl ExtentCell {
     /// The text from 0 to 0.
-    fn new() -> Cell {
-        let mut bytes = [0; BLOCK_SIZE];
+    fn new() -> ExtentCell {
+        let mut bytes = [0; EXTENT_SIZE];
         bytes[..5].copy_from_slice(b" 0-0:");
-        Cell {
+        ExtentCell {
             start: 0,
             end: 0,
             bytes,
@@ -70,60 +93,166 @@ impl Cell {
         }
     }
 
-    /// Appends the extent of the span. Its text is made only where that of another one is kept.
+    /// Whether it is the text of the extent of the span.
     #[inline]
-    fn push_extent(&mut self, line: &mut Line, span: Span)
-        requires { length line.old + SPAN_LIMIT ≤ LINE_LIMIT }
-        ensures text { line.new ≡ line.old ++ extent_text span.start span.end }
-        ensures short { length line.new ≤ length line.old + EXTENT_LIMIT }
+    fn is_of(&self, span: &Span) -> bool
+        ensures { result ≡ true → self.now ≡ (span.now.start, span.now.end) }
     {
-        if self.start == span.start && self.end == span.end {
-            line.push_block(&self.bytes, self.len);
-        } else {
-            self.renew(line, span);
-        }
+        self.start == span.start && self.end == span.end
+    }
+
+    /// Appends the text, and then that of a spare capacity.
+    #[inline]
+    fn push_with(&self, spare: &SpareCell, line: &mut Line)
+        requires { length line.old + SPAN_LIMIT ≤ LINE_LIMIT }
+        ensures text { line.new ≡ line.old ++ extent_text self.now.0 self.now.1
+            ++ signed_decimal spare.now }
+        ensures short { length line.new ≤ length line.old + SPAN_LIMIT }
+    {
+        line.push_blocks(self.bytes, self.len, spare.bytes, spare.len);
     }
 
     /// Appends the extent of the span, and keeps its text.
-    fn renew(&mut self, line: &mut Line, span: Span)
+    fn renew(&mut self, line: &mut Line, span: &Span)
         requires { length line.old + SPAN_LIMIT ≤ LINE_LIMIT }
-        ensures text { line.new ≡ line.old ++ extent_text span.start span.end }
+        ensures text { line.new ≡ line.old ++ extent_text span.now.start span.now.end }
         ensures short { length line.new ≤ length line.old + EXTENT_LIMIT }
     {
         let from = line.bytes().len();
-        Anew.push_extent(line, span);
-        self.keep(span, &line.bytes()[from..]);
+        push_extent(line, span);
+        self.keep(span, line, from);
     }
 
-    /// Keeps the text of the extent of the span.
-    fn keep(&mut self, span: Span, text: &[u8])
-        requires text { text.now ≡ extent_text span.start span.end }
-        requires short { length text.now ≤ EXTENT_LIMIT }
+    /// Keeps the text of the extent of the span, which stands in the line from this place on, where
+    /// it is not too long.
+    fn keep(&mut self, span: &Span, line: &Line, from: usize)
+        requires inside { from ≤ length line.now }
+        requires room { from + EXTENT_SIZE ≤ LINE_LIMIT }
+        requires text { drop from line.now ≡ extent_text span.now.start span.now.end }
     {
-        self.bytes[..text.len()].copy_from_slice(text);
-        self.start = span.start;
-        self.end = span.end;
-        self.len = text.len();
+        let len = line.bytes().len() - from;
+        if len <= EXTENT_SIZE {
+            self.bytes = line.block_from(from);
+            self.start = span.start;
+            self.end = span.end;
+            self.len = len;
+        }
+    }
+}
+
+/// The text of a spare capacity, which contracts see as the number.
+#[derive(Drop)]
+struct SpareCell {
+    spare: i64,
+    bytes: [u8; SPARE_SIZE],
+    len: usize,
+}
+
+impl Model for SpareCell {
+    ghost use Rattle.std.specs.Prelude.{◌≡◌, ◌≤◌, ℤ, take};
+    ghost use Rattle.std.specs.Fmt.{signed_decimal};
+    ghost use Rattle.trace_text.specs.declared.extents.TheConstants.{SPARE_SIZE};
+
+    ghost Value = { ℤ };
+
+    ghost view = { λ c. c.spare };
+
+    ghost invariant = { λ c.
+        (c.len ≤ SPARE_SIZE) × (take c.len c.bytes ≡ signed_decimal c.spare) };
+}
+
+impl SpareCell {
+    /// The text of 0.
+    fn new() -> SpareCell {
+        let mut bytes = [0; SPARE_SIZE];
+        bytes[..1].copy_from_slice(b"0");
+        SpareCell {
+            spare: 0,
+            bytes,
+            len: 1,
+        }
+    }
+
+    /// Whether it is the text of this spare capacity.
+    #[inline]
+    fn is_of(&self, spare: i64) -> bool
+        ensures { result ≡ true → self.now ≡ spare }
+    {
+        self.spare == spare
+    }
+
+    /// Appends the spare capacity, and keeps its text.
+    fn renew(&mut self, line: &mut Line, spare: i64)
+        requires { length line.old + DECIMAL_LIMIT ≤ LINE_LIMIT }
+        ensures text { line.new ≡ line.old ++ signed_decimal spare }
+        ensures short { length line.new ≤ length line.old + DECIMAL_LIMIT }
+    {
+        let from = line.bytes().len();
+        line.signed_number(spare);
+        self.keep(spare, line, from);
+    }
+
+    /// Keeps the text of the spare capacity, which stands in the line from this place on, where it
+    /// is not too long.
+    fn keep(&mut self, spare: i64, line: &Line, from: usize)
+        requires inside { from ≤ length line.now }
+        requires room { from + SPARE_SIZE ≤ LINE_LIMIT }
+        requires text { drop from line.now ≡ signed_decimal spare }
+    {
+        let len = line.bytes().len() - from;
+        if len <= SPARE_SIZE {
+            self.bytes = line.block_from(from);
+            self.spare = spare;
+            self.len = len;
+        }
     }
 }
 
 /// The texts of extents, each in the cell of its end: so they stay where time passes and spans go.
+/// And those of spare capacities, each in a cell of its last bits.
 #[derive(Drop)]
 pub(crate) struct Cells {
-    cells: [Cell; CELL_COUNT],
+    extents: [ExtentCell; EXTENT_COUNT],
+    spares: [SpareCell; SPARE_COUNT],
 }
 
 impl Cells {
-    /// Cells with the text from 0 to 0.
+    /// Cells with the text from 0 to 0 and that of 0.
     pub(crate) fn new() -> Cells {
         Cells {
-            cells: from_fn(|_| Cell::new()),
+            extents: from_fn(|_| ExtentCell::new()),
+            spares: from_fn(|_| SpareCell::new()),
         }
     }
 }
 
-impl ExtentWriter for Cells {
-    fn push_extent(&mut self, line: &mut Line, span: Span) {
-        self.cells[span.end as usize % CELL_COUNT].push_extent(line, span);
+/// The place of the cell of the extent of the span.
+#[inline]
+fn extent_place(span: &Span) -> usize
+    ensures { result < EXTENT_COUNT }
+{
+    span.end as usize % EXTENT_COUNT
+}
+
+/// The place of the cell of the spare capacity of the span.
+#[inline]
+fn spare_place(span: &Span) -> usize
+    ensures { result < SPARE_COUNT }
+{
+    span.spare.cast_unsigned() as usize % SPARE_COUNT
+}
+
+impl SpanWriter for Cells {
+    #[inline]
+    fn push_span(&mut self, line: &mut Line, span: &Span) {
+        let Cells { extents, spares } = self;
+        let extent = &mut extents[extent_place(span)];
+        let spare = &mut spares[spare_place(span)];
+        if extent.is_of(span) && spare.is_of(span.spare) {
+            extent.push_with(spare, line);
+        } else {
+            extent.renew(line, span);
+            spare.renew(line, span.spare);
+        }
     }
 }

@@ -1,16 +1,12 @@
 //! A line in the making.
 
-ghost use Rattle.std.specs.Prelude.{◌≡◌, ◌≤◌, ◌+◌, [], ◌++◌, length, take, decimal};
+ghost use Rattle.std.specs.Prelude.{◌≡◌, ◌≤◌, ◌+◌, [], ◌++◌, ◌-◌, drop, length, take, decimal};
 ghost use Rattle.std.specs.Fmt.{signed_decimal};
 ghost use Rattle.trace_text.specs.declared.TheConstants.{DECIMAL_LIMIT, LINE_LIMIT};
-ghost use Rattle.trace_text.specs.declared.line.TheConstants.{BLOCK_SIZE};
 
 use crate::LINE_LIMIT;
 use itoa::write_digits;
 use std::marker::Model;
-
-/// The bytes of a block, which is copied by a few moves.
-pub(crate) const BLOCK_SIZE: usize = 48;
 
 /// Bytes of one line, at most `LINE_LIMIT`, which contracts see as a list. It takes no memory.
 #[derive(Drop)]
@@ -61,16 +57,26 @@ impl Line {
         self.len = start + bytes.len();
     }
 
-    /// Appends the first `len` bytes of the block, for all of which there is room.
+    /// Appends the first `count` bytes of one block and then the first `more` of another, for all of
+    /// which there is room. The length is written once.
     #[inline]
-    pub(crate) fn push_block(&mut self, block: &[u8; BLOCK_SIZE], len: usize)
-        requires len { len ≤ BLOCK_SIZE }
-        requires room { length self.old + BLOCK_SIZE ≤ LINE_LIMIT }
-        ensures { self.new ≡ self.old ++ take len block.now }
+    pub(crate) fn push_blocks<const N: usize, const M: usize>(
+        &mut self,
+        first: [u8; N],
+        count: usize,
+        second: [u8; M],
+        more: usize,
+    )
+        requires first { count ≤ N }
+        requires second { more ≤ M }
+        requires room { length self.old + N + M ≤ LINE_LIMIT }
+        ensures { self.new ≡ self.old ++ take count first.entry ++ take more second.entry }
     {
-        let end = self.len + BLOCK_SIZE;
-        self.bytes[self.len..end].copy_from_slice(block);
-        self.len += len;
+        let start = self.len;
+        let middle = start + count;
+        self.bytes[start..start + N].copy_from_slice(&first);
+        self.bytes[middle..middle + M].copy_from_slice(&second);
+        self.len = middle + more;
     }
 
     /// Appends the number in decimal digits.
@@ -121,6 +127,19 @@ impl Line {
         let end = self.len + count;
         write_digits(n, &mut self.bytes, end);
         self.len = end;
+    }
+
+    /// The bytes from this place on, as a block: those of the line, and then any.
+    #[inline]
+    pub(crate) fn block_from<const N: usize>(&self, from: usize) -> [u8; N]
+        requires inside { from ≤ length self.now }
+        requires room { from + N ≤ LINE_LIMIT }
+        ensures { length self.now ≤ from + N
+            → take (length self.now - from) result ≡ drop from self.now }
+    {
+        let mut block = [0; N];
+        block.copy_from_slice(&self.bytes[from..from + N]);
+        block
     }
 
     /// The bytes of the line.

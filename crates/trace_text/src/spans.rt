@@ -6,34 +6,33 @@ ghost use Rattle.slot_core.specs.declared.jobs.Span.{Span};
 ghost use Rattle.slot_core.specs.Output.Texts.{span_text, shown_text};
 ghost use Rattle.trace_text.specs.declared.TheConstants.{LINE_LIMIT, SPAN_LIMIT, SPANS_LIMIT};
 
-use crate::extents::ExtentWriter;
+use crate::extents::SpanWriter;
 use crate::line::Line;
 use slot_core::{Shown, Span};
 
 /// Appends a space and the span.
-fn push_span<W: ExtentWriter>(line: &mut Line, writer: &mut W, span: Span)
+fn push_span<W: SpanWriter>(line: &mut Line, writer: &mut W, span: &Span)
     requires { length line.old + SPAN_LIMIT ≤ LINE_LIMIT }
-    ensures text { line.new ≡ line.old ++ 32 ∷ span_text span }
+    ensures text { line.new ≡ line.old ++ 32 ∷ span_text span.now }
     ensures short { length line.new ≤ length line.old + SPAN_LIMIT }
 {
-    writer.push_extent(line, span);
-    line.signed_number(span.spare);
+    writer.push_span(line, span);
 }
 
 /// Appends the spans, a space before each.
-fn push_spans<W: ExtentWriter>(line: &mut Line, writer: &mut W, spans: &[Span])
+fn push_spans<W: SpanWriter>(line: &mut Line, writer: &mut W, spans: &[Span])
     requires few { length spans.now ≤ SHOWN_LIMIT }
     requires room { length line.old + SHOWN_LIMIT * SPAN_LIMIT ≤ LINE_LIMIT }
     ensures text { line.new ≡ line.old ++ flat_map (λ (s : Span). 32 ∷ span_text s) spans.now }
     ensures short { length line.new ≤ length line.old + SHOWN_LIMIT * SPAN_LIMIT }
 {
     for span in spans {
-        push_span(line, writer, *span);
+        push_span(line, writer, span);
     }
 }
 
 /// Appends a bar, the spans that an entry shows, and how many more there are.
-pub(crate) fn push_shown<W: ExtentWriter>(line: &mut Line, writer: &mut W, shown: &Shown)
+pub(crate) fn push_shown<W: SpanWriter>(line: &mut Line, writer: &mut W, shown: &Shown)
     requires { length line.old + SPANS_LIMIT ≤ LINE_LIMIT }
     ensures text { line.new ≡ line.old ++ codes " |" ++ shown_text shown.now }
     ensures short { length line.new ≤ length line.old + SPANS_LIMIT }

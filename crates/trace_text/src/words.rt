@@ -179,13 +179,14 @@ fn push_withdraw_words(line: &mut Line, row: u32, firm: u32, answer: Gone, tasks
 }
 
 /// Appends the words of an entry.
-pub(crate) fn push_what(line: &mut Line, what: What, tasks: &TaskSet)
-    requires named { what_in_set tasks.now what ≡ true }
+#[inline(always)]
+pub(crate) fn push_what(line: &mut Line, what: &What, tasks: &TaskSet)
+    requires named { what_in_set tasks.now what.now ≡ true }
     requires room { length line.old + WORDS_LIMIT ≤ LINE_LIMIT }
-    ensures text { line.new ≡ line.old ++ what_text tasks.now what }
+    ensures text { line.new ≡ line.old ++ what_text tasks.now what.now }
     ensures short { length line.new ≤ length line.old + WORDS_LIMIT }
 {
-    match what {
+    match *what {
         What::Start => line.push(b"start"),
         What::Soft(row, slots, answer) => push_soft_words(line, row, slots, answer),
         What::Firm(row, slots, within, answer) => push_firm_words(line, row, slots, within, answer),

@@ -11,7 +11,6 @@ use Rattle.std.proofs.lemmas.List.Elements.{recursion_from_All}
 use Rattle.slot_core.specs.declared.jobs.Job.{Job}
 use Rattle.slot_core.specs.declared.jobs.Span.{Span}
 use Rattle.slot_core.specs.Keeping.Plans.{AreInDeadlineOrder}
-use Rattle.slot_core.specs.Runs.Demand.{work_between}
 use Rattle.slot_core.specs.Runs.Rising.{AreRising, last_point}
 use Rattle.slot_core.specs.Runs.Spans.{slack, span_at, spans_between}
 use Rattle.slot_facts.proofs.Lists.Sums.{sum_by-filter, cond-le}
@@ -24,6 +23,7 @@ use Rattle.interval_build.proofs.Least.{IsLeast-least}
 use Rattle.trace_verify.specs.Lacks.{lack}
 use Rattle.trace_verify.proofs.LackFacts.{AreDueFrom, AreDueBy, least-lack}
 use Rattle.scene_steps.proofs.Rows.Cycles.{at_most_last}
+use Rattle.scene_steps.proofs.Rows.NextRows.{rows_between-append}
 
 -- a span of one slot that borrows so many
 abbrev pub lacking_span : ℕ → ℕ → Span
@@ -50,23 +50,12 @@ take-filled (x ∷ xs) ys zs same =
     cons_both : (a b : Span) (more others : List Span) → a ≡ b → more ≡ others → ◌≡◌ {A = List Span} (a ∷ more) (b ∷ others)
     cons_both a b more others p q = cc
 
--- rows between points, and then between more points
-rows_between-append : (jobs : List Job) (s : ℕ) (xs ys : List ℕ) → rows_between jobs s (xs ++ ys) ≡ rows_between jobs s xs ++ rows_between jobs (last_point s xs) ys
-rows_between-append jobs s [] ys = refl
-rows_between-append jobs s (x ∷ xs) ys =
-    ap (λ (rows : List Span). record { start = s; end = x; work = work_between jobs s x; spare = pos 0 } ∷ rows) (rows_between-append jobs x xs ys)
-
 -- the first of the spans between points are those between the first points
 take-spans_between : (jobs : List Job) (end s n : ℕ) (points : List ℕ) → take n (spans_between jobs end s points) ≡ spans_between jobs end s (take n points)
 take-spans_between jobs end s zero points = refl
 take-spans_between jobs end s (suc n) [] = refl
 take-spans_between jobs end s (suc n) (p ∷ points) =
     ap (λ (spans : List Span). span_at jobs end s p ∷ spans) (take-spans_between jobs end p n points)
-
--- the last point, over the first points and the others
-last_point-append : (s : ℕ) (xs ys : List ℕ) → last_point s (xs ++ ys) ≡ last_point (last_point s xs) ys
-last_point-append s [] ys = refl
-last_point-append s (x ∷ xs) ys = last_point-append x xs ys
 
 -- the first points rise, and the others from the last of them
 pub AreRising-front : (s : ℕ) (xs ys : List ℕ) → AreRising s (xs ++ ys) → AreRising s xs
@@ -211,11 +200,6 @@ FollowOn-lacking jobs s n (e ∷ points) rising near small few =
 pub AreConsecutive-lacking : (jobs : List Job) (s n : ℕ) (points : List ℕ) → AreRising s points → last_point s points ≤ 2 ^ 40 → sum_by (λ (j : Job). j.left) jobs ≤ 2 ^ 40 → n < 2 ^ 40 → AreConsecutive (rows_between jobs s points ++ lacking_span (last_point s points) n ∷ [])
 AreConsecutive-lacking jobs s n [] rising near small few = FollowOn-lacking jobs s n [] rising near small few
 AreConsecutive-lacking jobs s n (e ∷ points) rising near small few = FollowOn-lacking jobs s n (e ∷ points) rising near small few
-
--- there is one span for each point
-pub length-spans_between : (jobs : List Job) (end s : ℕ) (points : List ℕ) → length (spans_between jobs end s points) ≡ length points
-length-spans_between jobs end s [] = refl
-length-spans_between jobs end s (p ∷ points) = ap suc (length-spans_between jobs end p points)
 
 -- a span made of what the later jobs lack
 pub with_lacking : (jobs beyond : List Job) (t end n : ℕ) (front : List ℕ) (made : Span) → end ≡ last_point t front → beyond ≡ filter (is_due_after end) jobs → n ≡ lack end beyond → made ≡ lacking_span end n → rows_between jobs t front ++ made ∷ [] ≡ rows_between jobs t front ++ lacking_span (last_point t front) (lack (last_point t front) (filter (is_due_after (last_point t front)) jobs)) ∷ []

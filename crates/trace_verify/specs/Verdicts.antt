@@ -100,7 +100,8 @@ abbrev pub lines_told :
 lines_told set cycle slots h n [] text = last_line set slots n text
 lines_told set cycle slots h n (next ∷ later) text = do
   parts ← needed_line n text
-  what ← line_told set cycle (scene_of set cycle h) (λ what. scene_of set cycle (what ∷ h)) n next parts.0
+  what ← line_told set cycle (scene_of set cycle h)
+      (λ what. scene_of set cycle (what ∷ h)) n next parts.0
   lines_told set cycle slots (what ∷ h) (n + 1) later parts.1
 
 -- line 1 is that of the start, with the text after it

@@ -7,7 +7,7 @@ ghost use Rattle.verify_faults.specs.declared.faults.VerifyFault.TheVariants.{Me
 use slot_core::{Key, Memory};
 
 /// Why a recorded trace is no lawful one. Lines count from 1.
-#[derive(Clone, Copy, PartialEq, Eq, Debug)]
+#[derive(Clone, Copy)]
 pub enum VerifyFault {
     /// Memory ran out.
     Memory,

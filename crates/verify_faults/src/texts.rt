@@ -4,7 +4,7 @@ ghost use Rattle.std.specs.Prelude.{◌≡◌, ◌≤◌, ◌+◌, ◌++◌, ◌
 ghost use Rattle.slot_core.specs.Output.Texts.{key_text, worded};
 ghost use Rattle.slot_core.specs.Runs.Arrivals.{key_in_set};
 ghost use Rattle.trace_text.specs.declared.TheConstants.{DECIMAL_LIMIT};
-ghost use Rattle.verify_faults.specs.declared.texts.TheConstants.{FAULT_LIMIT, WORDS_LIMIT};
+ghost use Rattle.verify_faults.specs.declared.texts.TheConstants.{FAULT_LIMIT, FAULT_WORDS_LIMIT};
 ghost use Rattle.verify_faults.specs.FaultTexts.{names_known, verify_fault_text};
 
 use crate::VerifyFault;
@@ -12,10 +12,10 @@ use slot_core::{Key, TaskSet};
 use trace_text::{DECIMAL_LIMIT, KEY_LIMIT, Line, key_text};
 
 /// Most bytes of the words of a fault.
-const WORDS_LIMIT: usize = 100;
+const FAULT_WORDS_LIMIT: usize = 100;
 
 /// Most bytes of the text of a fault: its words, a number and a key, a space between them.
-pub const FAULT_LIMIT: usize = WORDS_LIMIT + 1 + DECIMAL_LIMIT + 1 + KEY_LIMIT;
+pub const FAULT_LIMIT: usize = FAULT_WORDS_LIMIT + 1 + DECIMAL_LIMIT + 1 + KEY_LIMIT;
 
 /// The text that tells the fault. The key that it names lies in the task set.
 pub fn fault_text(fault: VerifyFault, tasks: &TaskSet) -> Line
@@ -36,9 +36,9 @@ pub fn fault_text(fault: VerifyFault, tasks: &TaskSet) -> Line
 
 /// The words.
 fn words(text: &[u8]) -> Line
-    requires { length text.now ≤ WORDS_LIMIT }
+    requires { length text.now ≤ FAULT_WORDS_LIMIT }
     ensures words { result ≡ text.now }
-    ensures short { length result ≤ WORDS_LIMIT }
+    ensures short { length result ≤ FAULT_WORDS_LIMIT }
 {
     let mut line = Line::new();
     line.push(text);
@@ -47,9 +47,9 @@ fn words(text: &[u8]) -> Line
 
 /// The words, a space and the number.
 fn worded(text: &[u8], number: u64) -> Line
-    requires { length text.now ≤ WORDS_LIMIT }
+    requires { length text.now ≤ FAULT_WORDS_LIMIT }
     ensures worded { result ≡ worded text.now number }
-    ensures short { length result ≤ WORDS_LIMIT + 1 + DECIMAL_LIMIT }
+    ensures short { length result ≤ FAULT_WORDS_LIMIT + 1 + DECIMAL_LIMIT }
 {
     let mut line = words(text);
     line.push(b" ");
@@ -59,7 +59,7 @@ fn worded(text: &[u8], number: u64) -> Line
 
 /// The words, a space, the number, a space and the key.
 fn keyed(text: &[u8], number: u64, key: Key, tasks: &TaskSet) -> Line
-    requires short { length text.now ≤ WORDS_LIMIT }
+    requires short { length text.now ≤ FAULT_WORDS_LIMIT }
     requires known { key_in_set tasks.now key ≡ true }
     ensures keyed { result ≡ worded text.now number ++ 32 ∷ key_text tasks.now key }
     ensures short { length result ≤ FAULT_LIMIT }

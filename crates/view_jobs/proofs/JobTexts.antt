@@ -1,24 +1,25 @@
 -- The text of the table of jobs, in pieces.
-use Rattle.std.proofs.Common.{◌≡◌, ℕ, ◌+◌, ◌<◌, List, [], ◌∷◌, ◌++◌, append-nil, append_assoc, length, take, get_or, map, Option, refl, sym, ap, subst, ◌∙◌}
-use Rattle.std.specs.Prelude.{Result, Ok, Err, OnErr}
+use Rattle.std.proofs.Common.{◌≡◌, ℕ, ◌+◌, ◌<◌, List, [], ◌∷◌, ◌++◌, length, take, get_or, map, Option, sym, ap, subst, ◌∙◌}
 use Rattle.std.specs.Io.KnownBytes.{Appends}
 use Rattle.std.proofs.KnownBytes.{Appends-nil, Appends-trans}
+use Rattle.std.proofs.Math.Path.{fun_ext}
 use Rattle.std.proofs.lemmas.List.{get_or_default, map-append, take_more}
 use Rattle.slot_io.specs.Sinks.{AppendsPart}
-use Rattle.slot_io.proofs.SinkParts.{AppendsPart-more, AppendsPart-on, AppendsPart-none}
+use Rattle.slot_io.proofs.SinkParts.{AppendsPart-more, AppendsPart-on}
 use Rattle.csv_table.specs.Tables.{row_line, rows_text}
 use Rattle.csv_table.proofs.RowTexts.{rows_text-append, rows_text-more}
 use Rattle.slot_core.specs.declared.jobs.Key.{Key}
 use Rattle.slot_core.specs.declared.tasks.TaskSet.{TaskSet}
+use Rattle.slot_core.specs.Keeping.Plans.{PlanParts}
+use Rattle.trace_lines.specs.declared.line.TraceLine.{TraceLine}
+use Rattle.view_jobs.specs.declared.deeds.Deed.{Deed}
 use Rattle.view_jobs.specs.declared.jobs.Listed.{Listed}
 use Rattle.view_jobs.specs.declared.tallies.Tally.{Tally}
+use Rattle.view_jobs.specs.Deeds.{deeds_of}
 use Rattle.view_jobs.specs.JobRows.{job_names, job_row}
-use Rattle.view_jobs.specs.Tables.{BreaksTable, rows_with, table_text, WritesTable}
-
--- what holds, holds where a call fails
-pub failing : {T E P : Type 0} (r : Result T E) → P → OnErr r P
-failing (Ok x) p = tt
-failing (Err e) p = p
+use Rattle.view_jobs.specs.Listing.{listed_jobs}
+use Rattle.view_jobs.specs.Tables.{jobs_text, rows_with, table_text, time_of_last}
+use Rattle.view_jobs.specs.Tallies.{told_of}
 
 -- the text of the rows of jobs
 abbrev pub jobs_rows : TaskSet → (Key → Tally) → List Listed → List ℕ
@@ -58,18 +59,22 @@ jobs-broken a b c set told front part later rest jobs all split before broken =
 head-text : (set : TaskSet) (told : Key → Tally) (jobs : List Listed) → table_text set told jobs ≡ rows_text (job_names ∷ []) ++ jobs_rows set told jobs
 head-text set told jobs = rows_text-append (job_names ∷ []) (rows_with set told jobs)
 
-pub all-written : (a b c : Option (List ℕ)) (set : TaskSet) (told : Key → Tally) (jobs : List Listed) → Appends a b (rows_text (job_names ∷ [])) → Appends b c (jobs_rows set told jobs) → WritesTable set a c
+pub all-written : (a b c : Option (List ℕ)) (set : TaskSet) (told : Key → Tally) (jobs : List Listed) → Appends a b (rows_text (job_names ∷ [])) → Appends b c (jobs_rows set told jobs) → Appends a c (table_text set told jobs)
 all-written a b c set told jobs before more =
-    (told, jobs, subst (Appends a c) (sym (head-text set told jobs)) (Appends-trans a b c (rows_text (job_names ∷ [])) (jobs_rows set told jobs) before more))
+    subst (Appends a c) (sym (head-text set told jobs)) (Appends-trans a b c (rows_text (job_names ∷ [])) (jobs_rows set told jobs) before more)
 
-pub rows-broken : (a b c : Option (List ℕ)) (set : TaskSet) (told : Key → Tally) (jobs : List Listed) → Appends a b (rows_text (job_names ∷ [])) → AppendsPart b c (jobs_rows set told jobs) → BreaksTable set a c
+pub rows-broken : (a b c : Option (List ℕ)) (set : TaskSet) (told : Key → Tally) (jobs : List Listed) → Appends a b (rows_text (job_names ∷ [])) → AppendsPart b c (jobs_rows set told jobs) → AppendsPart a c (table_text set told jobs)
 rows-broken a b c set told jobs before part =
-    (told, jobs, AppendsPart-on a b c (rows_text (job_names ∷ [])) (jobs_rows set told jobs) (table_text set told jobs) (head-text set told jobs) before part)
+    AppendsPart-on a b c (rows_text (job_names ∷ [])) (jobs_rows set told jobs) (table_text set told jobs) (head-text set told jobs) before part
 
-pub head-broken : (a b : Option (List ℕ)) (set : TaskSet) (told : Key → Tally) (jobs : List Listed) → AppendsPart a b (rows_text (job_names ∷ [])) → BreaksTable set a b
+pub head-broken : (a b : Option (List ℕ)) (set : TaskSet) (told : Key → Tally) (jobs : List Listed) → AppendsPart a b (rows_text (job_names ∷ [])) → AppendsPart a b (table_text set told jobs)
 head-broken a b set told jobs part =
-    (told, jobs, AppendsPart-more a a b [] (rows_text (job_names ∷ [])) (jobs_rows set told jobs) (table_text set told jobs) (head-text set told jobs) (Appends-nil a) part)
+    AppendsPart-more a a b [] (rows_text (job_names ∷ [])) (jobs_rows set told jobs) (table_text set told jobs) (head-text set told jobs) (Appends-nil a) part
 
--- nothing is written
-pub none-written : (a : Option (List ℕ)) (set : TaskSet) → (Key → Tally) → BreaksTable set a a
-none-written a set told = (told, [], AppendsPart-none a (table_text set told []))
+-- the table of the jobs of a trace, where its parts are what they are to be
+pub jobs_text-from_parts : (plan : PlanParts) (lines : List TraceLine) (set : TaskSet) (told : Key → Tally) (deeds : List Deed) (jobs : List Listed) (slots : ℕ) → set ≡ plan.tasks → deeds ≡ deeds_of plan.tasks lines → slots ≡ time_of_last lines → jobs ≡ listed_jobs plan slots deeds → ((key : Key) → told key ≡ told_of deeds key) → table_text set told jobs ≡ jobs_text plan lines
+jobs_text-from_parts plan lines set told deeds jobs slots own done last listed tells =
+    ap (λ s. table_text s told jobs) own
+    ∙ ap (λ t. table_text plan.tasks t jobs) (fun_ext tells)
+    ∙ ap (λ js. table_text plan.tasks (told_of deeds) js) (listed ∙ ap (λ n. listed_jobs plan n deeds) last)
+    ∙ ap (λ ds. table_text plan.tasks (told_of ds) (listed_jobs plan (time_of_last lines) ds)) done

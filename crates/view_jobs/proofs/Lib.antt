@@ -1,1 +1,11 @@
+mod CountedRuns
+mod DeedKinds
+mod JobNames
 mod JobTexts
+mod KeyMaps
+mod ListingSteps
+mod RawWindows
+mod RisingTimes
+mod Stretches
+mod ToldSteps
+mod ToldTimes

@@ -1,6 +1,9 @@
 pub mod Deeds
+pub mod Examples
 pub mod FaultTexts
 pub mod JobRows
+pub mod JobTimes
+pub mod Laws
 pub mod Listing
 pub mod Tallies
 pub mod Tables

@@ -8,7 +8,7 @@ use Rattle.slot_core.specs.Offline.OfflineJobs.{later_job}
 use Rattle.slot_core.specs.Offline.Windows.{raw_deadline, raw_release}
 use Rattle.view_jobs.specs.declared.deeds.Deed.{Deed}
 use Rattle.view_jobs.specs.declared.deeds.Does.{Does}
-use Rattle.view_jobs.specs.declared.deeds.Does.TheVariants.{Nothing, Brings, Runs, Ends}
+use Rattle.view_jobs.specs.declared.deeds.Does.TheVariants.{Brings}
 use Rattle.view_jobs.specs.declared.jobs.Listed.{Listed}
 
 -- an offline job with its raw window

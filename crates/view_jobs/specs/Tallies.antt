@@ -8,7 +8,7 @@ use Rattle.slot_core.specs.declared.jobs.Key.{Key}
 use Rattle.slot_core.specs.Offline.Keys.{key_order, same_key}
 use Rattle.view_jobs.specs.declared.deeds.Deed.{Deed}
 use Rattle.view_jobs.specs.declared.deeds.Does.{Does}
-use Rattle.view_jobs.specs.declared.deeds.Does.TheVariants.{Nothing, Brings, Runs, Ends}
+use Rattle.view_jobs.specs.declared.deeds.Does.TheVariants.{Runs, Ends}
 use Rattle.view_jobs.specs.declared.tallies.Tally.{Tally}
 
 -- nothing is told

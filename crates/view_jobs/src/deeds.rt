@@ -60,6 +60,7 @@ pub(crate) fn deeds_of(
     lines: &[TraceLine],
 ) -> Result<Vec<Deed>, Memory>
     requires { is_sound tasks.now ≡ true }
+    ensures { IfOk result (λ deeds. deeds.items ≡ deeds_of tasks.now lines.now) }
 {
     let mut deeds = Vec::new(alloc);
     for line in lines {

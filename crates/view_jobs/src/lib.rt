@@ -4,6 +4,7 @@
 mod deeds;
 mod faults;
 mod jobs;
+pub mod laws;
 mod put;
 mod rows;
 mod tallies;

@@ -6,7 +6,7 @@ ghost use Rattle.slot_core.specs.Calls.Counts.{Rose};
 ghost use Rattle.slot_io.specs.Sinks.{AppendsPart};
 ghost use Rattle.csv_table.specs.Tables.{rows_text};
 ghost use Rattle.view_jobs.specs.JobRows.{job_names};
-ghost use Rattle.view_jobs.specs.Tables.{BreaksTable, first_unknown, rows_with, WritesTable};
+ghost use Rattle.view_jobs.specs.Tables.{first_unknown, jobs_text, rows_with, table_text, time_of_last};
 ghost use Rattle.view_jobs.specs.Tallies.{tally_in};
 
 use crate::deeds::{deeds_of, first_unknown};
@@ -35,13 +35,20 @@ pub fn put_jobs<K: Sink>(
     lines: &[TraceLine],
     out: &mut K,
 ) -> Result<(), JobsFault>
-    ensures text { OnOk result (WritesTable plan.now.tasks (K.written out.old) (K.written out.new)) }
-    ensures part { OnErr result (BreaksTable plan.now.tasks (K.written out.old) (K.written out.new)) }
+    ensures text { OnOk result
+        (Appends (K.written out.old) (K.written out.new) (jobs_text plan.now lines.now)) }
+    ensures part { OnErr result
+        (AppendsPart (K.written out.old) (K.written out.new) (jobs_text plan.now lines.now)) }
     ensures counted { K.faults out.old ≤ K.faults out.new }
     ensures failed { result ≡ Err (JobsFault.Failed)
         → Rose (K.faults out.old) (K.faults out.new) }
-    ensures no_line { (n : ℕ) → result ≡ Err (JobsFault.NoLine (n + 1))
-        → first_unknown plan.now.tasks lines.now ≡ Some n }
+
+    // The line of number n, counted from 1, is told exactly where it is the first that names an
+    // unknown task.
+    ensures no_line { (n : ℕ) → result ≡ Err (JobsFault.NoLine n)
+        → (place : ℕ) × (n ≡ place + 1) × (first_unknown plan.now.tasks lines.now ≡ Some place) }
+    ensures unknown { (place : ℕ) → first_unknown plan.now.tasks lines.now ≡ Some place
+        → result ≡ Err (JobsFault.NoLine (place + 1)) }
     ensures untouched { (n : ℕ) → result ≡ Err (JobsFault.NoLine n) → out.new ≡ out.old }
 {
     match first_unknown(plan.tasks(), lines) {
@@ -61,16 +68,28 @@ fn put_known<K: Sink>(
     lines: &[TraceLine],
     out: &mut K,
 ) -> Result<(), TableFault>
-    ensures text { OnOk result (WritesTable plan.now.tasks (K.written out.old) (K.written out.new)) }
-    ensures part { OnErr result (BreaksTable plan.now.tasks (K.written out.old) (K.written out.new)) }
+    ensures text { OnOk result
+        (Appends (K.written out.old) (K.written out.new) (jobs_text plan.now lines.now)) }
+    ensures part { OnErr result
+        (AppendsPart (K.written out.old) (K.written out.new) (jobs_text plan.now lines.now)) }
     ensures counted { K.faults out.old ≤ K.faults out.new }
     ensures failed { result ≡ Err (TableFault.Failed)
         → Rose (K.faults out.old) (K.faults out.new) }
 {
     let deeds = deeds_of(alloc, plan.tasks(), lines)?;
-    let jobs = listed_jobs(alloc, plan, slots_of(lines), &deeds)?;
+    let jobs = listed_jobs(alloc, plan, time_of_last(lines), &deeds)?;
     let tallies = tallies_of(alloc, &deeds)?;
     put_all(alloc, plan.tasks(), &jobs, &tallies, out)
+}
+
+/// The time of the last line.
+fn time_of_last(lines: &[TraceLine]) -> u32
+    ensures { result ≡ time_of_last lines.now }
+{
+    match lines.last() {
+        Some(line) => line.time,
+        None => 0,
+    }
 }
 
 /// Writes the header and the rows of the jobs.
@@ -81,22 +100,16 @@ fn put_all<K: Sink>(
     tallies: &Tallies,
     out: &mut K,
 ) -> Result<(), TableFault>
-    ensures text { OnOk result (WritesTable tasks.now (K.written out.old) (K.written out.new)) }
-    ensures part { OnErr result (BreaksTable tasks.now (K.written out.old) (K.written out.new)) }
+    ensures text { OnOk result (Appends (K.written out.old) (K.written out.new)
+        (table_text tasks.now (tally_in tallies.now) jobs.now)) }
+    ensures part { OnErr result (AppendsPart (K.written out.old) (K.written out.new)
+        (table_text tasks.now (tally_in tallies.now) jobs.now)) }
     ensures counted { K.faults out.old ≤ K.faults out.new }
     ensures failed { result ≡ Err (TableFault.Failed)
         → Rose (K.faults out.old) (K.faults out.new) }
 {
     put_header(alloc, out)?;
     put_rows(alloc, tasks, jobs, tallies, out)
-}
-
-/// The time of the last line.
-fn slots_of(lines: &[TraceLine]) -> u32 {
-    match lines.last() {
-        Some(line) => line.time,
-        None => 0,
-    }
 }
 
 /// Writes the header.
@@ -122,10 +135,10 @@ fn put_rows<K: Sink>(
     tallies: &Tallies,
     out: &mut K,
 ) -> Result<(), TableFault>
-    ensures text { OnOk result
-        (Appends (K.written out.old) (K.written out.new) (rows_text (rows_with tasks.now (tally_in tallies.now) jobs.now))) }
-    ensures part { OnErr result
-        (AppendsPart (K.written out.old) (K.written out.new) (rows_text (rows_with tasks.now (tally_in tallies.now) jobs.now))) }
+    ensures text { OnOk result (Appends (K.written out.old) (K.written out.new)
+        (rows_text (rows_with tasks.now (tally_in tallies.now) jobs.now))) }
+    ensures part { OnErr result (AppendsPart (K.written out.old) (K.written out.new)
+        (rows_text (rows_with tasks.now (tally_in tallies.now) jobs.now))) }
     ensures counted { K.faults out.old ≤ K.faults out.new }
     ensures failed { result ≡ Err (TableFault.Failed)
         → Rose (K.faults out.old) (K.faults out.new) }
@@ -147,10 +160,10 @@ fn put_part<K: Sink>(
     tallies: &Tallies,
     out: &mut K,
 ) -> Result<(), TableFault>
-    ensures text { OnOk result
-        (Appends (K.written out.old) (K.written out.new) (rows_text (rows_with tasks.now (tally_in tallies.now) jobs.now))) }
-    ensures part { OnErr result
-        (AppendsPart (K.written out.old) (K.written out.new) (rows_text (rows_with tasks.now (tally_in tallies.now) jobs.now))) }
+    ensures text { OnOk result (Appends (K.written out.old) (K.written out.new)
+        (rows_text (rows_with tasks.now (tally_in tallies.now) jobs.now))) }
+    ensures part { OnErr result (AppendsPart (K.written out.old) (K.written out.new)
+        (rows_text (rows_with tasks.now (tally_in tallies.now) jobs.now))) }
     ensures counted { K.faults out.old ≤ K.faults out.new }
     ensures failed { result ≡ Err (TableFault.Failed)
         → Rose (K.faults out.old) (K.faults out.new) }

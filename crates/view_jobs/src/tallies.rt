@@ -2,7 +2,7 @@
 
 ghost use Rattle.std.specs.Prelude.{◌≡◌, ℕ, OnOk, IfOk};
 ghost use Rattle.slot_core.specs.declared.jobs.Key.{Key};
-ghost use Rattle.view_jobs.specs.Tallies.{after_does, after_end, after_run, gaps_at, tally_in, told_of, untold};
+ghost use Rattle.view_jobs.specs.Tallies.{after_does, after_end, after_run, gaps_at, tally_in, told_from, told_of};
 
 use crate::deeds::{Deed, Does};
 use slot_core::{Key, Memory};
@@ -37,14 +37,19 @@ const UNTOLD: Tally = Tally {
 pub(crate) type Tallies = BTreeMap<Key, Tally>;
 
 /// The tallies of these deeds.
-pub(crate) fn tallies_of(alloc: Global, deeds: &[Deed]) -> Result<Tallies, Memory> {
+pub(crate) fn tallies_of(alloc: Global, deeds: &[Deed]) -> Result<Tallies, Memory>
+    ensures { IfOk result (λ tallies. (key : Key) → tally_in tallies key ≡ told_of deeds.now key) }
+{
     let mut tallies = BTreeMap::new(alloc);
     add_all(&mut tallies, deeds)?;
     Ok(tallies)
 }
 
-/// Adds what the deeds tell to empty tallies.
-fn add_all(tallies: &mut Tallies, deeds: &[Deed]) -> Result<(), Memory> {
+/// Adds what the deeds tell.
+fn add_all(tallies: &mut Tallies, deeds: &[Deed]) -> Result<(), Memory>
+    ensures { OnOk result ((key : Key) → tally_in tallies.new key
+        ≡ told_from key (tally_in tallies.old key) deeds.now) }
+{
     for deed in deeds {
         add(tallies, deed)?;
     }
@@ -52,7 +57,10 @@ fn add_all(tallies: &mut Tallies, deeds: &[Deed]) -> Result<(), Memory> {
 }
 
 /// Adds what one more deed tells.
-fn add(tallies: &mut Tallies, deed: &Deed) -> Result<(), Memory> {
+fn add(tallies: &mut Tallies, deed: &Deed) -> Result<(), Memory>
+    ensures { OnOk result ((key : Key) → tally_in tallies.new key
+        ≡ after_does key (tally_in tallies.old key) deed.now.time deed.now.does) }
+{
     match deed.does {
         Does::Runs(key) => {
             let tally = tally_in(tallies, key).after_run(deed.time);

@@ -1,5 +1,5 @@
 -- A block that stands in a drawing stands in what the drawing is a part of.
-use Rattle.std.proofs.Common.{◌≡◌, ℕ, List, [], ◌∷◌, ◌++◌, codes, flat_map, ap, append_assoc, append-nil, sym, ◌∙◌}
+use Rattle.std.proofs.Common.{◌≡◌, ◌≤◌, ◌+◌, ◌*◌, ℕ, List, [], ◌∷◌, ◌++◌, codes, flat_map, ap, append_assoc, append-nil, arith, sym, ◌∙◌}
 use Rattle.std.specs.List.{All}
 use Rattle.std.proofs.lemmas.List.Elements.{All-weaker}
 use Rattle.run_blocks.specs.declared.blocks.Block.{Block}
@@ -9,6 +9,10 @@ use Rattle.trace_lines.specs.declared.line.TraceLine.{TraceLine}
 use Rattle.view_picture.specs.declared.layout.Times.{Times}
 use Rattle.view_picture.specs.Blocks.{HasBlock, ShowsRuns, block_frame}
 use Rattle.view_picture.specs.Titles.{block_title}
+
+-- rows that are not too many end no further than a place may be
+pub rows-near : (top rows : ℕ) → top ≤ 4000 → rows ≤ 10000 → top + rows * 18 ≤ 1000000
+rows-near top rows high few = omega (arith, high, few)
 
 -- a piece between others lies between more
 between : (f b p a k : List ℕ) → (f ++ ((b ++ p) ++ a)) ++ k ≡ ((f ++ b) ++ p) ++ (a ++ k)
@@ -75,10 +79,13 @@ ShowsRuns-document lines width height style drawing document is shows =
       blocks = shows.blocks;
       times = shows.times;
       top = shows.top;
+      own = shows.own;
       stands = shows.stands;
       placed = shows.placed;
       apart = shows.apart;
       wide = shows.wide;
+      whole = shows.whole;
+      low = shows.low;
       drawn =
           All-weaker
           (HasBlock shows.times shows.top drawing)

@@ -1,8 +1,12 @@
 //! The blocks of slots in which one job runs.
 
-ghost use Rattle.std.specs.Prelude.{◌≡◌, ◌≤◌, ◌++◌, All, OnOk};
+ghost use Rattle.std.specs.Prelude.{◌≡◌, ◌+◌, ◌*◌, ◌≤◌, ◌++◌, All, OnOk};
+ghost use Rattle.run_blocks.specs.Rows.{AreRowsOf};
 ghost use Rattle.svg_text.specs.Shapes.{rect_text};
+ghost use Rattle.trace_lines.specs.Traces.{runs_of};
+ghost use Rattle.view_picture.specs.declared.layout.TheConstants.{FAR};
 ghost use Rattle.view_picture.specs.Blocks.{HasBlock, ShowsRuns, block_frame};
+ghost use Rattle.view_picture.specs.Lengths.{slots_of};
 ghost use Rattle.view_picture.specs.Titles.{block_title};
 
 use crate::layout::{ROW, Times, down};
@@ -34,7 +38,10 @@ pub(crate) fn draw_runs(
     times: &Times,
     top: u32,
 ) -> Result<(), Memory>
-    requires { 3 ≤ times.now.slot }
+    requires own { AreRowsOf rows.now (runs_of lines.now) }
+    requires wide { 3 ≤ times.now.slot }
+    requires high { top ≤ 4000 }
+    requires whole { times.now.left + slots_of lines.now * times.now.slot ≤ FAR }
     ensures { OnOk result (ShowsRuns lines.now drawing.new) }
 {
     let blocks = blocks_of(alloc, lines, rows)?;

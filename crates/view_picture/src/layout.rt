@@ -1,10 +1,17 @@
 //! Where the parts of a picture lie, in pixels.
 
 ghost use Rattle.std.specs.Prelude.{◌≡◌, ◌≤◌, ◌-◌};
+ghost use Rattle.view_picture.specs.declared.layout.TheConstants.{MOST_LETTERS};
 ghost use Rattle.view_picture.specs.Blocks.{after_steps, x_of};
 
 /// No place is further to the right or below.
-const FAR: u64 = 1_000_000;
+pub(crate) const FAR: u64 = 1_000_000;
+
+/// No label is given room for more letters.
+pub(crate) const MOST_LETTERS: usize = 100;
+
+/// No more lines of the legend, nor lanes of arrivals, are given room.
+const MOST_LINES: usize = 100;
 
 /// The width that a picture of 200 slots has room in: that of a page on its side.
 const PAGE: u32 = 1_040;
@@ -38,7 +45,10 @@ pub(crate) struct Times {
 impl Times {
     /// So many slots to the right of labels of at most so many letters.
     pub(crate) fn new(slots: u32, letters: usize) -> Times
-        ensures { 3 ≤ result.slot }
+        requires { letters ≤ MOST_LETTERS }
+        ensures wide { 3 ≤ result.slot }
+        ensures narrow { result.slot ≤ 16 }
+        ensures left { result.left ≤ 724 }
     {
         let left = down(2 * MARGIN, letters, LETTER);
         let room = PAGE.saturating_sub(left + MARGIN);
@@ -84,9 +94,11 @@ pub(crate) struct Heights {
 
 impl Heights {
     /// The heights with so many lines of the legend, lanes of arrivals and rows.
-    pub(crate) fn new(legend: usize, lanes: usize, rows: usize) -> Heights {
-        let first = down(MARGIN, legend, LEGEND) + 22;
-        let second = down(first, lanes, LANE) + 8;
+    pub(crate) fn new(legend: usize, lanes: usize, rows: usize) -> Heights
+        ensures { result.rows ≤ 4000 }
+    {
+        let first = down(MARGIN, legend.min(MOST_LINES), LEGEND) + 22;
+        let second = down(first, lanes.min(MOST_LINES), LANE) + 8;
         let third = down(second, rows, ROW) + 14;
         Heights {
             lanes: first,

@@ -4,6 +4,7 @@ ghost use Rattle.std.specs.Prelude.{◌≡◌, ◌≤◌, ◌<◌, Err, IfOk, Is
 ghost use Rattle.svg_text.specs.Content.{IsDocument};
 ghost use Rattle.trace_lines.specs.declared.line.TraceLine.{TraceLine};
 ghost use Rattle.view_picture.specs.declared.TheConstants.{PICTURE_LIMIT};
+ghost use Rattle.view_picture.specs.declared.layout.TheConstants.{MOST_LETTERS};
 ghost use Rattle.view_picture.specs.Blocks.{ShowsRuns};
 ghost use Rattle.view_picture.specs.Lengths.{slots_of};
 
@@ -13,7 +14,7 @@ use crate::axis::draw_axis;
 use crate::blocks::draw_runs;
 use crate::capacity::{draw_capacities, levels_of};
 use crate::faults::PictureFault;
-use crate::layout::{Heights, MARGIN, Times};
+use crate::layout::{Heights, MARGIN, MOST_LETTERS, Times};
 use crate::legend::{Legend, legend_of};
 use crate::rows::draw_rows;
 use crate::style::STYLE;
@@ -60,11 +61,14 @@ fn slots_of(lines: &[TraceLine]) -> u32
 
 /// The picture of so many slots.
 fn drawn(alloc: Global, lines: &[TraceLine], slots: u32) -> Result<Document, Memory>
+    requires count { slots ≡ slots_of lines.now }
+    requires short { slots ≤ PICTURE_LIMIT }
     ensures formed { IfOk result (λ document. IsDocument document) }
     ensures shows { IfOk result (λ document. ShowsRuns lines.now document) }
 {
-    let rows = rows_of(alloc, lines)?;
-    let letters = letters_of(alloc, rows.as_slice())?;
+    let all = rows_of(alloc, lines)?;
+    let rows = all.as_slice();
+    let letters = letters_of(alloc, rows)?;
     let times = Times::new(slots, letters);
     let width = times.right().saturating_add(2 * MARGIN).max(WIDTHS.0);
     let legend = legend_of(alloc, lines, width.min(WIDTHS.1))?;
@@ -76,17 +80,10 @@ fn drawn(alloc: Global, lines: &[TraceLine], slots: u32) -> Result<Document, Mem
     legend.draw(&mut drawing)?;
     draw_axis(&mut drawing, &times, &heights)?;
     draw_arrivals(alloc, &mut drawing, &times, &heights, &arrivals)?;
-    draw_rows(alloc, &mut drawing, &times, &heights, rows.as_slice())?;
+    draw_rows(alloc, &mut drawing, &times, &heights, rows)?;
     let levels = levels_of(alloc, lines)?;
     draw_capacities(alloc, &mut drawing, &times, &heights, levels.as_slice())?;
-    draw_runs(
-        alloc,
-        &mut drawing,
-        lines,
-        rows.as_slice(),
-        &times,
-        heights.rows,
-    )?;
+    draw_runs(alloc, &mut drawing, lines, rows, &times, heights.rows)?;
     finished(alloc, width, height, STYLE, &drawing)
 }
 
@@ -105,13 +102,15 @@ fn finished(
     Document::new(alloc, width, height, style, drawing)
 }
 
-/// The most letters of a label.
-fn letters_of(alloc: Global, rows: &[Row]) -> Result<usize, Memory> {
+/// The most letters of a label, or `MOST_LETTERS` where one has more.
+fn letters_of(alloc: Global, rows: &[Row]) -> Result<usize, Memory>
+    ensures { IfOk result (λ letters. letters ≤ MOST_LETTERS) }
+{
     let mut letters = LETTERS;
     for row in rows {
         letters = letters.max(row_label(alloc, row)?.len());
     }
-    Ok(letters)
+    Ok(letters.min(MOST_LETTERS))
 }
 
 /// Draws the page.

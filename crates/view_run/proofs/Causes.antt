@@ -1,8 +1,8 @@
 -- Each refusal has its cause.
-use Rattle.std.proofs.Common.{◌≡◌, ◌<◌, ◌⊎◌, ℕ, Bool, true, List, Option, Some, None, Result, Ok, Err, refl, sym, ap, subst, ◌∙◌, inl, inr}
+use Rattle.std.proofs.Common.{◌≡◌, ◌+◌, ◌⊎◌, ℕ, Bool, true, List, Option, Some, None, Result, Ok, Err, refl, sym, ap, subst, ◌∙◌, inl, inr}
 use Rattle.std.specs.Prelude.{IfSome, IfErr}
 use Rattle.slot_core.specs.Calls.Counts.{Rose}
-use Rattle.slot_core.specs.Keeping.Plans.{PlanParts}
+use Rattle.slot_core.specs.Keeping.Plans.{IsPlan, PlanParts}
 use Rattle.slot_io.specs.Files.{Held}
 use Rattle.command_line.specs.declared.Source.{Source as PlanSource}
 use Rattle.run_outcome.specs.declared.file.File.{File}
@@ -14,21 +14,24 @@ use Rattle.std.proofs.lemmas.Bool.{false≢true}
 use Rattle.std.specs.Prelude.{IfOk, false}
 use Rattle.run_outcome.specs.Refusals.{is_found, refusal_status}
 use Rattle.run_outcome.specs.declared.status.Status.{Status}
+use Rattle.command_line.specs.Commands.{is_file_of}
 use Rattle.run_steps.specs.Steps.{IsOfReading, IsReading}
 use Rattle.trace_lines.specs.Texts.{lines_text}
 use Rattle.view_run.specs.declared.views.View.{View}
 use Rattle.view_run.specs.declared.views.View.TheVariants.{Lines, Jobs}
 use Rattle.view_run.specs.declared.views.LineView.TheVariants.{Picture, Events, Spans, Waves}
-use Rattle.view_run.specs.Inputs.{BeginsWith, IsInputRefusal}
+use Rattle.view_run.specs.Inputs.{Holds, IsInputRefusal}
 use Rattle.trace_lines.specs.declared.line.TraceLine.{TraceLine}
 use Rattle.trace_lines.specs.declared.trace.TraceFault.{TraceFault}
 use Rattle.trace_lines.specs.declared.trace.TraceFault.TheVariants.{Memory as TraceMemory, NoLine}
 use Rattle.trace_lines.specs.Traces.{Breaks}
 use Rattle.view_jobs.specs.declared.faults.JobsFault.{JobsFault}
 use Rattle.view_jobs.specs.declared.faults.JobsFault.TheVariants.{Memory as JobsMemory, Failed as JobsFailed, NoLine as NoJobLine}
+use Rattle.view_jobs.specs.Tables.{first_unknown}
 use Rattle.view_run.specs.declared.views.Source.{Source}
 use Rattle.view_run.specs.Refusals.{no_line, of_jobs, of_text}
-use Rattle.view_run.specs.Runs.{IsPlanRefusal, IsRefused, leaves_output, leaves_output_at}
+use Rattle.view_run.specs.Plans.{IsPlanOf, IsPlanRefusal}
+use Rattle.view_run.specs.Runs.{IsRefused, leaves_output, leaves_output_at}
 use Rattle.view_run.specs.Shown.{IsJobsRefusal}
 use Rattle.view_run.specs.Views.{plan_source}
 
@@ -42,15 +45,22 @@ pub of_text-cause : (bytes : List ℕ) (fault : TraceFault) → ((n : ℕ) → f
 of_text-cause bytes TraceMemory breaks = inl refl
 of_text-cause bytes (NoLine n) breaks = inr (n, refl, breaks n refl)
 
--- a table of jobs is not written since the sink counted a fault, memory ran out, or a line is told
-pub of_jobs-cause : (lines : List TraceLine) (before after : ℕ) (fault : JobsFault) → (fault ≡ JobsFailed → Rose before after) → IsJobsRefusal lines before after (of_jobs fault)
-of_jobs-cause lines before after JobsMemory failed = tt
-of_jobs-cause lines before after JobsFailed failed = failed refl
-of_jobs-cause lines before after (NoJobLine n) failed = (n, refl)
+-- a table of jobs is not written since the sink counted a fault, memory ran out, or a line names what
+-- the plan does not have
+pub of_jobs-cause : (plan : PlanParts) (lines : List TraceLine) (before after : ℕ) (fault : JobsFault) → (fault ≡ JobsFailed → Rose before after) → ((n : ℕ) → fault ≡ NoJobLine n → (place : ℕ) × (n ≡ place + 1) × (first_unknown plan.tasks lines ≡ Some place)) → IsJobsRefusal plan lines before after (of_jobs fault)
+of_jobs-cause plan lines before after JobsMemory failed unknown = tt
+of_jobs-cause plan lines before after JobsFailed failed unknown = failed refl
+of_jobs-cause plan lines before after (NoJobLine n) failed unknown =
+    let (place, number, first) = unknown n refl in (place, first, ap no_line number)
+
+-- where a table of jobs is written, the plan has all that the lines name
+pub none-unknown : {E : Type 0} (first : Option ℕ) (result : Result (Unit {0}) E) (fault : ℕ → E) → result ≡ Ok tt → ((place : ℕ) → first ≡ Some place → result ≡ Err (fault place)) → first ≡ None
+none-unknown None result fault done unknown = refl
+none-unknown (Some place) result fault done unknown = absurd (cc (sym done ∙ unknown place refl))
 
 -- a refusal of a plan that is no fault of a file nor want of memory is the one that is due
-due : {S A : Type 0} (held : S → Option Held) (faults : S → ℕ) (blamed : S → Option (List ℕ)) (before after : S) (names : List (List ℕ)) (may : File → Bool) (source : Source) (from : PlanSource) (e : Refusal) (view : A → PlanParts) → from ≡ plan_source source → IsReading held faults blamed before after names may (λ files. plan_from files names from) (Err e) view → ((file : File) → e ≡ Unreadable file → ⊥) → (e ≡ Memory → ⊥) → IfSome (held before) (λ files. plan_from files names (plan_source source) ≡ Err e)
-due held faults blamed before after names may source from e view same reading readable enough = by_held (held before) refl
+due : {S A : Type 0} (held : S → Option Held) (faults : S → ℕ) (blamed : S → Option (List ℕ)) (before after : S) (names : List (List ℕ)) (may : File → Bool) (source : Source) (from : PlanSource) (e : Refusal) (view : A → PlanParts) → from ≡ plan_source source → IsReading held faults blamed before after names may (λ files. plan_from files names from) (Err e) view → ((file : File) → e ≡ Unreadable file → ⊥) → (e ≡ Memory → ⊥) → is_found e ≡ true → (is_found e ≡ true) × IfSome (held before) (λ files. plan_from files names (plan_source source) ≡ Err e)
+due held faults blamed before after names may source from e view same reading readable enough found = (found, by_held (held before) refl)
   where
     by_held : (o : Option Held) → held before ≡ o → IfSome o (λ files. plan_from files names (plan_source source) ≡ Err e)
     by_held None is = tt
@@ -69,35 +79,45 @@ unfound e may readable enough never (inr (inl memory)) = enough memory
 unfound e may readable enough never (inr (inr found)) = false≢true (sym never ∙ found)
 
 -- each refusal of a plan has its cause
-pub plan-refused : {S A : Type 0} (held : S → Option Held) (faults : S → ℕ) (blamed : S → Option (List ℕ)) (before after : S) (names : List (List ℕ)) (may : File → Bool) (source : Source) (from : PlanSource) (result : Outcome A) (view : A → PlanParts) → from ≡ plan_source source → IsReading held faults blamed before after names may (λ files. plan_from files names from) result view → IfErr result (IsPlanRefusal source names (held before) (faults before) (faults after))
-plan-refused held faults blamed before after names may source from (Ok a) view same reading = tt
-plan-refused held faults blamed before after names may source from (Err (Unreadable file)) view same reading = (let (may, rose, name) = reading.blames file refl in rose)
-plan-refused held faults blamed before after names may source from (Err Memory) view same reading = tt
-plan-refused held faults blamed before after names may source from (Err (TooLarge x)) view same reading = due held faults blamed before after names may source from (TooLarge x) view same reading (λ file is. cc is) (λ is. cc is)
-plan-refused held faults blamed before after names may source from (Err (BadTasks x)) view same reading = due held faults blamed before after names may source from (BadTasks x) view same reading (λ file is. cc is) (λ is. cc is)
-plan-refused held faults blamed before after names may source from (Err (Infeasible x)) view same reading = due held faults blamed before after names may source from (Infeasible x) view same reading (λ file is. cc is) (λ is. cc is)
-plan-refused held faults blamed before after names may source from (Err (BadTable x)) view same reading = due held faults blamed before after names may source from (BadTable x) view same reading (λ file is. cc is) (λ is. cc is)
-plan-refused held faults blamed before after names may source from (Err (BadArrivals x)) view same reading = due held faults blamed before after names may source from (BadArrivals x) view same reading (λ file is. cc is) (λ is. cc is)
-plan-refused held faults blamed before after names may source from (Err (NotVerified x)) view same reading = due held faults blamed before after names may source from (NotVerified x) view same reading (λ file is. cc is) (λ is. cc is)
-plan-refused held faults blamed before after names may source from (Err (BadSecond x)) view same reading = due held faults blamed before after names may source from (BadSecond x) view same reading (λ file is. cc is) (λ is. cc is)
-plan-refused held faults blamed before after names may source from (Err (SecondInfeasible x)) view same reading = due held faults blamed before after names may source from (SecondInfeasible x) view same reading (λ file is. cc is) (λ is. cc is)
-plan-refused held faults blamed before after names may source from (Err (NoRow x)) view same reading = due held faults blamed before after names may source from (NoRow x) view same reading (λ file is. cc is) (λ is. cc is)
-plan-refused held faults blamed before after names may source from (Err (NotCycleEnd x)) view same reading = due held faults blamed before after names may source from (NotCycleEnd x) view same reading (λ file is. cc is) (λ is. cc is)
-plan-refused held faults blamed before after names may source from (Err (NoChange x)) view same reading = due held faults blamed before after names may source from (NoChange x) view same reading (λ file is. cc is) (λ is. cc is)
-plan-refused held faults blamed before after names may source from (Err Usage) view same reading = unfound Usage may (λ file is. cc is) (λ is. cc is) refl reading.refuses
-plan-refused held faults blamed before after names may source from (Err WriteFault) view same reading = unfound WriteFault may (λ file is. cc is) (λ is. cc is) refl reading.refuses
+pub plan-refused : {S A : Type 0} (held : S → Option Held) (faults : S → ℕ) (blamed : S → Option (List ℕ)) (before after : S) (names : List (List ℕ)) (source : Source) (from : PlanSource) (result : Outcome A) (view : A → PlanParts) → from ≡ plan_source source → IsReading held faults blamed before after names (is_file_of from) (λ files. plan_from files names from) result view → IfErr result (IsPlanRefusal source names (held before) (blamed after) (faults before) (faults after))
+plan-refused held faults blamed before after names source from (Ok a) view same reading = tt
+plan-refused held faults blamed before after names source from (Err (Unreadable file)) view same reading = (let (may, rose, name) = reading.blames file refl in (ap (λ s. is_file_of s file) (sym same) ∙ may, rose, name))
+plan-refused held faults blamed before after names source from (Err Memory) view same reading = tt
+plan-refused held faults blamed before after names source from (Err (TooLarge x)) view same reading = due held faults blamed before after names (is_file_of from) source from (TooLarge x) view same reading (λ file is. cc is) (λ is. cc is) refl
+plan-refused held faults blamed before after names source from (Err (BadTasks x)) view same reading = due held faults blamed before after names (is_file_of from) source from (BadTasks x) view same reading (λ file is. cc is) (λ is. cc is) refl
+plan-refused held faults blamed before after names source from (Err (Infeasible x)) view same reading = due held faults blamed before after names (is_file_of from) source from (Infeasible x) view same reading (λ file is. cc is) (λ is. cc is) refl
+plan-refused held faults blamed before after names source from (Err (BadTable x)) view same reading = due held faults blamed before after names (is_file_of from) source from (BadTable x) view same reading (λ file is. cc is) (λ is. cc is) refl
+plan-refused held faults blamed before after names source from (Err (BadArrivals x)) view same reading = due held faults blamed before after names (is_file_of from) source from (BadArrivals x) view same reading (λ file is. cc is) (λ is. cc is) refl
+plan-refused held faults blamed before after names source from (Err (NotVerified x)) view same reading = due held faults blamed before after names (is_file_of from) source from (NotVerified x) view same reading (λ file is. cc is) (λ is. cc is) refl
+plan-refused held faults blamed before after names source from (Err (BadSecond x)) view same reading = due held faults blamed before after names (is_file_of from) source from (BadSecond x) view same reading (λ file is. cc is) (λ is. cc is) refl
+plan-refused held faults blamed before after names source from (Err (SecondInfeasible x)) view same reading = due held faults blamed before after names (is_file_of from) source from (SecondInfeasible x) view same reading (λ file is. cc is) (λ is. cc is) refl
+plan-refused held faults blamed before after names source from (Err (NoRow x)) view same reading = due held faults blamed before after names (is_file_of from) source from (NoRow x) view same reading (λ file is. cc is) (λ is. cc is) refl
+plan-refused held faults blamed before after names source from (Err (NotCycleEnd x)) view same reading = due held faults blamed before after names (is_file_of from) source from (NotCycleEnd x) view same reading (λ file is. cc is) (λ is. cc is) refl
+plan-refused held faults blamed before after names source from (Err (NoChange x)) view same reading = absurd (unfound (NoChange x) (is_file_of from) (λ file is. cc is) (λ is. cc is) refl reading.refuses)
+plan-refused held faults blamed before after names source from (Err Usage) view same reading = unfound Usage (is_file_of from) (λ file is. cc is) (λ is. cc is) refl reading.refuses
+plan-refused held faults blamed before after names source from (Err WriteFault) view same reading = unfound WriteFault (is_file_of from) (λ file is. cc is) (λ is. cc is) refl reading.refuses
+
+-- a plan that is given is the one that its file calls for
+pub plan-given : {S A : Type 0} (held : S → Option Held) (faults : S → ℕ) (blamed : S → Option (List ℕ)) (before after : S) (names : List (List ℕ)) (may : File → Bool) (source : Source) (from : PlanSource) (result : Outcome A) (view : A → PlanParts) → from ≡ plan_source source → IsReading held faults blamed before after names may (λ files. plan_from files names from) result view → IfOk result (λ a. IsPlan (view a)) → IfOk result (λ a. IsPlanOf source names (held before) (view a))
+plan-given held faults blamed before after names may source from (Err e) view same reading is_plan = tt
+plan-given held faults blamed before after names may source from (Ok a) view same reading is_plan =
+    (is_plan, by_held (held before) refl)
+  where
+    by_held : (o : Option Held) → held before ≡ o → IfSome o (λ files. plan_from files names (plan_source source) ≡ Ok (view a))
+    by_held None is = tt
+    by_held (Some files) is = ap (λ s. plan_from files names s) (sym same) ∙ reading.answers files is
 
 -- the text of lines that are read is what the input holds
-pub lines-text : {V E : Type 0} (r : Result V E) (items : V → List TraceLine) (bytes : List ℕ) (held : Option Held) → IfSome held (λ files. BeginsWith files bytes) → IfOk r (λ v. bytes ≡ lines_text (items v)) → IfOk r (λ v. IfSome held (λ files. BeginsWith files (lines_text (items v))))
-lines-text (Ok v) items bytes held begins is = subst (λ text. IfSome held (λ files. BeginsWith files text)) is begins
-lines-text (Err e) items bytes held begins is = tt
+pub lines-text : {V E : Type 0} (r : Result V E) (items : V → List TraceLine) (bytes : List ℕ) (held : Option Held) → IfSome held (λ files. Holds files bytes) → IfOk r (λ v. bytes ≡ lines_text (items v)) → IfOk r (λ v. IfSome held (λ files. Holds files (lines_text (items v))))
+lines-text (Ok v) items bytes held holds is = subst (λ text. IfSome held (λ files. Holds files text)) is holds
+lines-text (Err e) items bytes held holds is = tt
 
 -- lines that are not read have a cause in what the input holds
-pub lines-refused : {V : Type 0} (r : Result V Refusal) (bytes : List ℕ) (held : Option Held) (before after : ℕ) → IfSome held (λ files. BeginsWith files bytes) → IfErr r (λ e. (e ≡ Memory) ⊎ ((n : ℕ) × (e ≡ no_line n) × Breaks bytes n)) → IfErr r (IsInputRefusal held before after)
-lines-refused (Ok v) bytes held before after begins cause = tt
-lines-refused (Err e) bytes held before after begins (inl memory) = subst (IsInputRefusal held before after) (sym memory) tt
-lines-refused (Err e) bytes held before after begins (inr (n, same, breaks)) =
-    let there : IfSome held (λ files. (text : List ℕ) × BeginsWith files text × Breaks text n) = if_some held (λ files text_is. (bytes, text_is, breaks)) begins in
+pub lines-refused : {V : Type 0} (r : Result V Refusal) (bytes : List ℕ) (held : Option Held) (before after : ℕ) → IfSome held (λ files. Holds files bytes) → IfErr r (λ e. (e ≡ Memory) ⊎ ((n : ℕ) × (e ≡ no_line n) × Breaks bytes n)) → IfErr r (IsInputRefusal held before after)
+lines-refused (Ok v) bytes held before after holds cause = tt
+lines-refused (Err e) bytes held before after holds (inl memory) = subst (IsInputRefusal held before after) (sym memory) tt
+lines-refused (Err e) bytes held before after holds (inr (n, same, breaks)) =
+    let there : IfSome held (λ files. (text : List ℕ) × Holds files text × Breaks text n) = if_some held (λ files text_is. (bytes, text_is, breaks)) holds in
     subst (IsInputRefusal held before after) (sym same) (n, refl, there)
 
 -- a refusal that leaves the output by its status leaves it
@@ -119,26 +139,27 @@ leaves-by_status WriteFault leaves = leaves
 leaves-by_status Memory leaves = leaves
 
 -- faulty words are no refusal of a view
-pub refused-no_usage : (view : View) (names : List (List ℕ)) (files input : Option Held) (of_files of_input of_output : ℕ × ℕ) (e : Refusal) → IsRefused view names files input of_files of_input of_output e → refusal_status e ≡ Status.Usage → ⊥
-refused-no_usage view names files input of_files of_input of_output (Unreadable x) cause usage = cc usage
-refused-no_usage view names files input of_files of_input of_output (TooLarge x) cause usage = cc usage
-refused-no_usage view names files input of_files of_input of_output (BadTasks x) cause usage = cc usage
-refused-no_usage view names files input of_files of_input of_output (Infeasible x) cause usage = cc usage
-refused-no_usage view names files input of_files of_input of_output (BadTable x) cause usage = cc usage
-refused-no_usage view names files input of_files of_input of_output (BadArrivals x) cause usage = cc usage
-refused-no_usage view names files input of_files of_input of_output (NotVerified x) cause usage = cc usage
-refused-no_usage view names files input of_files of_input of_output (BadSecond x) cause usage = cc usage
-refused-no_usage view names files input of_files of_input of_output (SecondInfeasible x) cause usage = cc usage
-refused-no_usage view names files input of_files of_input of_output (NoRow x) cause usage = cc usage
-refused-no_usage view names files input of_files of_input of_output (NotCycleEnd x) cause usage = cc usage
-refused-no_usage view names files input of_files of_input of_output (NoChange x) cause usage = cc usage
-refused-no_usage view names files input of_files of_input of_output WriteFault cause usage = cc usage
-refused-no_usage view names files input of_files of_input of_output Memory cause usage = cc usage
-refused-no_usage (Lines view) names files input of_files of_input of_output Usage (inl plan) usage = plan
-refused-no_usage (Jobs source) names files input of_files of_input of_output Usage (inl plan) usage = plan
-refused-no_usage view names files input of_files of_input of_output Usage (inr (inl read)) usage = read
-refused-no_usage (Lines Picture) names files input of_files of_input of_output Usage (inr (inr (lines, are, cause))) usage = cause
-refused-no_usage (Lines Events) names files input of_files of_input of_output Usage (inr (inr (lines, are, cause))) usage = cause
-refused-no_usage (Lines Spans) names files input of_files of_input of_output Usage (inr (inr (lines, are, cause))) usage = cause
-refused-no_usage (Lines Waves) names files input of_files of_input of_output Usage (inr (inr (lines, are, cause))) usage = cause
-refused-no_usage (Jobs source) names files input of_files of_input of_output Usage (inr (inr (lines, are, cause))) usage = cause
+pub refused-no_usage : (view : View) (names : List (List ℕ)) (files input : Option Held) (blamed : Option (List ℕ)) (of_files of_input of_output : ℕ × ℕ) (e : Refusal) → IsRefused view names files input blamed of_files of_input of_output e → refusal_status e ≡ Status.Usage → ⊥
+refused-no_usage view names files input blamed of_files of_input of_output (Unreadable x) cause usage = cc usage
+refused-no_usage view names files input blamed of_files of_input of_output (TooLarge x) cause usage = cc usage
+refused-no_usage view names files input blamed of_files of_input of_output (BadTasks x) cause usage = cc usage
+refused-no_usage view names files input blamed of_files of_input of_output (Infeasible x) cause usage = cc usage
+refused-no_usage view names files input blamed of_files of_input of_output (BadTable x) cause usage = cc usage
+refused-no_usage view names files input blamed of_files of_input of_output (BadArrivals x) cause usage = cc usage
+refused-no_usage view names files input blamed of_files of_input of_output (NotVerified x) cause usage = cc usage
+refused-no_usage view names files input blamed of_files of_input of_output (BadSecond x) cause usage = cc usage
+refused-no_usage view names files input blamed of_files of_input of_output (SecondInfeasible x) cause usage = cc usage
+refused-no_usage view names files input blamed of_files of_input of_output (NoRow x) cause usage = cc usage
+refused-no_usage view names files input blamed of_files of_input of_output (NotCycleEnd x) cause usage = cc usage
+refused-no_usage view names files input blamed of_files of_input of_output (NoChange x) cause usage = cc usage
+refused-no_usage view names files input blamed of_files of_input of_output WriteFault cause usage = cc usage
+refused-no_usage view names files input blamed of_files of_input of_output Memory cause usage = cc usage
+refused-no_usage view names files input blamed of_files of_input of_output Usage (inl memory) usage = cc memory
+refused-no_usage (Lines view) names files input blamed of_files of_input of_output Usage (inr (inl plan)) usage = plan
+refused-no_usage (Jobs source) names files input blamed of_files of_input of_output Usage (inr (inl plan)) usage = plan
+refused-no_usage view names files input blamed of_files of_input of_output Usage (inr (inr (inl read))) usage = read.1
+refused-no_usage (Lines Picture) names files input blamed of_files of_input of_output Usage (inr (inr (inr (lines, are, cause)))) usage = cause
+refused-no_usage (Lines Events) names files input blamed of_files of_input of_output Usage (inr (inr (inr (lines, are, cause)))) usage = cause
+refused-no_usage (Lines Spans) names files input blamed of_files of_input of_output Usage (inr (inr (inr (lines, are, cause)))) usage = cause
+refused-no_usage (Lines Waves) names files input blamed of_files of_input of_output Usage (inr (inr (inr (lines, are, cause)))) usage = cause
+refused-no_usage (Jobs source) names files input blamed of_files of_input of_output Usage (inr (inr (inr (lines, are, (plan, own, cause))))) usage = cause

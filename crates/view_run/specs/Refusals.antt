@@ -1,5 +1,5 @@
 -- Why a trace is not shown.
-use Rattle.std.specs.Prelude.{ℕ, List, ◌++◌, codes}
+use Rattle.std.specs.Prelude.{ℕ, codes}
 use Rattle.slot_core.specs.Output.Texts.{worded}
 use Rattle.csv_table.specs.declared.faults.TableFault.{TableFault}
 use Rattle.csv_table.specs.declared.faults.TableFault.TheVariants.{Memory as TableMemory, Failed as TableFailed}

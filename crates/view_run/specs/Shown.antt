@@ -1,17 +1,19 @@
 -- What is written of a view, and why it is not.
-use Rattle.std.specs.Prelude.{◌≡◌, ◌<◌, ℕ, ⊤, true, List, Option}
+use Rattle.std.specs.Prelude.{◌≡◌, ◌<◌, ◌≤◌, ℕ, ◌+◌, ⊤, true, List, Option, Some, None}
 use Rattle.std.specs.Io.KnownBytes.{Appends}
 use Rattle.slot_core.specs.Calls.Counts.{Rose}
 use Rattle.run_blocks.specs.declared.rows.Row.{Row}
-use Rattle.run_blocks.specs.Rows.{have_rows}
+use Rattle.run_blocks.specs.Rows.{AreRowsOf}
 use Rattle.run_outcome.specs.declared.refusal.Refusal.{Refusal}
 use Rattle.run_outcome.specs.declared.refusal.Refusal.TheVariants.{NotVerified, WriteFault, Memory}
-use Rattle.slot_core.specs.declared.tasks.TaskSet.{TaskSet}
+use Rattle.slot_core.specs.Keeping.Plans.{PlanParts}
+use Rattle.slot_io.specs.Files.{Held}
 use Rattle.svg_text.specs.Content.{IsDocument}
-use Rattle.view_jobs.specs.Tables.{WritesTable}
+use Rattle.view_jobs.specs.Tables.{first_unknown, jobs_text}
 use Rattle.trace_lines.specs.declared.line.TraceLine.{TraceLine}
 use Rattle.trace_lines.specs.Traces.{runs_of}
 use Rattle.view_picture.specs.declared.TheConstants.{PICTURE_LIMIT}
+use Rattle.view_picture.specs.Blocks.{ShowsRuns}
 use Rattle.view_picture.specs.Lengths.{slots_of}
 use Rattle.view_tables.specs.declared.put.Table.TheVariants.{Events as EventTable, Spans as SpanTable}
 use Rattle.view_tables.specs.Tables.{table_text}
@@ -20,28 +22,39 @@ use Rattle.view_run.specs.declared.views.View.{View}
 use Rattle.view_run.specs.declared.views.View.TheVariants.{Lines, Jobs}
 use Rattle.view_run.specs.declared.views.LineView.{LineView}
 use Rattle.view_run.specs.declared.views.LineView.TheVariants.{Picture, Events, Spans, Waves}
+use Rattle.view_run.specs.Plans.{IsPlanOf}
 use Rattle.view_run.specs.Refusals.{no_line, too_long}
 
--- known bytes grow by the view of lines: a well-formed document, a table, or the waves of rows that
--- hold all jobs which run
+-- a picture of lines: a well-formed document that shows what they run, where they have no more
+-- slots than a picture may have
+abbrev pub IsPicture : List TraceLine → List ℕ → Type 0
+IsPicture lines text =
+    IsDocument text × ShowsRuns lines text × (slots_of lines ≤ PICTURE_LIMIT)
+
+-- known bytes grow by the view of lines: a picture, a table, or waves over the rows of the jobs
+-- that run
 abbrev pub ShowsLines :
     LineView → List TraceLine → Option (List ℕ) → Option (List ℕ) → Type 0
 ShowsLines Picture lines before after =
-    (text : List ℕ) × IsDocument text × Appends before after text
+    (text : List ℕ) × IsPicture lines text × Appends before after text
 ShowsLines Events lines before after = Appends before after (table_text EventTable lines)
 ShowsLines Spans lines before after = Appends before after (table_text SpanTable lines)
 ShowsLines Waves lines before after =
-    (rows : List Row) × (have_rows rows (runs_of lines) ≡ true)
+    (rows : List Row) × AreRowsOf rows (runs_of lines)
     × Appends before after (waves_text rows lines)
 
--- by a table of the jobs of a set
-abbrev pub ShowsJobs : List TraceLine → Option (List ℕ) → Option (List ℕ) → Type 0
-ShowsJobs lines before after = (set : TaskSet) × WritesTable set before after
+-- by the table of their jobs over a plan, where they name only tasks of its set
+abbrev pub ShowsJobs :
+    PlanParts → List TraceLine → Option (List ℕ) → Option (List ℕ) → Type 0
+ShowsJobs plan lines before after =
+    (first_unknown plan.tasks lines ≡ None) × Appends before after (jobs_text plan lines)
 
--- by either
-abbrev pub IsShown : View → List TraceLine → Option (List ℕ) → Option (List ℕ) → Type 0
-IsShown (Lines view) lines before after = ShowsLines view lines before after
-IsShown (Jobs source) lines before after = ShowsJobs lines before after
+-- by either: a table of jobs is over the plan of its file
+abbrev pub IsShown :
+    View → List (List ℕ) → Option Held → List TraceLine → Option (List ℕ) → Option (List ℕ) → Type 0
+IsShown (Lines view) names files lines before after = ShowsLines view lines before after
+IsShown (Jobs source) names files lines before after =
+    (plan : PlanParts) × IsPlanOf source names files plan × ShowsJobs plan lines before after
 
 -- why a view of the lines is not shown: the sink counted a fault, memory ran out, or they have too
 -- many slots for a picture
@@ -52,15 +65,19 @@ IsLinesRefusal Picture lines before after (NotVerified reason) =
     (PICTURE_LIMIT < slots_of lines) × (NotVerified reason ≡ too_long)
 IsLinesRefusal view lines before after refusal = ⊥
 
--- why their jobs are not shown: likewise, or a line names what the plan does not have
-abbrev pub IsJobsRefusal : List TraceLine → ℕ → ℕ → Refusal → Type 0
-IsJobsRefusal lines before after WriteFault = Rose before after
-IsJobsRefusal lines before after Memory = ⊤
-IsJobsRefusal lines before after (NotVerified reason) =
-    (n : ℕ) × (NotVerified reason ≡ no_line n)
-IsJobsRefusal lines before after refusal = ⊥
+-- why their jobs are not shown: likewise, or line n + 1 is the first that names a task which the
+-- set of the plan has not
+abbrev pub IsJobsRefusal : PlanParts → List TraceLine → ℕ → ℕ → Refusal → Type 0
+IsJobsRefusal plan lines before after WriteFault = Rose before after
+IsJobsRefusal plan lines before after Memory = ⊤
+IsJobsRefusal plan lines before after (NotVerified reason) =
+    (n : ℕ) × (first_unknown plan.tasks lines ≡ Some n) × (NotVerified reason ≡ no_line (n + 1))
+IsJobsRefusal plan lines before after refusal = ⊥
 
 -- why a view is not shown
-abbrev pub IsShowRefusal : View → List TraceLine → ℕ → ℕ → Refusal → Type 0
-IsShowRefusal (Lines view) lines before after e = IsLinesRefusal view lines before after e
-IsShowRefusal (Jobs source) lines before after e = IsJobsRefusal lines before after e
+abbrev pub IsShowRefusal :
+    View → List (List ℕ) → Option Held → List TraceLine → ℕ → ℕ → Refusal → Type 0
+IsShowRefusal (Lines view) names files lines before after e =
+    IsLinesRefusal view lines before after e
+IsShowRefusal (Jobs source) names files lines before after e =
+    (plan : PlanParts) × IsPlanOf source names files plan × IsJobsRefusal plan lines before after e

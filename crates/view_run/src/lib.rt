@@ -56,9 +56,11 @@ pub fn run<F: Files, I: Files, K: Sink, E: Sink>(
     ensures usage_line { result ≡ Status.Usage → IsTold USAGE.now
         (E.written err.old) (E.written err.new) (E.faults err.old) (E.faults err.new) }
 
-    // Where it is done, standard input is a trace, and the view of its lines is written.
+    // Where it is done, standard input is a trace, and the view of its lines is written: of jobs,
+    // their table over the plan that its file calls for.
     ensures done { result ≡ Status.Done → (view : View) × (view_of words.now ≡ Some view)
-        × IsViewed view (I.held input.old) (K.written out.old) (K.written out.new) }
+        × IsViewed view (names_of words.now view) (F.held files.old) (I.held input.old)
+        (K.written out.old) (K.written out.new) }
     ensures done_says_nothing { result ≡ Status.Done → err.new ≡ err.old }
 
     // Where it is refused, the refusal has its cause, and its line is told.
@@ -66,8 +68,8 @@ pub fn run<F: Files, I: Files, K: Sink, E: Sink>(
         → (view : View) × (view_of words.now ≡ Some view)
         × ((e : Refusal) × (result ≡ refusal_status e)
         × IsRefused view (names_of words.now view) (F.held files.old) (I.held input.old)
-        (F.faults files.old, F.faults files.new) (I.faults input.old, I.faults input.new)
-        (K.faults out.old, K.faults out.new) e
+        (F.blamed files.new) (F.faults files.old, F.faults files.new)
+        (I.faults input.old, I.faults input.new) (K.faults out.old, K.faults out.new) e
         × IsTold (refusal_line (names_of words.now view) e)
         (E.written err.old) (E.written err.new) (E.faults err.old) (E.faults err.new)) }
     ensures refusal_writes_nothing { leaves_output_at result ≡ true → out.new ≡ out.old }
@@ -90,12 +92,13 @@ fn run_view<F: Files, I: Files, K: Sink, E: Sink>(
 ) -> Status
     ensures shows { result ≢ Status.Usage }
     ensures done { result ≡ Status.Done
-        → IsViewed view (I.held input.old) (K.written out.old) (K.written out.new) }
+        → IsViewed view (names_of words.now view) (F.held files.old) (I.held input.old)
+        (K.written out.old) (K.written out.new) }
     ensures done_says_nothing { result ≡ Status.Done → err.new ≡ err.old }
     ensures refused { result ≢ Status.Done → (e : Refusal) × (result ≡ refusal_status e)
         × IsRefused view (names_of words.now view) (F.held files.old) (I.held input.old)
-        (F.faults files.old, F.faults files.new) (I.faults input.old, I.faults input.new)
-        (K.faults out.old, K.faults out.new) e
+        (F.blamed files.new) (F.faults files.old, F.faults files.new)
+        (I.faults input.old, I.faults input.new) (K.faults out.old, K.faults out.new) e
         × IsTold (refusal_line (names_of words.now view) e)
         (E.written err.old) (E.written err.new) (E.faults err.old) (E.faults err.new) }
     ensures refusal_writes_nothing { leaves_output_at result ≡ true → out.new ≡ out.old }
@@ -118,12 +121,13 @@ fn run_named<F: Files, I: Files, K: Sink, E: Sink>(
 ) -> Status
     ensures shows { result ≢ Status.Usage }
     ensures done { result ≡ Status.Done
-        → IsViewed view (I.held input.old) (K.written out.old) (K.written out.new) }
+        → IsViewed view names.now (F.held files.old) (I.held input.old)
+        (K.written out.old) (K.written out.new) }
     ensures done_says_nothing { result ≡ Status.Done → err.new ≡ err.old }
     ensures refused { result ≢ Status.Done → (e : Refusal) × (result ≡ refusal_status e)
         × IsRefused view names.now (F.held files.old) (I.held input.old)
-        (F.faults files.old, F.faults files.new) (I.faults input.old, I.faults input.new)
-        (K.faults out.old, K.faults out.new) e
+        (F.blamed files.new) (F.faults files.old, F.faults files.new)
+        (I.faults input.old, I.faults input.new) (K.faults out.old, K.faults out.new) e
         × IsTold (refusal_line names.now e)
         (E.written err.old) (E.written err.new) (E.faults err.old) (E.faults err.new) }
     ensures refusal_writes_nothing { leaves_output_at result ≡ true → out.new ≡ out.old }

@@ -1,19 +1,21 @@
 //! The work of a view: what is read, and what is written of it.
 
-ghost use Rattle.std.specs.Prelude.{◌≡◌, ◌⊎◌, ℕ, List, true, Err, IfOk, IfErr, IfSome, OnOk};
+ghost use Rattle.std.specs.Prelude.{◌≡◌, ◌⊎◌, ℕ, nat_le, List, true, Err, IfOk, IfErr, IfSome, OnOk};
 ghost use Rattle.std.specs.Io.KnownBytes.{Appends};
 ghost use Rattle.slot_core.specs.Calls.Counts.{Rose};
 ghost use Rattle.run_outcome.specs.declared.refusal.Refusal.TheVariants.{Memory as MemoryRefusal, WriteFault as WriteRefusal};
 ghost use Rattle.run_outcome.specs.declared.refusal.Refusal.{Refusal};
-ghost use Rattle.svg_text.specs.Content.{IsDocument};
 ghost use Rattle.view_tables.specs.Tables.{table_text};
 ghost use Rattle.view_waves.specs.WaveTexts.{waves_text};
+ghost use Rattle.trace_lines.specs.declared.line.TraceLine.{TraceLine};
 ghost use Rattle.trace_lines.specs.Texts.{lines_text};
 ghost use Rattle.trace_lines.specs.Traces.{AreTrace, Breaks};
-ghost use Rattle.view_run.specs.Inputs.{BeginsWith, IsInputRefusal};
+ghost use Rattle.view_run.specs.Inputs.{BeginsWith, IsInputRefusal, Holds};
+ghost use Rattle.view_run.specs.Plans.{IsPlanOf, IsPlanRefusal};
+ghost use Rattle.view_run.specs.declared.TheConstants.{INPUT_LIMIT};
 ghost use Rattle.view_run.specs.Refusals.{no_line};
-ghost use Rattle.view_run.specs.Runs.{IsPlanRefusal, IsRefused, IsUnviewed, IsViewed, leaves_output};
-ghost use Rattle.view_run.specs.Shown.{IsJobsRefusal, IsLinesRefusal, ShowsJobs, ShowsLines};
+ghost use Rattle.view_run.specs.Runs.{AreInput, IsRefused, IsViewed, leaves_output};
+ghost use Rattle.view_run.specs.Shown.{IsJobsRefusal, IsLinesRefusal, IsPicture, ShowsJobs, ShowsLines};
 ghost use Rattle.view_run.specs.Views.{plan_source};
 
 use crate::names::Names;
@@ -44,10 +46,10 @@ pub(crate) fn work<F: Files, I: Files, K: Sink>(
     input: &mut I,
     out: &mut K,
 ) -> Result<(), Refusal>
-    ensures shown { OnOk result (IsViewed view (I.held input.old)
+    ensures shown { OnOk result (IsViewed view names.now (F.held files.old) (I.held input.old)
         (K.written out.old) (K.written out.new)) }
     ensures refused { IfErr result
-        (IsRefused view names.now (F.held files.old) (I.held input.old)
+        (IsRefused view names.now (F.held files.old) (I.held input.old) (F.blamed files.new)
         (F.faults files.old, F.faults files.new) (I.faults input.old, I.faults input.new)
         (K.faults out.old, K.faults out.new)) }
     ensures untouched { (e : Refusal) → result ≡ Err e → leaves_output e ≡ true
@@ -66,11 +68,13 @@ fn work_of_lines<I: Files, K: Sink>(
     input: &mut I,
     out: &mut K,
 ) -> Result<(), Refusal>
-    ensures shown { OnOk result (IsViewed (View.Lines view) (I.held input.old)
-        (K.written out.old) (K.written out.new)) }
+    ensures shown { OnOk result
+        ((lines : List TraceLine) × AreInput (I.held input.old) lines
+        × ShowsLines view lines (K.written out.old) (K.written out.new)) }
     ensures refused { IfErr result (λ e.
         IsInputRefusal (I.held input.old) (I.faults input.old) (I.faults input.new) e
-        ⊎ IsUnviewed (View.Lines view) (I.held input.old) (K.faults out.old) (K.faults out.new) e) }
+        ⊎ ((lines : List TraceLine) × AreInput (I.held input.old) lines
+        × IsLinesRefusal view lines (K.faults out.old) (K.faults out.new) e)) }
     ensures untouched { (e : Refusal) → result ≡ Err e → leaves_output e ≡ true
         → out.new ≡ out.old }
 {
@@ -87,12 +91,13 @@ fn work_of_jobs<F: Files, I: Files, K: Sink>(
     input: &mut I,
     out: &mut K,
 ) -> Result<(), Refusal>
-    ensures shown { OnOk result (IsViewed (View.Jobs source) (I.held input.old)
+    ensures shown { OnOk result
+        (IsViewed (View.Jobs source) names.now (F.held files.old) (I.held input.old)
         (K.written out.old) (K.written out.new)) }
-    ensures refused { IfErr result (λ e.
-        IsPlanRefusal source names.now (F.held files.old) (F.faults files.old) (F.faults files.new) e
-        ⊎ (IsInputRefusal (I.held input.old) (I.faults input.old) (I.faults input.new) e
-        ⊎ IsUnviewed (View.Jobs source) (I.held input.old) (K.faults out.old) (K.faults out.new) e)) }
+    ensures refused { IfErr result
+        (IsRefused (View.Jobs source) names.now (F.held files.old) (I.held input.old)
+        (F.blamed files.new) (F.faults files.old, F.faults files.new)
+        (I.faults input.old, I.faults input.new) (K.faults out.old, K.faults out.new)) }
     ensures untouched { (e : Refusal) → result ≡ Err e → leaves_output e ≡ true
         → out.new ≡ out.old }
 {
@@ -108,8 +113,9 @@ fn planned<F: Files>(
     source: Source,
     files: &mut F,
 ) -> Result<Plan, Refusal>
-    ensures { IfErr result (IsPlanRefusal source names.now
-        (F.held files.old) (F.faults files.old) (F.faults files.new)) }
+    ensures plan { IfOk result (IsPlanOf source names.now (F.held files.old)) }
+    ensures refused { IfErr result (IsPlanRefusal source names.now (F.held files.old)
+        (F.blamed files.new) (F.faults files.old) (F.faults files.new)) }
 {
     plan_from(alloc, names, files, plan_source(source))
 }
@@ -128,7 +134,7 @@ fn plan_source(source: Source) -> PlanSource
 fn read_lines<I: Files>(alloc: Global, input: &mut I) -> Result<Vec<TraceLine>, Refusal>
     ensures trace { IfOk result (λ lines. AreTrace lines.items) }
     ensures text { IfOk result (λ lines. IfSome (I.held input.old)
-        (λ held. BeginsWith held (lines_text lines.items))) }
+        (λ held. Holds held (lines_text lines.items))) }
     ensures refused { IfErr result
         (IsInputRefusal (I.held input.old) (I.faults input.old) (I.faults input.new)) }
 {
@@ -152,20 +158,28 @@ fn lines_of(alloc: Global, bytes: &[u8]) -> Result<Vec<TraceLine>, Refusal>
 /// The bytes of standard input, where they are within the limit.
 fn read_input<I: Files>(alloc: Global, input: &mut I) -> Result<Vec<u8>, Refusal>
     ensures bytes { IfOk result (λ bytes. IfSome (I.held input.old)
-        (λ held. BeginsWith held bytes.items)) }
+        (λ held. Holds held bytes.items)) }
     ensures refused { IfErr result
         (IsInputRefusal (I.held input.old) (I.faults input.old) (I.faults input.new)) }
 {
     match input.read(alloc, INPUT_NAME, INPUT_LIMIT) {
         Ok(bytes) => {
-            if bytes.len() > INPUT_LIMIT {
-                return Err(Refusal::TooLarge(File::Trace));
+            if is_within_limit(bytes.len()) {
+                Ok(bytes)
+            } else {
+                Err(Refusal::TooLarge(File::Trace))
             }
-            Ok(bytes)
         }
         Err(ReadFault::Memory) => Err(Refusal::Memory),
         Err(ReadFault::Failed) => Err(Refusal::Unreadable(File::Trace)),
     }
+}
+
+/// Whether a trace may have so many bytes.
+fn is_within_limit(count: usize) -> bool
+    ensures { result ≡ nat_le count INPUT_LIMIT }
+{
+    count <= INPUT_LIMIT
 }
 
 /// Writes the view of the lines.
@@ -200,15 +214,20 @@ fn show_picture<K: Sink>(alloc: Global, lines: &[TraceLine], out: &mut K) -> Res
         → out.new ≡ out.old }
 {
     match picture(alloc, lines) {
-        Ok(document) => put_document(&document, out),
+        Ok(document) => put_document(lines, &document, out),
         Err(fault) => Err(of_picture(fault)),
     }
 }
 
-/// Writes the document.
-fn put_document<K: Sink>(document: &Document, out: &mut K) -> Result<(), Refusal>
+/// Writes the document, a picture of the lines.
+fn put_document<K: Sink>(
+    lines: &[TraceLine],
+    document: &Document,
+    out: &mut K,
+) -> Result<(), Refusal>
+    requires { IsPicture lines.now document.now }
     ensures shown { OnOk result
-        ((text : List ℕ) × IsDocument text × Appends (K.written out.old) (K.written out.new) text) }
+        (ShowsLines LineView.Picture lines.now (K.written out.old) (K.written out.new)) }
     ensures refused { (e : Refusal) → result ≡ Err e
         → (e ≡ WriteRefusal) × Rose (K.faults out.old) (K.faults out.new) }
 {
@@ -269,9 +288,10 @@ fn show_jobs<K: Sink>(
     lines: &[TraceLine],
     out: &mut K,
 ) -> Result<(), Refusal>
-    ensures shown { OnOk result (ShowsJobs lines.now (K.written out.old) (K.written out.new)) }
+    ensures shown { OnOk result
+        (ShowsJobs plan.now lines.now (K.written out.old) (K.written out.new)) }
     ensures refused { IfErr result
-        (IsJobsRefusal lines.now (K.faults out.old) (K.faults out.new)) }
+        (IsJobsRefusal plan.now lines.now (K.faults out.old) (K.faults out.new)) }
     ensures untouched { (e : Refusal) → result ≡ Err e → leaves_output e ≡ true
         → out.new ≡ out.old }
 {

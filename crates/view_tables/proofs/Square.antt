@@ -3,6 +3,7 @@ use Rattle.std.proofs.Common.{◌≡◌, ℕ, ◌+◌, List, [], ◌∷◌, ◌+
 use Rattle.std.specs.Prelude.{All, option_map}
 use Rattle.std.specs.List.{AllByRecursion, enumerate_from}
 use Rattle.std.proofs.lemmas.List.Elements.{All-from_recursion}
+use Rattle.slot_facts.proofs.Lists.Members.{AllByRecursion-append}
 use Rattle.trace_lines.specs.declared.line.TraceLine.{TraceLine}
 use Rattle.trace_lines.specs.declared.line.ShownSpan.{ShownSpan}
 use Rattle.view_tables.specs.declared.told.Told.{Told}
@@ -15,11 +16,6 @@ use Rattle.view_tables.specs.Tables.{header, row_if_any, rows_from, rows_of_line
 -- the row has as many fields as the header
 abbrev IsFull : Table → List (List ℕ) → Type 0
 IsFull table row = length row ≡ length (header table)
-
--- rows of both of two lists
-both : {X : Type 0} (P : X → Type 0) (xs ys : List X) → AllByRecursion P xs → AllByRecursion P ys → AllByRecursion P (xs ++ ys)
-both P [] ys first later = later
-both P (x ∷ xs) ys first later = (first.0, both P xs ys first.1 later)
 
 event-full : (line : TraceLine) (told : Option Told) → AllByRecursion (IsFull Events) (row_if_any (option_map (event_fields line) told))
 event-full line None = tt
@@ -36,7 +32,7 @@ line-full Spans n line = spans-full n line 1 line.spans
 lines-full : (table : Table) (n : ℕ) (lines : List TraceLine) → AllByRecursion (IsFull table) (rows_from table n lines)
 lines-full table n [] = tt
 lines-full table n (line ∷ lines) =
-    both (IsFull table) (rows_of_line table (n, line)) (rows_from table (n + 1) lines) (line-full table n line) (lines-full table (n + 1) lines)
+    AllByRecursion-append (IsFull table) (rows_of_line table (n, line)) (rows_from table (n + 1) lines) (line-full table n line) (lines-full table (n + 1) lines)
 
 pub table-square : (table : Table) (lines : List TraceLine) → All (λ row. length row ≡ length (header table)) (table_rows table lines)
 table-square table lines =

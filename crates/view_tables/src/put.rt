@@ -88,9 +88,11 @@ fn put_lines<K: Sink>(
     out: &mut K,
 ) -> Result<(), TableFault>
     ensures text { OnOk result
-        (Appends (K.written out.old) (K.written out.new) (rows_text (rows_from table 1 lines.now))) }
+        (Appends (K.written out.old) (K.written out.new)
+        (rows_text (rows_from table 1 lines.now))) }
     ensures part { OnErr result
-        (AppendsPart (K.written out.old) (K.written out.new) (rows_text (rows_from table 1 lines.now))) }
+        (AppendsPart (K.written out.old) (K.written out.new)
+        (rows_text (rows_from table 1 lines.now))) }
     ensures counted { K.faults out.old ≤ K.faults out.new }
     ensures failed { result ≡ Err (TableFault.Failed)
         → Rose (K.faults out.old) (K.faults out.new) }
@@ -116,9 +118,11 @@ fn put_part<K: Sink>(
 ) -> Result<(), TableFault>
     requires { number + length lines.now ≤ 2 ^ 63 }
     ensures text { OnOk result
-        (Appends (K.written out.old) (K.written out.new) (rows_text (rows_from table number lines.now))) }
+        (Appends (K.written out.old) (K.written out.new)
+        (rows_text (rows_from table number lines.now))) }
     ensures part { OnErr result
-        (AppendsPart (K.written out.old) (K.written out.new) (rows_text (rows_from table number lines.now))) }
+        (AppendsPart (K.written out.old) (K.written out.new)
+        (rows_text (rows_from table number lines.now))) }
     ensures counted { K.faults out.old ≤ K.faults out.new }
     ensures failed { result ≡ Err (TableFault.Failed)
         → Rose (K.faults out.old) (K.faults out.new) }

@@ -6,4 +6,6 @@ mod blocks;
 #[cfg(test)]
 mod pictures;
 #[cfg(test)]
+mod runs;
+#[cfg(test)]
 mod trace_texts;

@@ -1,2 +1,7 @@
+mod Folds
+mod Fronts
 mod ItemTexts
+mod LineKinds
+mod Splits
 mod StepLists
+mod Viewers

@@ -1,2 +1,5 @@
+pub mod Examples
+pub mod Laws
+pub mod Levels
 pub mod Steps
 pub mod WaveTexts

@@ -1,5 +1,5 @@
 -- What changes from one slot of a trace to the next.
-use Rattle.std.specs.Prelude.{◌≡◌, ◌<◌, ℕ, ◌+◌, Bool, true, false, ◌==◌, nat_le, List, [], ◌∷◌, ◌++◌, length, if◌then◌else◌, Option, Some, None, option_map, ⊤}
+use Rattle.std.specs.Prelude.{ℕ, ◌+◌, ◌==◌, List, [], ◌∷◌, ◌++◌, length, if◌then◌else◌, Option, Some, None, option_map}
 use Rattle.std.specs.Int.{cast_unsigned, w64}
 use Rattle.std.specs.Option.{option_map_or, unwrap_or}
 use Rattle.trace_lines.specs.Capacities.{first_spare}

@@ -47,9 +47,11 @@ fn put_opening<K: Sink>(out: &mut K) -> Result<(), Failed>
 /// Writes the wires of the rows.
 fn put_row_wires<K: Sink>(rows: &[Row], out: &mut K) -> Result<(), Failed>
     ensures text { OnOk result
-        (Appends (K.written out.old) (K.written out.new) (flat_map row_text (enumerate_from 0 rows.now))) }
+        (Appends (K.written out.old) (K.written out.new)
+        (flat_map row_text (enumerate_from 0 rows.now))) }
     ensures part { OnErr result
-        (AppendsPart (K.written out.old) (K.written out.new) (flat_map row_text (enumerate_from 0 rows.now))) }
+        (AppendsPart (K.written out.old) (K.written out.new)
+        (flat_map row_text (enumerate_from 0 rows.now))) }
     ensures counted { K.faults out.old ≤ K.faults out.new }
     ensures failed { OnErr result (Rose (K.faults out.old) (K.faults out.new)) }
 {

@@ -45,7 +45,8 @@ fn put_steps<K: Sink>(
     ensures text { OnOk result
         (Appends (K.written out.old) (K.written out.new) (steps_text rows.now first lines.now)) }
     ensures part { OnErr result
-        (AppendsPart (K.written out.old) (K.written out.new) (steps_text rows.now first lines.now)) }
+        (AppendsPart (K.written out.old) (K.written out.new)
+        (steps_text rows.now first lines.now)) }
     ensures counted { K.faults out.old ≤ K.faults out.new }
     ensures failed { OnErr result (Rose (K.faults out.old) (K.faults out.new)) }
 {
@@ -64,7 +65,8 @@ fn put_step<K: Sink>(step: Option<Step>, line: &mut Line, out: &mut K) -> Result
     ensures text { OnOk result
         (Appends (K.written out.old) (K.written out.new) (flat_map step_text (step_if_any step))) }
     ensures part { OnErr result
-        (AppendsPart (K.written out.old) (K.written out.new) (flat_map step_text (step_if_any step))) }
+        (AppendsPart (K.written out.old) (K.written out.new)
+        (flat_map step_text (step_if_any step))) }
     ensures counted { K.faults out.old ≤ K.faults out.new }
     ensures failed { OnErr result (Rose (K.faults out.old) (K.faults out.new)) }
 {

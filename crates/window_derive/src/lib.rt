@@ -26,7 +26,7 @@ use std::fmt;
 use windows::{by_deadline, chains_of_graphs, windows_of};
 
 /// Why a graph has no order.
-#[derive(Clone, Copy, PartialEq, Eq, Debug)]
+#[derive(Clone, Copy, PartialEq, Eq)]
 pub enum OrderFault {
     /// Memory ran out.
     Memory,
@@ -45,6 +45,12 @@ impl fmt::Display for OrderFault {
             OrderFault::Memory => write!(f, "out of memory"),
             OrderFault::Loop(task) => write!(f, "loop task {task}"),
         }
+    }
+}
+
+impl fmt::Debug for OrderFault {
+    fn fmt<W: fmt::Write>(&self, f: &mut fmt::Formatter<W>) -> fmt::Result {
+        fmt::Display::fmt(self, f)
     }
 }
 

@@ -5,7 +5,7 @@ use Rattle.std.proofs.lemmas.Option.{slice_get_past}
 use Rattle.std.proofs.lemmas.Result.{on_ok_weaker, on_err_weaker}
 use Rattle.slot_core.specs.Keeping.Plans.{PlanParts}
 use Rattle.slot_core.specs.Runs.Traces.{end_entry, trace}
-use Rattle.arrival_replay.proofs.Always.{on_ok_always}
+use Rattle.slot_io.proofs.SinkParts.{OnOk-anyhow}
 use Rattle.arrival_replay.proofs.EndTimes.{time-from_stands}
 use Rattle.arrival_replay.proofs.Stops.{all-taken, all-stands, BreaksOff-end}
 use Rattle.arrival_replay.proofs.drive.Goals as goal
@@ -33,7 +33,7 @@ returns-clause-stands g c =
     let arrivals = c.args.arrivals.now in
     let next = slice_get arrivals (length arrivals) in
     let none : next ≡ None = slice_get_past arrivals (length arrivals) (omega arith) in
-    on_ok_always c.end.result (all-stands (g.W.Taker.took plan.tasks c.args.taker.now c.go_to.new.taker) c.go_to.new.exec (trace plan.tasks arrivals n) n next c.in_ok-go_to.ensures.stopped none)
+    OnOk-anyhow c.end.result (all-stands (g.W.Taker.took plan.tasks c.args.taker.now c.go_to.new.taker) c.go_to.new.exec (trace plan.tasks arrivals n) n next c.in_ok-go_to.ensures.stopped none)
 
 pub returns-clause-broke : goal.returns-clause-broke
 returns-clause-broke g c =

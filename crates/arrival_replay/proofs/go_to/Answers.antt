@@ -2,7 +2,7 @@
 use Rattle.std.proofs.Common.{◌≡◌, ◌≤◌, true, false, [], ◌∷◌, length, drop, sym, subst, ◌∙◌, arith}
 use Rattle.slot_core.specs.declared.events.What.TheVariants.{Start}
 use Rattle.slot_core.specs.Runs.Traces.{shown_entry, trace, history_of}
-use Rattle.arrival_replay.proofs.Always.{on_err_always}
+use Rattle.slot_io.proofs.SinkParts.{OnErr-anyhow}
 use Rattle.arrival_replay.proofs.UnderWay.{IsToTell, entry-to_tell, IsUnderWay-told, BreaksOff-told, IsToTell-start}
 use Rattle.arrival_replay.proofs.Happenings.{place_after, place_after-some, place_after-none, place_after-within, on_the_way-early, on_the_way-told, left-falls, IsToTell-happened, time-happened, last-happened, due-may_come, due-later, happened-named}
 use Rattle.arrival_replay.proofs.Stops.{IsStopped-off}
@@ -44,7 +44,7 @@ returns-in_err-tell-clause-broke g c =
     let e = shown_entry set exec.plan.cycle 0 Start (Start ∷ history_of t.told) in
     let one = c.in_err-tell.ensures.broke (Start ∷ history_of t.told) t.stands in
     let all = g.met.W.Taker.broke_later set first first next t.told (e ∷ []) t.took one in
-    on_err_always c.from_residual.result (BreaksOff-told (took first) (g.W.Taker.broke set first next) exec.plan exec (trace set arrivals n) n arrivals 0 Start t all)
+    OnErr-anyhow c.from_residual.result (BreaksOff-told (took first) (g.W.Taker.broke set first next) exec.plan exec (trace set arrivals n) n arrivals 0 Start t all)
 
 pub happen-what-requires-clause-later : goal.happen-what-requires-clause-later
 happen-what-requires-clause-later g c =
@@ -176,7 +176,7 @@ returns-in_err-tell-2-clause-broke g c =
     let e = shown_entry plan.tasks plan.cycle time what (what ∷ history_of t.told) in
     let one = entry-to_tell (λ set es. g.W.Taker.broke set last next es) (took last) plan after whole n rest time what t c.in_err-tell-2.ensures.broke in
     let all = g.met.W.Taker.broke_later plan.tasks first last next t.told (e ∷ []) t.took one in
-    on_err_always c.from_residual-in_err-tell-2.result (BreaksOff-told (took last) (g.W.Taker.broke plan.tasks first next) plan after whole n rest time what t all)
+    OnErr-anyhow c.from_residual-in_err-tell-2.result (BreaksOff-told (took last) (g.W.Taker.broke plan.tasks first next) plan after whole n rest time what t all)
 
 -- off the way it stops at its place
 pub returns-clause-stopped : goal.returns-clause-stopped

@@ -1,5 +1,4 @@
-use Rattle.std.proofs.Common.{◌++◌, ◌∙◌, ◌<◌, sym, refl, ap, get_or, sum_by, subst, drop, ◌+◌, arith}
-use Rattle.slot_core.specs.declared.jobs.Job.{Job}
+use Rattle.std.proofs.Common.{◌++◌, ◌∙◌, sym, refl, ap, get_or, sum_by, subst, drop, ◌+◌, arith}
 use Rattle.slot_core.specs.Keeping.Plans.{AreInDeadlineOrder}
 use Rattle.interval_build.specs.Rows.{rows_between}
 use Rattle.interval_build.proofs.Due.{left_of, work_of_front, rest_of_front, work_between-le, AreInDeadlineOrder-drop}

@@ -18,35 +18,32 @@ use Rattle.scene_steps.specs.Steps.{scene_after, row_after, told_in}
 use Rattle.scene_steps.proofs.Model.Arrivals.{soft-follows, firm-follows, sporadic-follows}
 use Rattle.scene_steps.proofs.Model.Ends.{done-follows, withdraw-follows}
 use Rattle.scene_steps.proofs.Model.Slots.{slot-follows}
+use Rattle.scene_steps.proofs.Same.SameScenes.{same_scene-refl}
 
 -- equal scenes are the same
 same_scene-equal : (a b : Scene) → a ≡ b → IsSameScene a b
 same_scene-equal a b equal =
-    subst (IsSameScene a) equal (record { time = refl; jobs = λ f. refl; nexts = refl; soft = refl; points = refl })
-
--- so a scene is the same as itself
-same_scene-itself : (a : Scene) → IsSameScene a a
-same_scene-itself a = same_scene-equal a a refl
+    subst (IsSameScene a) equal (same_scene-refl a)
 
 -- each kind of entry and of answer changes the scene of its history by its step
 pub entry-follows : {S : Slots} {set : TaskSet} {what : What} {h : History} → is_sound set ≡ true → IsOwned set (time_of (what ∷ h) / cycle_of set + 3) (what ∷ h) → Entries S set (cycle_of set) (what ∷ h) → IsSameScene (scene_after set (cycle_of set) what (scene_of set (cycle_of set) h)) (scene_of set (cycle_of set) (what ∷ h))
-entry-follows {set = set} {h = h} sound owned (at_start l) = same_scene-itself (scene_of set (cycle_of set) h)
-entry-follows {set = set} {h = h} sound owned (at_end l) = same_scene-itself (scene_of set (cycle_of set) h)
+entry-follows {set = set} {h = h} sound owned (at_start l) = same_scene-refl (scene_of set (cycle_of set) h)
+entry-follows {set = set} {h = h} sound owned (at_end l) = same_scene-refl (scene_of set (cycle_of set) h)
 entry-follows {set = set} {h = h} sound owned (slot_runs {key = key} r s l) = slot-follows set (RanKey key) h sound (slot_runs r s l) owned
 entry-follows {set = set} {h = h} sound owned (idles s l) = slot-follows set RanIdle h sound (idles s l) owned
 entry-follows {set = set} {h = h} sound owned (soft_taken {row = row} {slots = slots} r l) = same_scene-equal _ _ (soft-follows set row slots h sound (soft_taken r l))
-entry-follows {set = set} {h = h} sound owned (soft_full r l) = same_scene-itself (scene_of set (cycle_of set) h)
+entry-follows {set = set} {h = h} sound owned (soft_full r l) = same_scene-refl (scene_of set (cycle_of set) h)
 entry-follows {set = set} {h = h} sound owned (accepted {row = row} {slots = slots} {within = within} r l) = firm-follows set row slots within h sound (accepted r l)
-entry-follows {set = set} {h = h} sound owned (late r l) = same_scene-itself (scene_of set (cycle_of set) h)
-entry-follows {set = set} {h = h} sound owned (far r l) = same_scene-itself (scene_of set (cycle_of set) h)
-entry-follows {set = set} {h = h} sound owned (no_room r l) = same_scene-itself (scene_of set (cycle_of set) h)
+entry-follows {set = set} {h = h} sound owned (late r l) = same_scene-refl (scene_of set (cycle_of set) h)
+entry-follows {set = set} {h = h} sound owned (far r l) = same_scene-refl (scene_of set (cycle_of set) h)
+entry-follows {set = set} {h = h} sound owned (no_room r l) = same_scene-refl (scene_of set (cycle_of set) h)
 entry-follows {set = set} {h = h} sound owned (sporadic_taken {row = row} {index = index} {due = due} r l) = sporadic-follows set row index due h sound (sporadic_taken r l)
-entry-follows {set = set} {h = h} sound owned (soon r l) = same_scene-itself (scene_of set (cycle_of set) h)
+entry-follows {set = set} {h = h} sound owned (soon r l) = same_scene-refl (scene_of set (cycle_of set) h)
 entry-follows {set = set} {h = h} sound owned (job_freed {row = row} {n = n} {key = key} r j s l) = same_scene-equal _ _ (done-follows set (cycle_of set) row n key h)
 entry-follows {set = set} {h = h} sound owned (soft_freed {row = row} {n = n} {key = key} r s l) = same_scene-equal _ _ (done-follows set (cycle_of set) row n key h)
-entry-follows {set = set} {h = h} sound owned (not_running r l) = same_scene-itself (scene_of set (cycle_of set) h)
+entry-follows {set = set} {h = h} sound owned (not_running r l) = same_scene-refl (scene_of set (cycle_of set) h)
 entry-follows {set = set} {h = h} sound owned (withdrawn {row = row} {firm = firm} {n = n} r j l) = same_scene-equal _ _ (withdraw-follows set (cycle_of set) row firm n h)
-entry-follows {set = set} {h = h} sound owned (no_job r l) = same_scene-itself (scene_of set (cycle_of set) h)
+entry-follows {set = set} {h = h} sound owned (no_job r l) = same_scene-refl (scene_of set (cycle_of set) h)
 
 -- the scene of a longer legal history is that of the shorter one, after its last entry
 pub scene-follows :

@@ -15,12 +15,12 @@ use Rattle.spare_capacity.specs.Recurrence.{last_end}
 use Rattle.interval_build.specs.Rows.{rows_between}
 use Rattle.interval_build.proofs.Capacities.{no_work}
 use Rattle.interval_build.proofs.Due.{work_of_first, work_between-cons}
+use Rattle.interval_build.proofs.SpansOfCycle.{last_end-between}
 use Rattle.interval_row.specs.Changes.{appended}
 use Rattle.scene_steps.specs.Rows.{spans}
 use Rattle.scene_steps.proofs.Rows.Bare.{bare, cleared, same_row}
 use Rattle.scene_steps.proofs.Rows.JobWorks.{work_between-append}
 use Rattle.scene_steps.proofs.Rows.Works.{rows_between-same}
-use Rattle.scene_steps.proofs.Spans.Between.{last_end-between}
 
 -- points and others that rise from the last of them rise
 pub AreRising-append : (s : ℕ) (points later : List ℕ) → AreRising s points → AreRising (last_point s points) later → AreRising s (points ++ later)

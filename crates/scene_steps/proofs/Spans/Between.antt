@@ -1,40 +1,26 @@
 -- Spans between points that rise: where they end, and the work that is due there.
-use Rattle.std.proofs.Common.{◌≡◌, ℕ, suc, pos, ◌≤ℤ◌, get_or, ◌+◌, ◌<◌, ◌≤◌, ◌^◌, ◌⊎◌, cond, List, [], ◌∷◌, Some, refl, sym, ap, ◌∙◌, subst, inl, inr, arith}
+use Rattle.std.proofs.Common.{◌≡◌, ℕ, suc, get_or, ◌+◌, ◌<◌, ◌≤◌, ◌^◌, ◌⊎◌, cond, List, [], ◌∷◌, Some, refl, sym, ap, ◌∙◌, subst, inl, inr, arith}
 use Rattle.std.specs.Prelude.{All, Contains, IsSomeAnd, nat_le, nat_lt, ◌&&◌, ◌==◌, sum_by}
 use Rattle.std.specs.List.{AllByRecursion}
 use Rattle.std.proofs.lemmas.Bool.{cases_eq, cases_lt, cond-true, cond-false, eq-eqb, ne_eqb, lt-ltb, le-leb}
-use Rattle.std.proofs.lemmas.Int.{ints}
 use Rattle.slot_core.specs.declared.jobs.Job.{Job}
 use Rattle.slot_core.specs.declared.jobs.Span.{Span}
 use Rattle.slot_core.specs.Runs.Demand.{work_by, work_between}
 use Rattle.slot_core.specs.Runs.Rising.{AreRising, last_point}
-use Rattle.slot_core.specs.Runs.Spans.{slack, span_at, spans_between}
+use Rattle.slot_core.specs.Runs.Spans.{span_at, spans_between}
 use Rattle.slot_facts.proofs.Lists.Members.{Has, AllByRecursion-from_Has, AllByRecursion-weaker}
 use Rattle.slot_facts.proofs.Lists.Apart.{above-from_rising}
 use Rattle.slot_facts.proofs.Lists.MemberSums.{term-le_sum_by}
 use Rattle.slot_facts.proofs.Lists.Sums.{sum_by-agree}
-use Rattle.spare_capacity.specs.Recurrence.{first_spare, last_end, FollowOn}
+use Rattle.spare_capacity.specs.Recurrence.{FollowOn}
 use Rattle.spare_capacity.specs.Laws.{work_until}
 use Rattle.spare_capacity.proofs.Slack.{work_until-ended, work_until-running}
 use Rattle.interval_row.specs.Changes.{span_ending}
-use Rattle.spare_capacity.specs.PlanSpans.{AreProper}
-use Rattle.interval_build.proofs.Capacities.{NoneBetween, no_work, slack_splits}
+use Rattle.interval_build.proofs.Capacities.{NoneBetween, no_work, work_between-splits}
 use Rattle.interval_build.proofs.Due.{left_of, work_between-le}
-use Rattle.interval_build.proofs.Least.{IsLeast-least}
-use Rattle.interval_build.proofs.Filled.{AreDueAt, AreDueAt-from_All, AreDueAfter-start, last_point-above}
+use Rattle.interval_build.proofs.Filled.{AreDueAt, AreDueAt-from_All, AreDueAt-next, AreDueAfter-start, last_point-above}
 
--- they end at the last point
-pub last_end-between : (jobs : List Job) (end start : ℕ) (points : List ℕ) → last_end start (spans_between jobs end start points) ≡ last_point start points
-last_end-between jobs end start [] = refl
-last_end-between jobs end start (e ∷ points) = last_end-between jobs end e points
-
--- each has its end above its start
-pub AreProper-between : (jobs : List Job) (end start : ℕ) (points : List ℕ) → AreRising start points → AreProper (spans_between jobs end start points)
-AreProper-between jobs end start [] rising = tt
-AreProper-between jobs end start (e ∷ points) rising =
-    (rising.0, AreProper-between jobs end e points rising.1)
-
--- the work of each is at most all that is left
+-- the work of each span is at most all that is left
 pub works-between : (jobs : List Job) (end start : ℕ) (points : List ℕ) (most : ℕ) → sum_by left_of jobs ≤ most → AllByRecursion (λ (s : Span). s.work ≤ most) (spans_between jobs end start points)
 works-between jobs end start [] most few = tt
 works-between jobs end start (e ∷ points) most few =
@@ -127,19 +113,6 @@ NoneBetween-point jobs start e x points early rising due =
       ])
     ]) due
 
--- past the first point they are due by it or at later ones
-AreDueAt-later : (jobs : List Job) (start e : ℕ) (points : List ℕ) → start < e → AreDueAt jobs start (e ∷ points) → AreDueAt jobs e points
-AreDueAt-later jobs start e points rising due =
-    AllByRecursion-weaker (λ (j : Job). (j.dl ≤ start) ⊎ Has (e ∷ points) j.dl) (λ (j : Job). (j.dl ≤ e) ⊎ Has points j.dl) jobs (λ j h. elim h [
-      | inl low ↦ inl (omega arith)
-      | inr among ↦ elim among [ inl here ↦ inl (omega arith) | inr later ↦ inr later ]
-    ]) due
-
--- the work up to x is that up to e and that from there on
-work_between-splits : (jobs : List Job) (start e x : ℕ) → start ≤ e → e ≤ x → work_between jobs start x ≡ work_between jobs start e + work_between jobs e x
-work_between-splits jobs start e x rising low =
-    omega (arith, ints, slack_splits jobs start e x rising low)
-
 -- the work of the spans that end by a time is that of the jobs due from the start up to it
 pub work_until-between : (jobs : List Job) (end start : ℕ) (points : List ℕ) (x : ℕ) → AreRising start points → AreDueAt jobs start points → work_until (spans_between jobs end start points) x ≡ work_between jobs start x
 work_until-between jobs end start [] x rising due =
@@ -148,7 +121,7 @@ work_until-between jobs end start [] x rising due =
 work_until-between jobs end start (e ∷ points) x rising due =
     let first = span_at jobs end start e in
     let later = spans_between jobs end e points in
-    let rest = work_until-between jobs end e points x rising.1 (AreDueAt-later jobs start e points rising.0 due) in
+    let rest = work_until-between jobs end e points x rising.1 (AreDueAt-next jobs start e points rising.0 due) in
     elim (cases_lt x e) [
       | inl before ↦
           let none = no_work jobs start x (suc x) (omega arith) (NoneBetween-point jobs start e x points before rising.1 due) in
@@ -164,11 +137,3 @@ pub work_until-points : (jobs : List Job) (end start : ℕ) (points : List ℕ) 
 work_until-points jobs end start points x rising due =
     let after = AreDueAfter-start jobs start points rising due in
     work_until-between jobs end start points x rising (AreDueAt-from_All jobs start points due) ∙ sum_by-agree (λ (j : Job). cond (nat_lt start j.dl && nat_le j.dl x) j.left 0) (λ (j : Job). cond (nat_le j.dl x) j.left 0) jobs (λ i d within. ap (λ b. cond (b && nat_le (get_or jobs i d).dl x) (get_or jobs i d).left 0) (lt-ltb start (get_or jobs i d).dl (after i d within)))
-
--- where no stretch from the start has more work than slots, the first capacity is at least 0
-pub first_spare-between : (jobs : List Job) (end start : ℕ) (points : List ℕ) → AreRising start points → last_point start points ≤ end → ((x : ℕ) → start ≤ x → x ≤ end → pos 0 ≤ℤ slack jobs start x) → pos 0 ≤ℤ first_spare (spans_between jobs end start points)
-first_spare-between jobs end start [] rising within room = omega (arith, ints)
-first_spare-between jobs end start (e ∷ points) rising within room =
-    let least = IsLeast-least (slack jobs start) e end (omega (arith, last_point-above e points rising.1)) in
-    let (x, low, high, is) = least.reached in
-    subst (λ z. pos 0 ≤ℤ z) (sym is) (room x (omega (arith, rising.0)) high)

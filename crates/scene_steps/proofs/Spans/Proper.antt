@@ -21,7 +21,8 @@ use Rattle.spare_capacity.specs.Recurrence.{first_spare, last_end, FollowOn}
 use Rattle.interval_row.specs.Changes.{span_ending}
 use Rattle.spare_capacity.specs.PlanSpans.{AreProper}
 use Rattle.scene_steps.specs.Scenes.{IsProperScene}
-use Rattle.scene_steps.proofs.Spans.Between.{AreProper-between, EndsAt-between, first_spare-between, FollowOn-between, last_end-between, span_ending-job, span_ending-small, work_until-points, works-between}
+use Rattle.interval_build.proofs.SpansOfCycle.{AreProper-between, first_spare-between, last_end-between}
+use Rattle.scene_steps.proofs.Spans.Between.{EndsAt-between, FollowOn-between, span_ending-job, span_ending-small, work_until-points, works-between}
 
 -- the horizon is at most three cycles ahead
 pub horizon-at_most : (cycle t : ℕ) → horizon cycle t ≤ t + 3 * cycle

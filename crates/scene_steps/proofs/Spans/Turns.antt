@@ -12,9 +12,8 @@ use Rattle.slot_facts.proofs.Plans.Horizons.{turn, inside, next_slot}
 use Rattle.slot_facts.proofs.Plans.Items.{plan_cycle-bounds}
 use Rattle.spare_capacity.specs.Recurrence.{last_end, FollowOn}
 use Rattle.spare_capacity.specs.PlanSpans.{AreProper}
-use Rattle.interval_build.proofs.SpansOfCycle.{ArePlanSpans-from_plan}
+use Rattle.interval_build.proofs.SpansOfCycle.{ArePlanSpans-from_plan, last_end-between}
 use Rattle.scene_steps.specs.Scenes.{IsProperScene}
-use Rattle.scene_steps.proofs.Spans.Between.{last_end-between}
 use Rattle.scene_steps.proofs.Spans.Points.{last_point-later, length-later}
 use Rattle.scene_steps.proofs.Spans.Proper.{horizon-at_least, horizon-at_most}
 

@@ -1,8 +1,6 @@
-use Rattle.std.proofs.Common.{◌≡◌, ◌≢◌, true, Err, refl, sym, ap, subst, ◌∙◌, inl, inr}
-use Rattle.run_outcome.specs.declared.refusal.Refusal.{Refusal}
-use Rattle.run_outcome.specs.declared.refusal.Refusal.TheVariants.{Memory}
+use Rattle.std.proofs.Common.{◌≡◌, refl, true, sym, ap, subst, ◌∙◌, inl, inr}
 use Rattle.run_outcome.specs.Refusals.{refusal_status}
-use Rattle.view_run.specs.Runs.{IsRefused, leaves_output, leaves_output_at}
+use Rattle.view_run.specs.Runs.{IsRefused, leaves_output_at}
 use Rattle.view_run.proofs.Causes.{leaves-by_status, refused-no_usage}
 use Rattle.view_run.proofs.run_named.Goals as goal
 
@@ -10,7 +8,7 @@ pub returns-in-Err-clause-shows : goal.returns-in-Err-clause-shows
 returns-in-Err-clause-shows g c = λ usage.
     elim c.report.ensures.kept [
       | inl same ↦
-          refused-no_usage c.args.view c.args.names.now _ _ _ _ _ c.in-Err.refusal c.in-Err.ensures.refused (ap refusal_status (sym same) ∙ sym c.status.ensures ∙ usage)
+          refused-no_usage c.args.view c.args.names.now _ _ _ _ _ _ c.in-Err.refusal c.in-Err.ensures.refused (ap refusal_status (sym same) ∙ sym c.status.ensures ∙ usage)
       | inr memory ↦ cc (ap refusal_status (sym memory.0) ∙ sym c.status.ensures ∙ usage)
     ]
 
@@ -19,8 +17,8 @@ returns-in-Err-clause-refused g c = λ undone. (
   c.report.result,
   c.status.ensures,
   elim c.report.ensures.kept [
-    | inl same ↦ subst (IsRefused c.args.view c.args.names.now _ _ _ _ _) (sym same) c.in-Err.ensures.refused
-    | inr memory ↦ subst (IsRefused c.args.view c.args.names.now _ _ _ _ _) (sym memory.0) (inr (inl tt))
+    | inl same ↦ subst (IsRefused c.args.view c.args.names.now _ _ _ _ _ _) (sym same) c.in-Err.ensures.refused
+    | inr memory ↦ subst (IsRefused c.args.view c.args.names.now _ _ _ _ _ _) (sym memory.0) (inl refl)
   ],
   c.report.ensures.told,
 )

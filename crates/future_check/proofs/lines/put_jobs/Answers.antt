@@ -1,7 +1,7 @@
 -- One more line is written, or a part of it.
 use Rattle.std.proofs.Common.{◌∙◌, arith}
 use Rattle.future_check.specs.Explanations.{job_line}
-use Rattle.future_check.proofs.LineTexts.{line_more, part_more}
+use Rattle.slot_io.proofs.LineTexts.{line_more, part_more}
 use Rattle.future_check.proofs.lines.put_jobs.Goals as goal
 use Rattle.slot_io.proofs.SinkParts.{OnErr-anyhow}
 

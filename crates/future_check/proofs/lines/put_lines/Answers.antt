@@ -2,7 +2,7 @@
 use Rattle.std.specs.Prelude.{flat_map}
 use Rattle.std.proofs.lemmas.Result.{on_err_weaker}
 use Rattle.future_check.specs.Explanations.{arrival_line, job_line, offer_line}
-use Rattle.future_check.proofs.LineTexts.{part-first, part-second, part-third}
+use Rattle.slot_io.proofs.LineTexts.{part-first, part-second, part-third}
 use Rattle.future_check.proofs.lines.put_lines.Goals as goal
 use Rattle.slot_io.proofs.SinkParts.{OnErr-anyhow}
 

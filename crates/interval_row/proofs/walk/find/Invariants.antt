@@ -1,11 +1,10 @@
 use Rattle.std.proofs.Common.{◌≡◌, ◌+◌, ◌≤◌}
-use Rattle.interval_row.specs.ChainTables.{spans_of}
 use Rattle.interval_row.specs.Rows.{place_of}
 use Rattle.interval_row.proofs.walk.find.Given as goal
 
 -- the spans so far end before x
 abbrev pub invariant-loop-index : goal.invariant-loop-index
 invariant-loop-index g l = record {
-  before : l.index ≤ place_of l.x (spans_of l.chain.pairs);
+  before : l.index ≤ place_of l.x (g.S.Store.spans l.store);
   steps : l.steps ≡ l.fn.steps + l.index;
 }

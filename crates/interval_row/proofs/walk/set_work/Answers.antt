@@ -1,112 +1,81 @@
-use Rattle.std.proofs.Common.{◌≡◌, ◌+◌, ◌-◌, ◌≤◌, ◌<◌, ◌^◌, ◌∙◌, ℕ, ℤ, List, length, get_or, set, drop, ap, sym, arith, rules, w64, SFits}
-use Rattle.std.proofs.lemmas.Int.{ints, to_z-of_z}
-use Rattle.std.proofs.lemmas.List.{get_or-set_same, length-set}
+use Rattle.std.proofs.Common.{◌≡◌, ◌-◌, ◌<◌, ◌∙◌, suc, FitsSigned, get_or, length, ap, sym, arith, rules, w64, to_z, of_z}
+use Rattle.std.proofs.lemmas.Int.{ints, clamps, to_z-of_z}
+use Rattle.std.proofs.lemmas.Option.{slice_get_within, slice_get-get_or, get_or_from_slice_get}
 use Rattle.slot_core.specs.declared.jobs.Span.{Span}
-use Rattle.spare_capacity.specs.Recurrence.{first_spare, first_start, with_spare, AreConsecutive}
-use Rattle.spare_capacity.specs.Refill.{IsStaleAt}
+use Rattle.spare_capacity.specs.Lending.{repaid}
+use Rattle.spare_capacity.specs.Recurrence.{filled, first_start}
 use Rattle.spare_capacity.proofs.Steps.{no_row}
-use Rattle.interval_row.specs.ChainTables.{spans_of}
 use Rattle.interval_row.specs.Rows.{with_work_at}
-use Rattle.interval_row.proofs.Fillings.{AreConsecutive-FollowOn}
-use Rattle.interval_row.proofs.Ids.{length-spans_of, row_at, span_at-within, spans_of-set}
-use Rattle.interval_row.proofs.WalkBack.{walk-can, walk-first, walk-set, walk-stop, CanRefillAt}
-use Rattle.interval_row.proofs.Works.{length-with_work_at, FollowOn-with_work_at, IsStaleAt-with_work_at}
+use Rattle.interval_row.proofs.WalkBack.{walked, walked-put, walked-next, walked-end, CanRaise, CanRaise-walked, IsWithin-spare}
 use Rattle.interval_row.proofs.walk.set_work.Given.{Over}
 use Rattle.interval_row.proofs.walk.set_work.Goals as goal
-use Rattle.interval_row.proofs.walk.set_work.Goals.{After-get-was}
+use Rattle.interval_row.proofs.walk.set_work.Goals.{Else-more-eq0}
+
+pub repaid-more-requires : goal.repaid-more-requires
+repaid-more-requires g c =
+    let rows = g.S.Store.spans c.args.store.now in
+    let k = c.args.place.index in
+    let was = c.args.place.row in
+    let h = c.requires.rows in
+    let near = IsWithin-spare (first_start rows) rows k h.consecutive h.filled h.few (slice_get_within rows k was c.requires.row) in
+    let is : was ≡ get_or rows k no_row = sym (get_or_from_slice_get rows k was no_row c.requires.row) in
+    let old : FitsSigned w64 was.spare = search rules in
+    let new : FitsSigned w64 c.args.row.spare = search rules in
+    omega (arith, ints, clamps, near.low, near.high, ap (λ (s : Span). s.spare) is)
 
 pub loop-index-init : goal.loop-index-init
 loop-index-init g c =
-    let pairs = c.args.chain.now.pairs in
-    let rows = spans_of pairs in
-    let index = c.args.place.index in
-    let here = span_at-within pairs index c.args.place.row c.requires.row in
-    let l : index < length rows = omega (arith, here, length-spans_of pairs) in
-    let put = c.set.ensures.span index c.at.ensures in
-    let written = ap spans_of put ∙ spans_of-set pairs index (c.at.result, c.args.row) in
-    let row = row_at pairs index c.args.place.row c.requires.row in
-    let spare = c.requires.spare ∙ ap (λ (s : Span). with_spare (record s { work = c.args.row.work }) (first_spare (drop (index + 1) rows))) row in
+    let rows = g.S.Store.spans c.args.store.now in
+    let k = c.args.place.index in
+    let was = c.args.place.row in
+    let is : was ≡ get_or rows k no_row = sym (get_or_from_slice_get rows k was no_row c.requires.row) in
+    let old : FitsSigned w64 was.spare = search rules in
+    let new : FitsSigned w64 c.args.row.spare = search rules in
+    let fits : FitsSigned w64 c.repaid-more.result = search rules in
+    let more : to_z w64 (of_z w64 c.repaid-more.result) ≡ repaid was.spare c.args.row.spare = omega (arith, ints, clamps, c.repaid-more.ensures) in
     record {
-      spans = written ∙ walk-first rows index c.args.row.work c.args.row l c.requires.rows.filled spare;
-      count = ap length put ∙ length-set pairs index (c.at.result, c.args.row);
-      current = sym (ap (λ xs. get_or xs index no_row) written ∙ get_or-set_same rows index c.args.row no_row l);
-      capacity = c.set.ensures.capacity;
+      spans = rw (more, c.set.ensures.spans) (walked-put rows k was c.args.row c.requires.rows (slice_get_within rows k was c.requires.row) is c.requires.spare);
+      room = c.set.ensures.room;
       low = omega (arith, c.set.ensures.one_step);
       high = omega (arith, c.set.ensures.one_step);
     }
 
--- the rows with the new work
-abbrev worked : (g : Over) → After-get-was g → List Span
-worked g c = with_work_at c.args.place.index c.args.row.work (spans_of c.args.chain.now.pairs)
+pub returns-then-more-eq0-clause-spans : goal.returns-then-more-eq0-clause-spans
+returns-then-more-eq0-clause-spans g c =
+    sym (walked-end (g.S.Store.spans c.loop-index.store) c.loop-index.index) ∙ (rw c.if-more-eq0.true at c.loop-index.invariant.spans)
 
--- what holds before the row at a place is refilled
-record Stands (rows now : List Span) (at k : ℕ) (was : Span) : Type 0 where
-  within : at < length rows
-  placed : k < length now
-  low : k ≤ at
-  high : k ≤ length rows
-  few : length rows ≤ 2 ^ 20
-  consecutive : AreConsecutive rows
-  stale : IsStaleAt at rows
-  before : was ≡ get_or now (k - 1) no_row
+-- the place is one after that of the span before it
+still : (g : Over) (c : Else-more-eq0 g) → walked (to_z w64 c.loop-index.more-bits) (suc (c.loop-index.index - 1)) (g.S.Store.spans c.loop-index.store) ≡ filled (with_work_at c.args.place.index c.args.row.work (g.S.Store.spans c.args.store.now))
+still g c =
+    let next : c.loop-index.index ≡ suc (c.loop-index.index - 1) = omega (arith, c.loop-index-test.true) in
+    rw next at c.loop-index.invariant.spans
 
-stands : (g : Over) (c : After-get-was g) → Stands (worked g c) (spans_of c.loop-index.chain.pairs) c.args.place.index c.loop-index.index c.get-was.result
-stands g c =
-    let pairs = c.args.chain.now.pairs in
-    let rows = spans_of pairs in
-    let at = c.args.place.index in
-    let now = c.loop-index.chain.pairs in
-    let k = c.loop-index.index in
-    let long = length-with_work_at at c.args.row.work rows in
-    let l : at < length rows = omega (arith, span_at-within pairs at c.args.place.row c.requires.row, length-spans_of pairs) in
-    record {
-      within = omega (arith, l, long);
-      placed = omega (arith, c.loop-index.auto.index, l, c.loop-index.invariant.count, length-spans_of pairs, length-spans_of now);
-      low = c.loop-index.auto.index;
-      high = omega (arith, c.loop-index.auto.index, l, long);
-      few = omega (arith, long, c.requires.rows.few);
-      consecutive = AreConsecutive-FollowOn (first_start rows) (worked g c) (FollowOn-with_work_at at c.args.row.work (first_start rows) rows c.requires.few c.requires.rows.consecutive);
-      stale = IsStaleAt-with_work_at at c.args.row.work rows l c.requires.rows.filled;
-      before = row_at now (k - 1) c.get-was.result (c.get-was.ensures.span (k - 1) c.at-id.ensures);
-    }
-
-can : (g : Over) (c : After-get-was g) → CanRefillAt c.get-was.result c.loop-index.current
+-- which can be raised
+can : (g : Over) (c : Else-more-eq0 g) → CanRaise (g.S.Store.spans c.loop-index.store) (c.loop-index.index - 1) (to_z w64 c.loop-index.more-bits)
 can g c =
-    let s = stands g c in
-    walk-can (worked g c) (spans_of c.loop-index.chain.pairs) c.loop-index.index c.get-was.result c.loop-index.current c.loop-index-test.true s.high s.few s.consecutive s.placed c.loop-index.invariant.spans s.before c.loop-index.invariant.current
+    let rows = g.S.Store.spans c.args.store.now in
+    let high : c.loop-index.index - 1 < length rows = omega (arith, c.loop-index.auto.index, c.loop-index-test.true, slice_get_within rows c.args.place.index c.args.place.row c.requires.row) in
+    CanRaise-walked rows _ c.args.place.index c.args.row.work _ _ c.requires.rows c.requires.few high (still g c)
 
-pub refilled-current-requires-clause-short : goal.refilled-current-requires-clause-short
-refilled-current-requires-clause-short g c = (can g c).short
+pub raise-more-requires-clause-within : goal.raise-more-requires-clause-within
+raise-more-requires-clause-within g c = (can g ((goal.at.raise-more-requires-clause-within g c).Else-more-eq0)).within
 
-pub refilled-current-requires-clause-borrows_few : goal.refilled-current-requires-clause-borrows_few
-refilled-current-requires-clause-borrows_few g c = omega (arith, ints, (can g c).borrows_few)
-
-pub returns-then-spare_alike-clause-spans : goal.returns-then-spare_alike-clause-spans
-returns-then-spare_alike-clause-spans g c =
-    let after = (goal.at.returns-then-spare_alike-clause-spans g c).After-get-was in
-    let s = stands g after in
-    walk-stop (worked g after) (spans_of c.loop-index.chain.pairs) c.args.place.index c.loop-index.index c.get-was.result c.loop-index.current c.refilled-current.result c.loop-index-test.true s.low s.within s.placed s.stale c.loop-index.invariant.spans s.before c.loop-index.invariant.current c.refilled-current.ensures (c.spare_alike.ensures.0 c.if-spare_alike.true)
+pub raise-more-requires-clause-fits : goal.raise-more-requires-clause-fits
+raise-more-requires-clause-fits g c =
+    let can = can g ((goal.at.raise-more-requires-clause-fits g c).Else-more-eq0) in
+    rw (slice_get-get_or (g.S.Store.spans c.loop-index.store) (c.loop-index.index - 1) no_row can.within) can.fits
 
 pub loop-index-preserved : goal.loop-index-preserved
 loop-index-preserved g c =
-    let after = (goal.at.loop-index-preserved g c).After-get-was in
-    let s = stands g after in
-    let now = c.loop-index.chain.pairs in
-    let k = c.loop-index.index in
-    let row = c.refilled-current.result in
-    let was = c.get-was.result in
-    let whole : SFits w64 row.spare = search rules in
-    let same : record was { spare = row.spare } ≡ row = ap (λ (t : Span). record was { spare = t.spare }) c.refilled-current.ensures ∙ sym c.refilled-current.ensures in
-    let put = c.set_spare.ensures.span (k - 1) was c.at-id.ensures (c.get-was.ensures.span (k - 1) c.at-id.ensures)
-    ∙ ap (λ (z : ℤ). set now (k - 1) (c.at-id.result, record was { spare = z })) (to_z-of_z w64 row.spare whole)
-    ∙ ap (λ (t : Span). set now (k - 1) (c.at-id.result, t)) same in
-    let written = ap spans_of put ∙ spans_of-set now (k - 1) (c.at-id.result, row) in
-    let l : k - 1 < length (spans_of now) = omega (arith, s.placed) in
+    let after = (goal.at.loop-index-preserved g c).Else-more-eq0 in
+    let within = (can g after).within in
+    let here = slice_get-get_or (g.S.Store.spans c.loop-index.store) (c.loop-index.index - 1) no_row within in
+    let fits : FitsSigned w64 c.raise-more.result = search rules in
+    let more = to_z-of_z w64 c.raise-more.result fits ∙ (rw here at c.raise-more.ensures.repaid) in
+    let put = rw here at c.raise-more.ensures.spans in
     record {
-      spans = written ∙ walk-set (worked g after) (spans_of now) k c.get-was.result c.loop-index.current row c.loop-index-test.true s.high s.placed c.loop-index.invariant.spans s.before c.loop-index.invariant.current c.refilled-current.ensures;
-      count = ap length put ∙ length-set now (k - 1) (c.at-id.result, row) ∙ c.loop-index.invariant.count;
-      current = sym (ap (λ xs. get_or xs (k - 1) no_row) written ∙ get_or-set_same (spans_of now) (k - 1) row no_row l);
-      capacity = c.set_spare.ensures.capacity ∙ c.loop-index.invariant.capacity;
-      low = omega (arith, c.set_spare.ensures.one_step, c.get-was.ensures.one_step, c.loop-index.invariant.low);
-      high = omega (arith, c.set_spare.ensures.one_step, c.get-was.ensures.one_step, c.loop-index.invariant.high, c.loop-index-test.true);
+      spans = rw (more, put) (walked-next _ _ _ within ∙ still g after);
+      room = c.raise-more.ensures.room ∙ c.loop-index.invariant.room;
+      low = omega (arith, c.raise-more.ensures.two_steps, c.loop-index.invariant.low);
+      high = omega (arith, c.raise-more.ensures.two_steps, c.loop-index.invariant.high, c.loop-index-test.true);
     }

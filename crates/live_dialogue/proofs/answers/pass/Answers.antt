@@ -9,13 +9,12 @@ use Rattle.slot_core.specs.Output.Texts.{trace_text}
 use Rattle.slot_core.specs.Runs.Histories.{History}
 use Rattle.slot_core.specs.Runs.Traces.{entries, history_after, slot}
 use Rattle.slot_io.specs.Sinks.{AppendsPart}
-use Rattle.slot_io.proofs.SinkParts.{AppendsPart-more}
-use Rattle.arrival_replay.proofs.Always.{on_err_always}
+use Rattle.slot_io.proofs.SinkParts.{AppendsPart-more, OnErr-anyhow}
 use Rattle.live_dialogue.proofs.Lines.{text-next, text-more, history-next}
 use Rattle.live_dialogue.proofs.answers.pass.Goals as goal
 
 pub returns-in_err-put_slot-clause-part : goal.returns-in_err-put_slot-clause-part
-returns-in_err-put_slot-clause-part g c = on_err_always c.from_residual.result (λ h stands.
+returns-in_err-put_slot-clause-part g c = OnErr-anyhow c.from_residual.result (λ h stands.
     let p = c.args.exec.now.plan in
     let l = c.loop-passed in
     let k = l._passed in

@@ -4,7 +4,8 @@ use Rattle.std.proofs.lemmas.Result.{on_ok_weaker, on_err_weaker}
 use Rattle.std.specs.Io.KnownBytes.{Appends}
 use Rattle.slot_core.specs.Runs.Traces.{slot}
 use Rattle.slot_io.specs.Sinks.{AppendsPart}
-use Rattle.live_dialogue.proofs.Lines.{line-told, stands-told, time-passed, passed-named}
+use Rattle.arrival_replay.proofs.Happenings.{stands-told}
+use Rattle.live_dialogue.proofs.Lines.{text-told, time-passed, passed-named}
 use Rattle.live_dialogue.proofs.answers.put_slot.Goals as goal
 
 pub put_entry-requires : goal.put_entry-requires
@@ -20,7 +21,7 @@ returns-clause-put g c =
     on_ok_weaker c.put_entry.result (λ put h stands.
     subst
     (Appends (g.K.Sink.written c.args.out.now) (g.K.Sink.written c.put_entry.new.out))
-    (line-told c.args.exec.now c.happen-what.new.exec slot what c.now-time.result h c.now-time.ensures.time stands does)
+    (text-told c.args.exec.now c.happen-what.new.exec slot what c.now-time.result h c.now-time.ensures.time stands does)
     (put (what ∷ h) (does.stands h stands))) c.put_entry.ensures.put
 
 pub returns-clause-part : goal.returns-clause-part
@@ -30,7 +31,7 @@ returns-clause-part g c =
     on_err_weaker c.put_entry.result (λ part h stands.
     subst
     (AppendsPart (g.K.Sink.written c.args.out.now) (g.K.Sink.written c.put_entry.new.out))
-    (line-told c.args.exec.now c.happen-what.new.exec slot what c.now-time.result h c.now-time.ensures.time stands does)
+    (text-told c.args.exec.now c.happen-what.new.exec slot what c.now-time.result h c.now-time.ensures.time stands does)
     (part (what ∷ h) (does.stands h stands))) c.put_entry.ensures.part
 
 pub returns-clause-stands : goal.returns-clause-stands

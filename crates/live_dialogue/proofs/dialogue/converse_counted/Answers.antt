@@ -1,28 +1,20 @@
 -- What is heard is answered one by one.
 use Rattle.std.proofs.Common.{◌≡◌, ◌+◌, [], ◌∷◌, ◌++◌, length, length-append, Err, inr, refl, sym, ap, ◌∙◌, subst, append-nil, arith, rules}
-use Rattle.std.specs.Prelude.{IfErr, Result}
 use Rattle.std.specs.Io.KnownBytes.{Appends}
 use Rattle.slot_core.specs.Keeping.Executives.{StandsFor}
 use Rattle.slot_core.specs.Keeping.Plans.{PlanParts}
 use Rattle.slot_core.specs.Runs.Histories.{History}
 use Rattle.slot_core.specs.Runs.Traces.{started}
 use Rattle.slot_io.specs.Sinks.{AppendsPart}
-use Rattle.slot_io.proofs.SinkParts.{AppendsPart-none}
 use Rattle.std.proofs.KnownBytes.{Appends-nil}
 use Rattle.line_source.specs.Lines.{Heard, heard}
-use Rattle.live_dialogue.specs.declared.streams.DialogueFault.{DialogueFault}
-use Rattle.live_dialogue.specs.declared.streams.DialogueFault.TheVariants.{Output}
 use Rattle.live_dialogue.specs.Dialogues.{asked, history_heard, next_history, start_text, is_end, asks_end}
-use Rattle.live_dialogue.specs.Streams.{seen, exchange_texts, dialogue_texts, IsPut, IsPutInPart, IsBroken}
-use Rattle.live_dialogue.proofs.DialogueLemmas.{turn-put, turn-part, turn-history, IsBroken-cut, end-asked, GoesOn-more, IsOver-now, BreaksOff-now}
-use Rattle.live_dialogue.proofs.StreamLemmas.{IsPut-row, IsPutInPart-row}
+use Rattle.live_dialogue.specs.Streams.{seen, exchange_texts, dialogue_texts, ArePut, ArePutInPart, IsBroken}
+use Rattle.live_dialogue.proofs.DialogueLemmas.{turn-put, turn-part, turn-history, IsBroken-at_start, IsBroken-in_answer, end-asked, GoesOn-more, IsOver-now}
+use Rattle.live_dialogue.proofs.StreamLemmas.{ArePut-row, ArePutInPart-lines, at-fault}
 use Rattle.live_dialogue.proofs.dialogue.converse_counted.Given.{Over}
 use Rattle.live_dialogue.proofs.dialogue.converse_counted.Goals as goal
 use Rattle.live_dialogue.proofs.dialogue.converse_counted.Goals.{After-answer}
-
--- the fault that is answered
-at-fault : {X : Type 0} (r : Result X DialogueFault) (fault : DialogueFault) (P : DialogueFault → Type 0) → r ≡ Err fault → P fault → IfErr r P
-at-fault {X} r fault P is holds = subst (λ (r : Result X DialogueFault). IfErr r P) (sym is) holds
 
 pub loop-heard-init : goal.loop-heard-init
 loop-heard-init g c =
@@ -38,27 +30,26 @@ loop-heard-init g c =
       stands = c.requires.started;
       plan = refl;
       misread = omega arith;
-      put = IsPut-row (g.K.Sink.written s.answers) (g.K.Sink.written c.put_entry.new.out) (g.R.Sink.written s.rows) (g.R.Sink.written s.rows) (g.E.Sink.written s.faults) (g.K.Sink.faults s.answers) (g.K.Sink.faults c.put_entry.new.out) (g.R.Sink.faults s.rows) (g.R.Sink.faults s.rows) (g.E.Sink.faults s.faults) (start ++ []) [] told (Appends-nil (g.R.Sink.written s.rows)) c.in_ok-put_entry.ensures.counted (omega arith);
+      put = ArePut-row (seen g.K.Sink.written g.K.Sink.faults g.R.Sink.written g.R.Sink.faults g.E.Sink.written g.E.Sink.faults s) (g.K.Sink.written c.put_entry.new.out) (g.R.Sink.written s.rows) (g.K.Sink.faults c.put_entry.new.out) (g.R.Sink.faults s.rows) (start ++ []) [] told (Appends-nil (g.R.Sink.written s.rows)) c.in_ok-put_entry.ensures.counted (omega arith);
     }
 
 pub returns-in_err-put_entry-clause-broken : goal.returns-in_err-put_entry-clause-broken
 returns-in_err-put_entry-clause-broken g c =
     let p = c.args.exec.now.plan in
     let s = c.args.streams.now in
+    let see = seen g.K.Sink.written g.K.Sink.faults g.R.Sink.written g.R.Sink.faults g.E.Sink.written g.E.Sink.faults in
     let start = start_text p.tasks p.cycle in
     let source = c.args.source.now in
+    let after = see (record s { answers = c.put_entry.new.out }) in
+    let fault = c.in_err-put_entry.field-0.0 in
     let told = subst (AppendsPart (g.K.Sink.written s.answers) (g.K.Sink.written c.put_entry.new.out)) (sym (append-nil start)) (c.in_err-put_entry.ensures.part started c.requires.started) in
-    let same : c.from_residual.result ≡ Err c.in_err-put_entry.field-0.0 = search rules in
-    let output : c.in_err-put_entry.field-0.0 ≡ Output = c.in_err-put_entry.ensures.fault in
-    at-fault c.from_residual.result Output (λ fault. IsBroken g.S.LineSource.gave g.S.LineSource.faults p.tasks p.cycle fault source source (seen g.K.Sink.written g.K.Sink.faults g.R.Sink.written g.R.Sink.faults g.E.Sink.written g.E.Sink.faults s) (seen g.K.Sink.written g.K.Sink.faults g.R.Sink.written g.R.Sink.faults g.E.Sink.written g.E.Sink.faults (record s { answers = c.put_entry.new.out }))) (same ∙ ap Err output) (
-      record {
-        heards = [];
-        gave = g.met.S.LineSource.gave_none source;
-        breaks = record { first = []; last = []; all = refl; one = omega arith; goes_on = refl };
-        put = IsPutInPart-row (g.K.Sink.written s.answers) (g.K.Sink.written c.put_entry.new.out) (g.R.Sink.written s.rows) (g.R.Sink.written s.rows) (g.E.Sink.written s.faults) (g.K.Sink.faults s.answers) (g.K.Sink.faults c.put_entry.new.out) (g.R.Sink.faults s.rows) (g.R.Sink.faults s.rows) (g.E.Sink.faults s.faults) (start ++ []) [] told (AppendsPart-none (g.R.Sink.written s.rows) []) c.in_err-put_entry.ensures.counted (omega arith);
-      },
-      c.in_err-put_entry.ensures.failed,
-    )
+    let same : c.from_residual.result ≡ Err fault = search rules in
+    at-fault c.from_residual.result fault (λ fault. IsBroken g.S.LineSource.gave g.S.LineSource.faults p.tasks p.cycle fault source source (see s) after) same
+    (IsBroken-at_start g.S.LineSource.gave g.S.LineSource.faults p.tasks p.cycle fault source source (see s) after
+    (record {
+      gave = g.met.S.LineSource.gave_none source;
+      part = ArePutInPart-lines fault (see s) (g.K.Sink.written c.put_entry.new.out) (g.K.Sink.faults c.put_entry.new.out) (start ++ []) c.in_err-put_entry.ensures.fault told c.in_err-put_entry.ensures.counted c.in_err-put_entry.ensures.failed;
+    }))
 
 -- the history before the answer
 abbrev before : (g : Over) (c : After-answer g) → History
@@ -80,7 +71,7 @@ all_gave g c =
     g.met.S.LineSource.gave_more c.args.source.now c.loop-heard.source c.hear.new.source c.loop-heard.invariant.heards (now_heard g c ∷ []) c.loop-heard.invariant.gave c.in_ok-given.ensures.gives
 
 -- its number
-number : (g : Over) (c : After-answer g) → c.loop-heard.heard + 1 ≡ 1 + length c.loop-heard.invariant.heards
+number : (g : Over) (c : After-answer g) → c.loop-heard.heard + 1 ≡ length c.loop-heard.invariant.heards + 1
 number g c = omega (arith, c.loop-heard.invariant.count)
 
 pub returns-in_err-answer-clause-broken : goal.returns-in_err-answer-clause-broken
@@ -89,26 +80,28 @@ returns-in_err-answer-clause-broken g c =
     let p = c.args.exec.now.plan in
     let inv = c.loop-heard.invariant in
     let see = seen g.K.Sink.written g.K.Sink.faults g.R.Sink.written g.R.Sink.faults g.E.Sink.written g.E.Sink.faults in
-    let told = subst (λ (q : PlanParts). IsPutInPart (see c.loop-heard.streams) (see c.answer.new.streams) (exchange_texts q.tasks q.cycle (c.loop-heard.heard + 1) (before g o) c.asked_now-asked.result)) inv.plan (c.in_err-answer.ensures.part (before g o) inv.stands) in
-    let same : c.from_residual-in_err-answer.result ≡ Err c.in_err-answer.field-0.0 = search rules in
-    at-fault c.from_residual-in_err-answer.result c.in_err-answer.field-0.0 (λ fault. IsBroken g.S.LineSource.gave g.S.LineSource.faults p.tasks p.cycle fault c.args.source.now c.hear.new.source (see c.args.streams.now) (see c.answer.new.streams)) same
-    (IsBroken-cut g.S.LineSource.gave g.S.LineSource.faults p.tasks p.cycle c.in_err-answer.field-0.0 c.args.source.now c.hear.new.source (see c.args.streams.now) (see c.loop-heard.streams) (see c.answer.new.streams)
+    let fault = c.in_err-answer.field-0.0 in
+    let part = subst (λ (q : PlanParts). ArePutInPart fault (see c.loop-heard.streams) (see c.answer.new.streams) (exchange_texts q.tasks q.cycle (c.loop-heard.heard + 1) (before g o) c.asked_now-asked.result)) inv.plan (c.in_err-answer.ensures.part (before g o) inv.stands) in
+    let same : c.from_residual-in_err-answer.result ≡ Err fault = search rules in
+    at-fault c.from_residual-in_err-answer.result fault (λ fault. IsBroken g.S.LineSource.gave g.S.LineSource.faults p.tasks p.cycle fault c.args.source.now c.hear.new.source (see c.args.streams.now) (see c.answer.new.streams)) same
+    (IsBroken-in_answer g.S.LineSource.gave g.S.LineSource.faults p.tasks p.cycle fault c.args.source.now c.hear.new.source (see c.args.streams.now) (see c.answer.new.streams)
     (record {
-      heards = inv.heards ++ now_heard g o ∷ [];
+      first = inv.heards;
+      last = now_heard g o;
       gave = all_gave g o;
-      breaks = BreaksOff-now p.tasks inv.heards (now_heard g o) inv.goes_on;
-      put = turn-part p.tasks p.cycle (c.loop-heard.heard + 1) (see c.args.streams.now) (see c.loop-heard.streams) (see c.answer.new.streams) inv.heards (now_heard g o) c.asked_now-asked.result (number g o) (is_asked g o) inv.put told;
-    })
-    inv.put.counted
-    c.in_err-answer.ensures.fault)
+      goes_on = inv.goes_on;
+      between = see c.loop-heard.streams;
+      put = inv.put;
+      part = turn-part p.tasks p.cycle (c.loop-heard.heard + 1) fault (see c.loop-heard.streams) (see c.answer.new.streams) inv.heards (now_heard g o) c.asked_now-asked.result (number g o) (is_asked g o) part;
+    }))
 
 -- the texts with the answer
-all_put : (g : Over) (c : After-answer g) → IsPut (seen g.K.Sink.written g.K.Sink.faults g.R.Sink.written g.R.Sink.faults g.E.Sink.written g.E.Sink.faults c.loop-heard.streams) (seen g.K.Sink.written g.K.Sink.faults g.R.Sink.written g.R.Sink.faults g.E.Sink.written g.E.Sink.faults c.answer.new.streams) (exchange_texts c.loop-heard.exec.plan.tasks c.loop-heard.exec.plan.cycle (c.loop-heard.heard + 1) (before g c) c.asked_now-asked.result) → IsPut (seen g.K.Sink.written g.K.Sink.faults g.R.Sink.written g.R.Sink.faults g.E.Sink.written g.E.Sink.faults c.args.streams.now) (seen g.K.Sink.written g.K.Sink.faults g.R.Sink.written g.R.Sink.faults g.E.Sink.written g.E.Sink.faults c.answer.new.streams) (dialogue_texts c.args.exec.now.plan.tasks c.args.exec.now.plan.cycle (c.loop-heard.invariant.heards ++ now_heard g c ∷ []))
+all_put : (g : Over) (c : After-answer g) → ArePut (seen g.K.Sink.written g.K.Sink.faults g.R.Sink.written g.R.Sink.faults g.E.Sink.written g.E.Sink.faults c.loop-heard.streams) (seen g.K.Sink.written g.K.Sink.faults g.R.Sink.written g.R.Sink.faults g.E.Sink.written g.E.Sink.faults c.answer.new.streams) (exchange_texts c.loop-heard.exec.plan.tasks c.loop-heard.exec.plan.cycle (c.loop-heard.heard + 1) (before g c) c.asked_now-asked.result) → ArePut (seen g.K.Sink.written g.K.Sink.faults g.R.Sink.written g.R.Sink.faults g.E.Sink.written g.E.Sink.faults c.args.streams.now) (seen g.K.Sink.written g.K.Sink.faults g.R.Sink.written g.R.Sink.faults g.E.Sink.written g.E.Sink.faults c.answer.new.streams) (dialogue_texts c.args.exec.now.plan.tasks c.args.exec.now.plan.cycle (c.loop-heard.invariant.heards ++ now_heard g c ∷ []))
 all_put g c put =
     let p = c.args.exec.now.plan in
     let inv = c.loop-heard.invariant in
     let see = seen g.K.Sink.written g.K.Sink.faults g.R.Sink.written g.R.Sink.faults g.E.Sink.written g.E.Sink.faults in
-    let told = subst (λ (q : PlanParts). IsPut (see c.loop-heard.streams) (see c.answer.new.streams) (exchange_texts q.tasks q.cycle (c.loop-heard.heard + 1) (before g c) c.asked_now-asked.result)) inv.plan put in
+    let told = subst (λ (q : PlanParts). ArePut (see c.loop-heard.streams) (see c.answer.new.streams) (exchange_texts q.tasks q.cycle (c.loop-heard.heard + 1) (before g c) c.asked_now-asked.result)) inv.plan put in
     turn-put p.tasks p.cycle (c.loop-heard.heard + 1) (see c.args.streams.now) (see c.loop-heard.streams) (see c.answer.new.streams) inv.heards (now_heard g c) c.asked_now-asked.result (number g c) (is_asked g c) inv.put told
 
 -- whether it asks for the end

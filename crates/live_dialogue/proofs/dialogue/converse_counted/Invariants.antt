@@ -3,7 +3,7 @@ use Rattle.slot_core.specs.Keeping.Executives.{StandsFor}
 use Rattle.slot_core.specs.Runs.Traces.{started}
 use Rattle.line_source.specs.Lines.{Heard}
 use Rattle.live_dialogue.specs.Dialogues.{history_heard, GoesOn}
-use Rattle.live_dialogue.specs.Streams.{seen, dialogue_texts, IsPut}
+use Rattle.live_dialogue.specs.Streams.{seen, dialogue_texts, ArePut}
 use Rattle.live_dialogue.proofs.dialogue.converse_counted.Given as goal
 
 -- so many were heard, all of them are answered, and the end was not asked for
@@ -17,5 +17,5 @@ invariant-loop-heard g l =
       stands : StandsFor l.exec (history_heard l.fn.exec.plan.tasks l.fn.exec.plan.cycle started heards);
       plan : l.exec.plan ≡ l.fn.exec.plan;
       misread : g.S.LineSource.faults l.fn.source ≤ g.S.LineSource.faults l.source;
-      put : IsPut (seen g.K.Sink.written g.K.Sink.faults g.R.Sink.written g.R.Sink.faults g.E.Sink.written g.E.Sink.faults l.fn.streams) (seen g.K.Sink.written g.K.Sink.faults g.R.Sink.written g.R.Sink.faults g.E.Sink.written g.E.Sink.faults l.streams) (dialogue_texts l.fn.exec.plan.tasks l.fn.exec.plan.cycle heards);
+      put : ArePut (seen g.K.Sink.written g.K.Sink.faults g.R.Sink.written g.R.Sink.faults g.E.Sink.written g.E.Sink.faults l.fn.streams) (seen g.K.Sink.written g.K.Sink.faults g.R.Sink.written g.R.Sink.faults g.E.Sink.written g.E.Sink.faults l.streams) (dialogue_texts l.fn.exec.plan.tasks l.fn.exec.plan.cycle heards);
     }

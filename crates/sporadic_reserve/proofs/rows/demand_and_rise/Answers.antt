@@ -11,12 +11,12 @@ loop-row-preserved c =
     let i = c.loop-row.row-index in
     let row = get_or rows i no_row in
     let is = IsRow-at rows i c.requires.rows c.loop-row-test.true in
-    let product : c.from.result * c.arrivals_due.result ≡ row_demand c.args.r c.args.x row = cc (c.from.ensures, c.arrivals_due.ensures.due) in
-    let few : c.from.result * c.arrivals_due.result ≤ SLOT_LIMIT * 2 ^ 41 = mul-le-mul {n₂ = SLOT_LIMIT} {m₂ = 2 ^ 41} (omega (arith, is.short, c.from.ensures)) (omega (arith, c.arrivals_due.ensures.few)) in
+    let product : c.from.result * c.arrivals_due-count.result ≡ row_demand c.args.r c.args.x row = cc (c.from.ensures, c.arrivals_due-count.ensures.due) in
+    let few : c.from.result * c.arrivals_due-count.result ≤ SLOT_LIMIT * 2 ^ 41 = mul-le-mul {n₂ = SLOT_LIMIT} {m₂ = 2 ^ 41} (omega (arith, is.short, c.from.ensures)) (omega (arith, c.arrivals_due-count.ensures.few)) in
     record {
       sum = omega (arith, c.loop-row.invariant.sum, product, sum_by_more (row_demand c.args.r c.args.x) rows i no_row c.loop-row-test.true);
       small = omega (arith, c.loop-row.invariant.small, few);
-      rise = RisesAt-more rows i c.args.r c.args.x c.next_due.result c.loop-row.first c.earlier.result c.requires.rows c.loop-row-test.true c.loop-row.invariant.rise c.next_due.ensures c.earlier.ensures;
+      rise = RisesAt-more rows i c.args.r c.args.x c.due_after.result c.loop-row.first c.earlier.result c.requires.rows c.loop-row-test.true c.loop-row.invariant.rise c.due_after.ensures c.earlier.ensures;
     }
 
 pub returns-clause-demand : goal.returns-clause-demand

@@ -3,6 +3,8 @@ use Rattle.std.proofs.Common.{◌<◌, ◌^◌, length, sym, subst, arith}
 use Rattle.std.specs.Prelude.{All}
 use Rattle.table_codec.specs.Sizes.{FitsJob, FitsSpan}
 use Rattle.table_codec.proofs.PlanSizes.{few_jobs, all_fitting_jobs, few_spans, all_fitting_spans}
+use Rattle.std.proofs.Common.{rules}
+use Rattle.std.proofs.lemmas.Grind.{common_steps}
 use Rattle.table_codec.proofs.writer.put_table.Goals as goal
 
 pub put_jobs-requires-clause-few : goal.put_jobs-requires-clause-few
@@ -22,3 +24,15 @@ put_spans-requires-clause-few c =
 pub put_spans-requires-clause-small : goal.put_spans-requires-clause-small
 put_spans-requires-clause-small c =
     subst (All (FitsSpan c.args.layout)) (sym c.spans.ensures.spans) (all_fitting_spans c.args.layout c.args.plan.now c.spans.ensures.plan)
+
+pub returns-in_err-put_head : goal.returns-in_err-put_head
+returns-in_err-put_head c = search rules
+
+pub returns-in_err-put_set : goal.returns-in_err-put_set
+returns-in_err-put_set c = search rules
+
+pub returns-in_err-put_jobs : goal.returns-in_err-put_jobs
+returns-in_err-put_jobs c = search rules
+
+pub returns : goal.returns
+returns c = grind (arith, common_steps)

@@ -1,7 +1,7 @@
 use Rattle.std.proofs.Common.{ap, ◌∙◌, length, take, arith}
 use Rattle.std.proofs.lemmas.List.{length-take}
 use Rattle.slot_core.specs.Runs.Rising.{last_point}
-use Rattle.trace_verify.proofs.FirstSpans.{length-spans_between}
+use Rattle.slot_facts.proofs.Plans.FirstSpans.{length-spans}
 use Rattle.trace_verify.proofs.shown.shown.Goals as goal
 
 pub push_spans-requires : goal.push_spans-requires
@@ -11,7 +11,7 @@ push_spans-requires c =
     omega (
       arith,
       ap length (c.deref.ensures.value ∙ c.in_ok-spans.ensures),
-      length-spans_between c.args.jobs.now (last_point c.args.time points) c.args.time front,
+      length-spans c.args.jobs.now (last_point c.args.time points) c.args.time front,
       length-take c.min-count.result points,
       ap (λ s. length s.spans) c.new-shown.ensures,
       c.min-count.ensures,

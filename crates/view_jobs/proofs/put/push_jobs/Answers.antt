@@ -1,5 +1,5 @@
 -- The row of one more job is appended.
-use Rattle.std.proofs.Common.{◌≡◌, ℕ, ◌++◌, List, Some, take, ap, ◌∙◌}
+use Rattle.std.proofs.Common.{◌++◌, List, Some, take, ap, ◌∙◌}
 use Rattle.view_jobs.specs.declared.jobs.Listed.{Listed}
 use Rattle.view_jobs.specs.Tallies.{tally_in}
 use Rattle.view_jobs.proofs.JobTexts.{job-next, jobs_rows}

@@ -1,5 +1,5 @@
 -- The one row is the header.
-use Rattle.std.proofs.Common.{◌≡◌, ℕ, ◌++◌, List, [], ◌∷◌, Some, append-nil, sym, ap, ◌∙◌}
+use Rattle.std.proofs.Common.{◌≡◌, ℕ, List, [], ◌∷◌, Some, append-nil, sym, ap, ◌∙◌}
 use Rattle.csv_table.specs.Tables.{row_line, rows_text}
 use Rattle.view_jobs.specs.JobRows.{job_names}
 use Rattle.view_jobs.proofs.put.put_header.Goals as goal

@@ -1,8 +1,8 @@
 -- Where a line names an unknown task, nothing is written.
-use Rattle.view_jobs.specs.Tallies.{untold}
-use Rattle.view_jobs.proofs.JobTexts.{none-written}
+use Rattle.slot_io.proofs.SinkParts.{AppendsPart-none}
+use Rattle.view_jobs.specs.Tables.{jobs_text}
 use Rattle.view_jobs.proofs.put.put_jobs.Goals as goal
 
 pub returns-in-Some-clause-part : goal.returns-in-Some-clause-part
 returns-in-Some-clause-part g c =
-    none-written (g.K.Sink.written c.args.out.now) c.args.plan.now.tasks (λ _. untold)
+    AppendsPart-none (g.K.Sink.written c.args.out.now) (jobs_text c.args.plan.now c.args.lines.now)

@@ -1,19 +1,14 @@
 -- The rows of more lines are written, or a part of them.
 use Rattle.std.proofs.Common.{◌≡◌, ◌≤◌, ℕ, ◌+◌, ◌++◌, List, length, append_assoc, length-append, sym, ap, ◌∙◌, arith}
-use Rattle.std.specs.Prelude.{Result, Ok, Err, OnErr}
+use Rattle.slot_io.proofs.SinkParts.{OnErr-anyhow}
 use Rattle.trace_lines.specs.declared.line.TraceLine.{TraceLine}
 use Rattle.view_tables.proofs.LineTexts.{lines-broken, lines-written}
 use Rattle.view_tables.proofs.put.put_lines.Goals as goal
 
--- what holds, holds where a call fails
-failing : {T E P : Type 0} (r : Result T E) → P → OnErr r P
-failing (Ok x) p = tt
-failing (Err e) p = p
-
 pub returns-in_err-put_part-clause-part : goal.returns-in_err-put_part-clause-part
 returns-in_err-put_part-clause-part g c =
     let (front, all, at, written, counted) = c.loop-rest.invariant in
-    failing c.from_residual.result
+    OnErr-anyhow c.from_residual.result
     (lines-broken (g.K.Sink.written c.args.out.now) (g.K.Sink.written c.loop-rest.out) (g.K.Sink.written c.put_part.new.out) c.args.table c.loop-rest.number front c.split_at.result.0.now c.split_at.result.1.now c.loop-rest.rest.now c.args.lines.now at all c.split_at.ensures.by_index.0 written c.in_err-put_part.ensures.part)
 
 pub loop-rest-preserved : goal.loop-rest-preserved

@@ -1,19 +1,13 @@
 -- The header is written, and then the rows.
-use Rattle.std.proofs.Common.{◌≡◌, ℕ, List}
-use Rattle.std.specs.Prelude.{Result, Ok, Err, OnErr}
 use Rattle.std.proofs.lemmas.Result.{on_err_weaker}
+use Rattle.slot_io.proofs.SinkParts.{OnErr-anyhow}
 use Rattle.view_tables.proofs.LineTexts.{header-broken, rows-broken}
 use Rattle.view_tables.proofs.Square.{table-square}
 use Rattle.view_tables.proofs.put.put_table.Goals as goal
 
--- what holds, holds where a call fails
-failing : {T E P : Type 0} (r : Result T E) → P → OnErr r P
-failing (Ok x) p = tt
-failing (Err e) p = p
-
 pub returns-in_err-put_header-clause-part : goal.returns-in_err-put_header-clause-part
 returns-in_err-put_header-clause-part g c =
-    failing c.from_residual.result
+    OnErr-anyhow c.from_residual.result
     (header-broken (g.K.Sink.written c.args.out.now) (g.K.Sink.written c.put_header.new.out) c.args.table c.args.lines.now c.in_err-put_header.ensures.part)
 
 pub returns-in_err-put_header-clause-square : goal.returns-in_err-put_header-clause-square

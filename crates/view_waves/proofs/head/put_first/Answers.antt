@@ -1,7 +1,5 @@
 -- The first values are three pieces.
-use Rattle.std.proofs.Common.{ℕ, ◌==◌, ◌++◌, List, codes}
-use Rattle.std.specs.Prelude.{flat_map}
-use Rattle.std.specs.List.{range_with_len}
+use Rattle.std.proofs.Common.{codes}
 use Rattle.std.proofs.lemmas.Result.{on_ok_weaker, on_err_weaker}
 use Rattle.view_waves.specs.WaveTexts.{levels_text, shown_text}
 use Rattle.view_waves.proofs.ItemTexts.{failing, first-broken, last-broken, second-broken, three-written}

@@ -1,5 +1,5 @@
 -- The declarations are three pieces.
-use Rattle.std.proofs.Common.{List, length}
+use Rattle.std.proofs.Common.{length}
 use Rattle.std.specs.Prelude.{flat_map}
 use Rattle.std.specs.List.{enumerate_from}
 use Rattle.std.proofs.lemmas.Result.{on_err_weaker}

@@ -1,5 +1,5 @@
 -- The bits so far are appended.
-use Rattle.std.proofs.Common.{◌≡◌, ℕ, ◌+◌, ◌-◌, ◌++◌, length, map}
+use Rattle.std.proofs.Common.{◌≡◌, ◌+◌, ◌-◌, ◌++◌, length, map}
 use Rattle.std.specs.List.{range_with_len}
 use Rattle.view_waves.specs.WaveTexts.{bit_digit}
 use Rattle.view_waves.proofs.lines.push_bits.Given as goal

@@ -1,5 +1,5 @@
 -- The bits stand between the first letter and the name of the capacity.
-use Rattle.std.proofs.Common.{◌≡◌, ℕ, ◌-◌, ◌++◌, List, [], ◌∷◌, codes, map, append_assoc, sym, ap, ◌∙◌}
+use Rattle.std.proofs.Common.{◌≡◌, ℕ, ◌-◌, ◌++◌, List, codes, map, append_assoc, ap, ◌∙◌}
 use Rattle.std.specs.List.{range_with_len}
 use Rattle.view_waves.specs.WaveTexts.{bit_digit}
 use Rattle.view_waves.proofs.lines.push_capacity.Goals as goal

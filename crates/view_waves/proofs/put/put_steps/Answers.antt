@@ -1,5 +1,5 @@
 -- What changes at one more line is written, or a part of it.
-use Rattle.std.proofs.Common.{◌≡◌, ◌≤◌, ℕ, ◌+◌, List, take, get_or, sym, ap, ◌∙◌, arith}
+use Rattle.std.proofs.Common.{◌≡◌, ℕ, List, get_or, ap, ◌∙◌, arith}
 use Rattle.std.specs.Prelude.{flat_map, Option}
 use Rattle.trace_lines.specs.declared.line.TraceLine.{TraceLine}
 use Rattle.run_blocks.specs.declared.rows.Row.{Row}

@@ -4,14 +4,14 @@ use Rattle.std.specs.Prelude.{All, Contains}
 use Rattle.slot_core.specs.declared.jobs.Key.{Key}
 use Rattle.slot_core.specs.declared.jobs.Job.{Job}
 use Rattle.slot_core.specs.Runs.Arrivals.{key_in_set}
-use Rattle.mode_switch.specs.Keeping.{MayRun, NoneIsReady, carried_after, carried_left, history_of_change}
+use Rattle.mode_switch.specs.Keeping.{HasItsJob, NoneIsReady, carried_after, carried_left, history_of_change}
 use Rattle.mode_switch.specs.Parts.{ChangeParts, time_of_change}
 use Rattle.mode_switch.specs.Runs.{turn_at}
 use Rattle.mode_switch.specs.declared.turns.Turn.TheVariants.{Idle, New, Old}
 use Rattle.mode_switch.proofs.CarriedLeft.{left-any, length-any}
 use Rattle.mode_switch.proofs.ChangeFacts.{front-left, idle-none, new-named, old-carried, turn-is, turn-queue}
 use Rattle.mode_switch.proofs.ChangeSteps.{KeepsChange-next, queue-empty}
-use Rattle.mode_switch.proofs.ChangeTurns.{MayRun-any, MayRun-turn, turn-told}
+use Rattle.mode_switch.proofs.ChangeTurns.{HasItsJob-any, HasItsJob-turn, turn-told}
 use Rattle.mode_switch.proofs.change.Change.slot_counted.Goals as goal
 
 pub next_carried-carried-requires : goal.next_carried-carried-requires
@@ -34,11 +34,11 @@ run-ended-requires-clause-may g c =
     let own = c.self.inside in
     let turn = c.turn_between-turn.result in
     let told = turn-told own.at own.ended own.ran own.passed c.deref.result.now own.carried.items own.own.jobs c.next_carried-carried.result c.earliest-own.result c.turn_between-turn.result c.turn_between-turn.ensures c.next_carried-carried.ensures c.deref.ensures.value c.earliest-own.ensures.job in
-    let may = MayRun-turn own.passed (carried_left own.at own.carried.items own.ended own.ran) own.own.jobs turn (turn-queue _ _ _ _ c.self.invariant turn told) in
+    let may = HasItsJob-turn own.passed (carried_left own.at own.carried.items own.ended own.ran) own.own.jobs turn (turn-queue _ _ _ _ c.self.invariant turn told) in
     subst
-    (λ (js : List Job). MayRun turn (carried_left 0 js own.ended own.ran) own.own.jobs)
+    (λ (js : List Job). HasItsJob turn (carried_left 0 js own.ended own.ran) own.own.jobs)
     (sym c.deref-2.ensures.value)
-    (MayRun-any turn (carried_left own.at own.carried.items own.ended own.ran) (carried_left 0 own.carried.items own.ended own.ran) own.own.jobs (length-any own.at 0 own.carried.items own.ended own.ran) may)
+    (HasItsJob-any turn (carried_left own.at own.carried.items own.ended own.ran) (carried_left 0 own.carried.items own.ended own.ran) own.own.jobs (length-any own.at 0 own.carried.items own.ended own.ran) may)
 
 pub pass-requires-clause-none : goal.pass-requires-clause-none
 pass-requires-clause-none g c =

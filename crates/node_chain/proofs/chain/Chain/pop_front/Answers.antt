@@ -30,7 +30,7 @@ invariant_of-self g c =
       subst (λ b. IsLinked b c.node-place.result.next (s.len - 1)) (sym c.part-node.ensures.block)
           (subst (λ f. IsLinked (parted s.free s.block) f (s.len - 1)) (sym first) done.linked),
       record {
-        ids = c.pop_front.ensures.ids ∙ ap (λ ns. drop 1 ns) c.self.invariant.1.ids ∙ sym (ap ids_of pairs ∙ ids_of-drop old);
+        ids = c.pop_front.ensures.items ∙ ap (λ ns. drop 1 ns) c.self.invariant.1.ids ∙ sym (ap ids_of pairs ∙ ids_of-drop old);
         fits = omega (arith, c.self.invariant.1.fits, c.pop_front.ensures.places, ap length c.part-node.ensures.block, done.size);
       },
     )

@@ -27,7 +27,7 @@ invariant_of-self g c =
       subst (λ b. IsLinked b c.join-self-inside.result (s.len + 1)) (sym c.join-self-inside.ensures.block)
           (subst (λ f. IsLinked (joined s.free 0 c.args.span s.block) f (s.len + 1)) (sym c.join-self-inside.ensures.unused) done.linked),
       record {
-        ids = c.push.ensures.ids ∙ ap (λ ns. ns ++ named s.free ∷ []) c.self.invariant.1.ids ∙ sym (ap ids_of pairs ∙ ids_of-push old (named s.free, c.args.span));
+        ids = c.push.ensures.items ∙ ap (λ ns. ns ++ named s.free ∷ []) c.self.invariant.1.ids ∙ sym (ap ids_of pairs ∙ ids_of-push old (named s.free, c.args.span));
         fits = omega (arith, c.self.invariant.1.fits, c.push.ensures.places, ap length c.join-self-inside.ensures.block, done.size);
       },
     )

@@ -3,7 +3,7 @@ use Rattle.std.proofs.lemmas.List.{drop-drop}
 use Rattle.node_chain.specs.Orders.{OrderParts}
 use Rattle.node_chain.proofs.order.Order.pop_front.Goals as goal
 
-pub returns-clause-ids : goal.returns-clause-ids
-returns-clause-ids c =
+pub returns-clause-items : goal.returns-clause-items
+returns-clause-items g c =
     let s = c.self.inside in
-    sym (drop-drop 1 s.head s.ids.items) ∙ ap (λ (o : OrderParts). drop 1 o.ids) c.self.view_is
+    sym (drop-drop 1 s.head s.row.items) ∙ ap (λ (o : OrderParts g.row.T.Denot). drop 1 o.items) c.self.view_is

@@ -1,5 +1,0 @@
-use Rattle.interval_row.proofs.chain_table.ChainTableSpareTable.with_room.Given as goal
-
--- the ledger is that of the blank
-abbrev pub ghosts-filled_table : goal.ghosts-filled_table
-ghosts-filled_table a = record { name = a.blank.name; parts = a.blank.parts }

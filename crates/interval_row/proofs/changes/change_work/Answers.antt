@@ -1,0 +1,83 @@
+use Rattle.std.proofs.Common.{◌≡◌, ◌+◌, ◌≤◌, ◌^◌, ◌∙◌, get_or, drop, ap, sym, subst, arith}
+use Rattle.std.proofs.lemmas.Option.{get_or_from_slice_get}
+use Rattle.slot_core.specs.declared.jobs.Span.{Span}
+use Rattle.spare_capacity.specs.Recurrence.{filled, first_spare, first_start, with_spare}
+use Rattle.spare_capacity.proofs.Steps.{no_row}
+use Rattle.interval_row.specs.Rows.{with_work_at}
+use Rattle.interval_row.specs.Works.{changed_by, MayChangeBy}
+use Rattle.interval_row.proofs.Places.{work-le, IsDueAt, IsDueAt-span_ending}
+use Rattle.interval_row.proofs.WalkBack.{place_of-ends_before, with_spare-changed, IsWithin, IsWithin-spare}
+use Rattle.interval_row.proofs.Works.{changed_by-le}
+use Rattle.interval_row.proofs.changes.change_work.Given.{Over}
+use Rattle.interval_row.proofs.changes.change_work.Goals as goal
+use Rattle.interval_row.proofs.changes.change_work.Goals.{After-find_hinted-place}
+
+pub find_hinted-place-requires-clause-within : goal.find_hinted-place-requires-clause-within
+find_hinted-place-requires-clause-within g c =
+    let rows = g.S.Store.spans c.args.store.now in
+    (IsDueAt-span_ending (first_start rows) rows c.args.deadline (λ (s : Span). MayChangeBy c.args.change s.work) c.requires.rows.consecutive c.requires.due).within
+
+-- the span that is due
+due : (g : Over) (c : After-find_hinted-place g) → IsDueAt c.args.deadline (λ (s : Span). MayChangeBy c.args.change s.work) (g.S.Store.spans c.args.store.now) c.find_hinted-place.result.index
+due g c =
+    let rows = g.S.Store.spans c.args.store.now in
+    subst (IsDueAt c.args.deadline (λ (s : Span). MayChangeBy c.args.change s.work) rows) (sym c.find_hinted-place.ensures.index) (IsDueAt-span_ending (first_start rows) rows c.args.deadline (λ (s : Span). MayChangeBy c.args.change s.work) c.requires.rows.consecutive c.requires.due)
+
+-- is the one that was found
+found : (g : Over) (c : After-find_hinted-place g) → c.find_hinted-place.result.row ≡ get_or (g.S.Store.spans c.args.store.now) c.find_hinted-place.result.index no_row
+found g c = sym (get_or_from_slice_get (g.S.Store.spans c.args.store.now) c.find_hinted-place.result.index c.find_hinted-place.result.row no_row c.find_hinted-place.ensures.row)
+
+-- may change so
+may : (g : Over) (c : After-find_hinted-place g) → MayChangeBy c.args.change c.find_hinted-place.result.row.work
+may g c = subst (λ (s : Span). MayChangeBy c.args.change s.work) (sym (found g c)) (due g c).holds
+
+-- and has a capacity and a work within bounds
+within : (g : Over) (c : After-find_hinted-place g) → IsWithin c.find_hinted-place.result.row.spare
+within g c =
+    let rows = g.S.Store.spans c.args.store.now in
+    subst (λ (s : Span). IsWithin s.spare) (sym (found g c)) (IsWithin-spare (first_start rows) rows c.find_hinted-place.result.index c.requires.rows.consecutive c.requires.rows.filled c.requires.rows.few (due g c).within)
+
+few : (g : Over) (c : After-find_hinted-place g) → c.find_hinted-place.result.row.work ≤ 2 ^ 40
+few g c =
+    let rows = g.S.Store.spans c.args.store.now in
+    omega (arith, work-le (first_start rows) rows c.find_hinted-place.result.index c.requires.rows.consecutive (due g c).within, ap (λ (s : Span). s.work) (found g c))
+
+pub changed-row-requires-clause-low : goal.changed-row-requires-clause-low
+changed-row-requires-clause-low g c = (within g (goal.at.changed-row-requires-clause-low g c).After-find_hinted-place).low
+
+pub changed-row-requires-clause-high : goal.changed-row-requires-clause-high
+changed-row-requires-clause-high g c = (within g (goal.at.changed-row-requires-clause-high g c).After-find_hinted-place).high
+
+pub changed-row-requires-clause-few : goal.changed-row-requires-clause-few
+changed-row-requires-clause-few g c = few g (goal.at.changed-row-requires-clause-few g c).After-find_hinted-place
+
+pub changed-row-requires-clause-change : goal.changed-row-requires-clause-change
+changed-row-requires-clause-change g c = may g (goal.at.changed-row-requires-clause-change g c).After-find_hinted-place
+
+pub set_work-requires-clause-few : goal.set_work-requires-clause-few
+set_work-requires-clause-few g c =
+    let after = (goal.at.set_work-requires-clause-few g c).After-find_hinted-place in
+    omega (arith, changed_by-le c.args.change c.find_hinted-place.result.row.work (few g after) (may g after), ap (λ (s : Span). s.work) c.changed-row.ensures)
+
+pub set_work-requires-clause-spare : goal.set_work-requires-clause-spare
+set_work-requires-clause-spare g c =
+    let after = (goal.at.set_work-requires-clause-spare g c).After-find_hinted-place in
+    let rows = g.S.Store.spans c.args.store.now in
+    let index = c.find_hinted-place.result.index in
+    let row = c.find_hinted-place.result.row in
+    let work : changed_by c.args.change row.work ≡ c.changed-row.result.work = sym (ap (λ (s : Span). s.work) c.changed-row.ensures) in
+    c.changed-row.ensures
+    ∙ with_spare-changed rows index c.args.change row c.requires.rows.filled (due g after).within (found g after) (may g after)
+    ∙ ap (λ n. with_spare (record row { work = n }) (first_spare (drop (index + 1) rows))) work
+
+pub returns-clause-spans : goal.returns-clause-spans
+returns-clause-spans g c =
+    let after = (goal.at.returns-clause-spans g c).After-find_hinted-place in
+    let rows = g.S.Store.spans c.args.store.now in
+    let index = c.find_hinted-place.result.index in
+    let work : c.changed-row.result.work ≡ changed_by c.args.change (get_or rows index no_row).work = ap (λ (s : Span). s.work) c.changed-row.ensures ∙ ap (λ (s : Span). changed_by c.args.change s.work) (found g after) in
+    c.set_work.ensures.spans ∙ ap filled (ap (λ n. with_work_at index n rows) work ∙ sym ((due g after).changed (changed_by c.args.change)))
+
+pub returns-clause-few_steps : goal.returns-clause-few_steps
+returns-clause-few_steps g c =
+    omega (arith, c.find_hinted-place.ensures.few_steps, c.find_hinted-place.ensures.index, c.set_work.ensures.few_steps, place_of-ends_before c.args.deadline (g.S.Store.spans c.args.store.now))

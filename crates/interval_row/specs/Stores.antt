@@ -1,0 +1,32 @@
+-- What a table keeps its spans in.
+use Rattle.std.specs.Prelude.{◌≡◌, ℕ, ◌≤◌, ◌^◌, List, length, map}
+use Rattle.slot_core.specs.declared.jobs.Span.{Span}
+use Rattle.spare_capacity.specs.Recurrence.{first_start, last_end}
+use Rattle.node_chain.specs.declared.chain.NodeId.{NodeId}
+use Rattle.node_chain.specs.Orders.{OrderParts}
+use Rattle.interval_row.specs.Rows.{AreRows}
+
+-- the spans of a chain without their ids
+abbrev pub spans_of : List (NodeId × Span) → List Span
+spans_of pairs = map (λ (p : NodeId × Span). p.1) pairs
+
+-- what contracts see of a plain list and of a table: the spans, and how many there is room for
+pub record Stored : Type 0 where
+  pub spans : List Span
+  pub room : ℕ
+
+-- no more spans than there is room for, at most 2 ^ 20, with a place reserved for each
+pub record FitRoom (row : OrderParts Span) (room : ℕ) : Type 0 where
+  pub few : length row.items ≤ room
+  pub small : room ≤ 2 ^ 20
+  pub fits : room ≤ row.places
+
+-- the spans of a table in a room of at most 2 ^ 20: rows, with their first start and their last end
+-- of at most 2 ^ 60
+pub record AreKept (spans : List Span) (room time end : ℕ) : Type 0 where
+  pub rows : AreRows spans
+  pub few : length spans ≤ room
+  pub small : room ≤ 2 ^ 20
+  pub starts : time ≡ first_start spans
+  pub ends : end ≡ last_end 0 spans
+  pub near : end ≤ 2 ^ 60

@@ -1,0 +1,81 @@
+//! A record in memory, which tells what is written.
+
+ghost use Rattle.std.specs.Prelude.{◌≡◌, [], None};
+ghost use Rattle.std.specs.Option.{option_map_or};
+ghost use Rattle.slot_io.specs.Sinks.{SinkInMemory};
+
+use live_run::RecordFile;
+use slot_core::Failed;
+use slot_io::{MemorySink, Sink};
+use std::alloc::Global;
+
+/// A record in memory, once it is made, with room for so many bytes.
+#[derive(Drop)]
+pub struct MemoryRecord {
+    alloc: Global,
+    room: usize,
+    rows: Option<MemorySink>,
+    faults: u64,
+}
+
+impl MemoryRecord {
+    /// No record yet.
+    pub fn with_room(alloc: Global, room: usize) -> MemoryRecord
+        ensures none { result.rows ≡ None }
+        ensures faults { result.faults ≡ 0 }
+    {
+        MemoryRecord {
+            alloc,
+            room,
+            rows: None,
+            faults: 0,
+        }
+    }
+
+    /// The bytes that are written, none where it was not made.
+    pub fn bytes(&self) -> &[u8]
+        ensures { result.now ≡ option_map_or (λ (s : SinkInMemory). s.written) self.now.rows [] }
+    {
+        match &self.rows {
+            Some(rows) => rows.bytes(),
+            None => b"",
+        }
+    }
+}
+
+impl Sink for MemoryRecord {
+    ghost use Rattle.std.specs.Prelude.{option_map};
+    ghost use Rattle.slot_io.specs.Sinks.{SinkInMemory};
+
+    ghost written = { λ r. option_map (λ (s : SinkInMemory). s.written) r.rows };
+
+    ghost faults = { λ r. r.faults };
+
+    fn put(&mut self, bytes: &[u8]) -> Result<(), Failed> {
+        match &mut self.rows {
+            Some(rows) => match rows.put(bytes) {
+                Ok(()) => Ok(()),
+                Err(Failed) => {
+                    self.faults = self.faults.saturating_add(1);
+                    Err(Failed)
+                }
+            },
+            None => Ok(()),
+        }
+    }
+}
+
+impl RecordFile for MemoryRecord {
+    fn make(&mut self, _name: &str) -> Result<(), Failed> {
+        match MemorySink::with_room(self.alloc, self.room) {
+            Ok(rows) => {
+                self.rows = Some(rows);
+                Ok(())
+            }
+            Err(_) => {
+                self.faults = self.faults.saturating_add(1);
+                Err(Failed)
+            }
+        }
+    }
+}

@@ -1,0 +1,3 @@
+pub mod ExplainedRows
+pub mod Explanations
+pub mod TraceLines

@@ -1,0 +1,20 @@
+use Rattle.std.proofs.Common.{rules}
+use Rattle.table_codec.proofs.source.read_graph.Goals as goal
+
+pub returns-in_err-name : goal.returns-in_err-name
+returns-in_err-name c = search rules
+
+pub returns-in_err-period : goal.returns-in_err-period
+returns-in_err-period c = search rules
+
+pub returns-in_err-offset : goal.returns-in_err-offset
+returns-in_err-offset c = search rules
+
+pub returns-in_err-deadline : goal.returns-in_err-deadline
+returns-in_err-deadline c = search rules
+
+pub returns-in_err-count : goal.returns-in_err-count
+returns-in_err-count c = search rules
+
+pub returns-in_err-tasks : goal.returns-in_err-tasks
+returns-in_err-tasks c = search rules
