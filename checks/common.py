@@ -174,7 +174,7 @@ def commands(runner):
 def front(words, whole):
     """What a command writes before it takes the memory for the rest, or None where it takes all first."""
     lines = whole.out.splitlines(keepends=True)
-    if words[0] in ("explain", "jobs", "events", "spans"):
+    if words[0] == "explain":
         return lines[0] if lines else b""
     if words[0] == "switch":
         granted = [n for n, line in enumerate(lines) if line.endswith(b" switch granted\n")]

@@ -62,7 +62,8 @@ pub record AreEnds (jobs gone : List Job) (cycle : ℕ) (ends : Ends) : Type 0 w
   pub blocks : HasBlocks ends (2 * cycle)
   pub sums :
       (b : ℕ) → b ≤ 2 * cycle
-      → slice_index ends.sums.items b ≡ ending_by first_end jobs b + ending_by (next_end cycle) jobs b
+      → slice_index ends.sums.items b
+      ≡ ending_by first_end jobs b + ending_by (next_end cycle) jobs b
   pub passed : (b : ℕ) → b ≤ 2 * cycle → passed_by ends b ≡ ending_by first_end gone b
 
 -- what is due by each end can be read: there is no more passed than there is, and sums of it are

@@ -1,6 +1,6 @@
 -- What capacities decide where no sporadic task may come.
 use Rattle.std.proofs.Common.{◌≡◌, ℕ, ◌+◌, ◌-◌, ◌<◌, ◌≤◌, ℤ, pos, ◌+ℤ◌, ◌≤ℤ◌, Bool, true, false, List, [], ◌∷◌, length, Option, Some, None, refl, sym, ap, ◌∙◌, subst, inl, inr, arith}
-use Rattle.std.specs.Prelude.{find, not, Err, Ok, OnOk, Result}
+use Rattle.std.specs.Prelude.{find, min, not, Err, Ok, OnOk, Result}
 use Rattle.std.specs.Int.{int_min}
 use Rattle.std.specs.Option.{is_none, option_map}
 use Rattle.std.specs.List.{list_all, range_with_len}
@@ -16,8 +16,9 @@ use Rattle.spare_capacity.proofs.Slack.{slack, free-least, free-start, IsLeastFr
 use Rattle.spare_capacity.specs.Laws.{work_until}
 use Rattle.spare_capacity.specs.PlanSpans.{AreProper}
 use Rattle.sporadic_reserve.specs.Reserves.{Reserved}
-use Rattle.guarantee.specs.Offers.{evidence_at, first_short, is_short, need_until, soft_fits}
-use Rattle.guarantee.specs.declared.SoftRoom.TheVariants.{Short}
+use Rattle.guarantee.specs.Offers.{evidence_at, first_short, is_short, need_until, soft_fits, LeavesFree}
+use Rattle.guarantee.specs.declared.SoftRoom.TheVariants.{Free, Short}
+use Rattle.guarantee.specs.Stretches.{MostFrom}
 use Rattle.guarantee.proofs.Searches.{fails-from_none, find-none, find-passes}
 
 -- without sporadic tasks a time is short exactly where the slack is below the slots
@@ -131,6 +132,33 @@ IsTold-short spans reserve t spo until due e told is same =
     let here : e.until ≡ until = cc same in
     let work : e.need - 1 - spo ≡ due = cc same in
     subst (λ u. (first_short spans reserve t (t + 1) 1 (t + 1) ≡ Some u) × (t < u) × (u ≤ last_end t spans) × (due ≡ work_until spans u)) here (told.first, told.after, told.within, omega (arith, told.need))
+
+-- the free slots that are told: no greater number leaves free where something is needed by the last
+-- end, and all are free where nothing is
+pub free-greatest : (spans : List Span) (reserve : Reserved) (t now told left free more : ℕ) → now ≡ t → MostFrom spans reserve t (now + 1) 1 (min told (last_end t spans - t - 1)) left (now + 1) → last_end t spans ≤ told → t < last_end t spans → Free (left + 1) ≡ Free free → 1 ≤ need_until spans reserve (t + 1) (last_end t spans) → LeavesFree spans reserve t more → more ≤ free
+free-greatest spans reserve t now told left free more is greatest small after same needed leaves =
+    let here : left + 1 ≡ free = cc same in
+    let last = leaves (last_end t spans) after (omega arith) needed in
+    let most = rw is at greatest in
+    elim (cases_lt 0 more) [
+      | inl some ↦
+          let fewer = most (more - 1) (omega arith) (record {
+            at = λ x low high need.
+                let room = leaves x (omega arith) (omega arith) need in
+                omega arith;
+          }) in
+          omega arith
+      | inr none ↦ omega arith
+    ]
+
+pub free-all : (spans : List Span) (reserve : Reserved) (t now told left free : ℕ) → now ≡ t → MostFrom spans reserve t (now + 1) 1 (min told (last_end t spans - t - 1)) left (now + 1) → left ≤ min told (last_end t spans - t - 1) → last_end t spans ≤ told → t < last_end t spans → Free (left + 1) ≡ Free free → ((x : ℕ) → t < x → x ≤ last_end t spans → need_until spans reserve (t + 1) x ≡ 0) → free ≡ last_end t spans - t
+free-all spans reserve t now told left free is greatest fewer small after same nothing =
+    let here : left + 1 ≡ free = cc same in
+    let most = rw is at greatest in
+    let all = most (last_end t spans - t - 1) (omega arith) (record {
+      at = λ x low high need. let none = nothing x (omega arith) (omega arith) in absurd (omega arith);
+    }) in
+    omega arith
 
 -- what holds where there is an answer
 pub OnOk-map : {X E : Type 0} (r : Result X E) (P Q : Type 0) → OnOk r P → (P → Q) → OnOk r Q

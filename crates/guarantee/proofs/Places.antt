@@ -1,5 +1,5 @@
 -- Spans by their places: where each starts, and the works before it.
-use Rattle.std.proofs.Common.{◌≡◌, ℕ, zero, suc, ◌+◌, ◌-◌, ◌*◌, ◌^◌, ◌<◌, ◌≤◌, pos, ◌+ℤ◌, ◌-ℤ◌, ◌≤ℤ◌, cond, List, [], ◌∷◌, take, Some, refl, sym, ap, ◌∙◌, subst, inl, inr, arith}
+use Rattle.std.proofs.Common.{◌≡◌, ℕ, zero, suc, ◌+◌, ◌-◌, ◌*◌, ◌^◌, ◌<◌, ◌≤◌, pos, ◌+ℤ◌, ◌-ℤ◌, ◌≤ℤ◌, cond, List, [], ◌∷◌, length, take, Some, refl, sym, ap, ◌∙◌, subst, inl, inr, arith}
 use Rattle.std.specs.Prelude.{nat_lt, slice_get}
 use Rattle.std.specs.Int.{int_min}
 use Rattle.std.proofs.lemmas.Bool.{cases_lt, le-ltb, lt-ltb}
@@ -12,7 +12,7 @@ use Rattle.spare_capacity.specs.Laws.{work_until}
 use Rattle.spare_capacity.proofs.Free.{free, free-ended, rest-filled, spare-filled}
 use Rattle.spare_capacity.proofs.Slack.{free-least, free-start, last_end-above, slack-ended, work_until-ended, work_until-running, work_until-before, IsLeastFrom}
 use Rattle.interval_row.specs.Changes.{ends_before}
-use Rattle.guarantee.specs.Places.{works}
+use Rattle.interval_row.specs.Tables.{works}
 
 -- a span starts where the one before it ends
 pub start-at : (t i : ℕ) (spans : List Span) (s : Span) → FollowOn t spans → slice_get spans i ≡ Some s → s.start ≡ last_end t (take i spans)
@@ -72,6 +72,17 @@ Stands-at t (suc i) (r ∷ spans) s follow at =
       work = rest.work;
       within = rest.within;
     }
+
+-- a span ends before those after it start
+pub end-before : (t i j : ℕ) (spans : List Span) (s later : Span) → FollowOn t spans → i < j → slice_get spans i ≡ Some s → slice_get spans j ≡ Some later → s.end ≤ later.start
+end-before t i j [] s later follow lt at there = absurd (cc at)
+end-before t i zero (r ∷ spans) s later follow lt at there = absurd (omega arith)
+end-before t zero (suc j) (r ∷ spans) s later follow lt at there =
+    let same : r ≡ s = cc at in
+    let end : r.end ≡ s.end = ap (λ (q : Span). q.end) same in
+    omega (arith, (Stands-at r.end j spans later follow.4 there).after)
+end-before t (suc i) (suc j) (r ∷ spans) s later follow lt at there =
+    end-before r.end i j spans s later follow.4 (omega arith) at there
 
 -- within a span the works before it are due
 pub work_until-inside : (t i : ℕ) (spans : List Span) (s : Span) (x : ℕ) → FollowOn t spans → slice_get spans i ≡ Some s → s.start ≤ x → x < s.end → work_until spans x ≡ works (take i spans)
@@ -143,6 +154,35 @@ ends_before-none t x (s ∷ ss) early follow =
     sum_by-cons (λ (q : Span). cond (nat_lt q.end x) 1 0) s ss
     ∙ ap (λ b. cond b 1 0 + ends_before x ss) (le-ltb s.end x late)
     ∙ omega (arith, ends_before-none s.end x ss late follow.4)
+
+-- some span does not end before a time up to the last end
+pub ends_before-within : (t x : ℕ) (spans : List Span) → FollowOn t spans → t < x → x ≤ last_end t spans → ends_before x spans < length spans
+ends_before-within t x [] follow later within = absurd (omega arith)
+ends_before-within t x (s ∷ ss) follow later within =
+    let step = sum_by-cons (λ (q : Span). cond (nat_lt q.end x) 1 0) s ss in
+    elim (cases_lt s.end x) [
+      | inl early ↦
+          omega (arith, step ∙ ap (λ b. cond b 1 0 + ends_before x ss) (lt-ltb s.end x early), ends_before-within s.end x ss follow.4 early within)
+      | inr late ↦
+          omega (arith, step ∙ ap (λ b. cond b 1 0 + ends_before x ss) (le-ltb s.end x late), ends_before-none s.end x ss late follow.4)
+    ]
+
+-- after no more spans than end before a time, a span starts before it
+pub start-before : (t i x : ℕ) (spans : List Span) (s : Span) → FollowOn t spans → slice_get spans i ≡ Some s → t < x → i ≤ ends_before x spans → s.start < x
+start-before t i x [] s follow at later few = absurd (cc at)
+start-before t zero x (r ∷ spans) s follow at later few =
+    let same : r ≡ s = cc at in
+    let start : r.start ≡ s.start = ap (λ (q : Span). q.start) same in
+    omega (arith, follow.0)
+start-before t (suc i) x (r ∷ spans) s follow at later few =
+    let step = sum_by-cons (λ (q : Span). cond (nat_lt q.end x) 1 0) r spans in
+    elim (cases_lt r.end x) [
+      | inl early ↦
+          let fewer : i ≤ ends_before x spans = omega (arith, few, step ∙ ap (λ b. cond b 1 0 + ends_before x spans) (lt-ltb r.end x early)) in
+          start-before r.end i x spans s follow.4 at early fewer
+      | inr late ↦
+          absurd (omega (arith, few, step ∙ ap (λ b. cond b 1 0 + ends_before x spans) (le-ltb r.end x late), ends_before-none r.end x spans late follow.4))
+    ]
 
 -- before the span in which x is, or which ends there, as many spans end before x
 pub ends_before-at : (t i x : ℕ) (spans : List Span) (s : Span) → FollowOn t spans → slice_get spans i ≡ Some s → s.start < x → x ≤ s.end → ends_before x spans ≡ i

@@ -1,5 +1,5 @@
 -- The search in a stretch in which the same work is due.
-use Rattle.std.proofs.Common.{◌≡◌, ℕ, ◌+◌, ◌-◌, ◌^◌, ◌<◌, ◌≤◌, pos, ◌+ℤ◌, ◌<ℤ◌, max, true, false, List, [], take, Option, Some, None, refl, sym, ap, ◌∙◌, inl, inr, arith}
+use Rattle.std.proofs.Common.{◌≡◌, ℕ, ◌+◌, ◌-◌, ◌^◌, ◌<◌, ◌≤◌, pos, ◌+ℤ◌, ◌≤ℤ◌, ◌<ℤ◌, max, true, false, List, [], take, Option, Some, None, refl, sym, ap, ◌∙◌, inl, inr, arith}
 use Rattle.std.specs.Prelude.{find, nat_lt, slice_get, Err, IfOk, MatchOption, Ok, Result}
 use Rattle.std.specs.Option.{option_map, option_or}
 use Rattle.std.specs.List.{range_with_len}
@@ -11,12 +11,12 @@ use Rattle.slot_core.specs.Feasibility.Sporadics.{sporadic_demand}
 use Rattle.slot_facts.proofs.Sets.Faults.{option_map-None}
 use Rattle.spare_capacity.specs.Recurrence.{filled, last_end, FollowOn}
 use Rattle.spare_capacity.specs.Laws.{work_until}
+use Rattle.interval_row.specs.Tables.{works}
 use Rattle.sporadic_reserve.specs.Reserves.{demand_limit, Reserved, IsNextRise}
 use Rattle.guarantee.specs.Offers.{evidence_at, first_short, is_short, need_until}
 use Rattle.guarantee.specs.declared.search.Level.{Level}
 use Rattle.guarantee.specs.declared.search.Ask.{Ask}
-use Rattle.guarantee.specs.Stretches.{exceeds, evidence_of, IsLevelFrom, Leaves, LeavesBetween}
-use Rattle.guarantee.specs.Places.{works}
+use Rattle.guarantee.specs.Stretches.{exceeds, evidence_of, IsLevelFrom, Leaves, LeavesAll, LeavesBetween, MostBetween, MostFrom}
 use Rattle.guarantee.proofs.Places.{least-at, Stands-at, work_until-all, work_until-inside}
 use Rattle.guarantee.proofs.Searches.{fails-from_none, find-here, find-none, find-skip, search-parts, search-same}
 
@@ -81,6 +81,10 @@ pub Leaves-join : (need : ℕ → ℕ) (t slots left a b c : ℕ) → Leaves nee
 Leaves-join need t slots left a b c first later =
     record { at = λ x from to some. elim (cases_lt x b) [ inl low ↦ first.at x from low some | inr high ↦ later.at x high to some ] }
 
+-- what is left at all times is left at those by which something is needed
+pub Leaves-all : (need : ℕ → ℕ) (t slots left a b : ℕ) → LeavesAll need t slots left a b → Leaves need t slots left a b
+Leaves-all need t slots left a b all = record { at = λ x low high some. all.at x low high }
+
 -- while a level holds, as much is left as at its start
 pub Leaves-level : (reserve : Reserved) (ask : Ask) (due left at until : ℕ) (level : Level) → ask.now ≤ at → until ≤ level.until → IsLevelFrom reserve ask.arrivals at level → (1 ≤ due + level.demand → left + (ask.slots + due + level.demand) ≤ at - ask.now) → LeavesBetween reserve ask due left at until
 Leaves-level reserve ask due left at until level after holds is leaves =
@@ -90,6 +94,15 @@ Leaves-level reserve ask due left at until level after holds is leaves =
           let most = leaves (omega arith) in
           omega arith;
     }
+
+-- no more is left while a level holds than at its start
+pub Most-level : (reserve : Reserved) (ask : Ask) (due old left from at until : ℕ) (level : Level) → from ≤ at → at < until → at < level.until → IsLevelFrom reserve ask.arrivals at level → ((more : ℕ) → more ≤ old → (1 ≤ due + level.demand → more + (ask.slots + due + level.demand) ≤ at - ask.now) → more ≤ left) → MostBetween reserve ask due old left from until
+Most-level reserve ask due old left from at until level low high holds is greatest =
+    λ more few leaves.
+    greatest more few (λ some.
+    let here : demand reserve ask.arrivals at ≡ level.demand = is.flat at (omega arith) holds in
+    let most = leaves.at at low high (omega arith) in
+    omega arith)
 
 -- a level stays one from a later time on
 pub IsLevelFrom-later : (reserve : Reserved) (r from later : ℕ) (level : Level) → from ≤ later → IsLevelFrom reserve r from level → IsLevelFrom reserve r later level
@@ -175,6 +188,22 @@ Looks-leaves spans reserve ask t due left first until looks leaves =
           omega (arith, looks.time);
     }
 
+-- and no more is left of the spans than where it looks
+pub Looks-most : (spans : List Span) (reserve : Reserved) (ask : Ask) (t due most old left from first until : ℕ) → Looks spans t ask.slots ask.now (ask.slots + due) first until → from ≤ first → MostFrom spans reserve t ask.arrivals ask.slots most old from → MostBetween reserve ask due old left first until → MostFrom spans reserve t ask.arrivals ask.slots most left from
+Looks-most spans reserve ask t due most old left from first until looks low before between =
+    λ more few leaves.
+    between more (before more few leaves) (record {
+      at = λ x from_there high some.
+          let is = looks.due x from_there high in
+          let room = leaves.at x (omega arith) (omega (arith, looks.within)) (omega arith) in
+          omega (arith, looks.time);
+    })
+
+pub most-end : (spans : List Span) (reserve : Reserved) (ask : Ask) (t due most old from first until : ℕ) (result : Result ℕ Evidence) → Looks spans t ask.slots ask.now (ask.slots + due) first until → from ≤ first → MostFrom spans reserve t ask.arrivals ask.slots most old from → IfOk result (λ left. MostBetween reserve ask due old left first until) → IfOk result (λ left. MostFrom spans reserve t ask.arrivals ask.slots most left from)
+most-end spans reserve ask t due most old from first until (Err e) looks low before between = tt
+most-end spans reserve ask t due most old from first until (Ok left) looks low before between =
+    Looks-most spans reserve ask t due most old left from first until looks low before between
+
 -- and where it looks up to the last end, it is all
 pub leaves-end : (spans : List Span) (reserve : Reserved) (ask : Ask) (t due least from first until : ℕ) (result : Result ℕ Evidence) → Looks spans t ask.slots ask.now (ask.slots + due) first until → until ≡ last_end t spans + 1 → Leaves (need_until spans reserve ask.arrivals) t ask.slots least from first → IfOk result (λ left. LeavesBetween reserve ask due left first until) → IfOk result (λ left. left ≤ least) → IfOk result (λ left. Leaves (need_until spans reserve ask.arrivals) t ask.slots left from (last_end t spans + 1))
 leaves-end spans reserve ask t due least from first until (Err e) looks all before leaves fewer = tt
@@ -184,6 +213,13 @@ leaves-end spans reserve ask t due least from first until (Ok left) looks all be
     Leaves-join need t ask.slots left from first (last_end t spans + 1)
     (Leaves-part need t ask.slots least left from first from first fewer (omega arith) (omega arith) before)
     (Leaves-part need t ask.slots left left first until first (last_end t spans + 1) (omega arith) (omega arith) (omega arith) rest)
+
+-- where some slots are left at all times, none of them is short
+pub LeavesAll-later : (spans : List Span) (reserve : Reserved) (t r slots left from to : ℕ) → from ≤ to → LeavesAll (need_until spans reserve r) t slots left from to → first_short spans reserve t r slots from ≡ first_short spans reserve t r slots to
+LeavesAll-later spans reserve t r slots left from to le all =
+    find-skip (is_short spans reserve t r slots) from to (last_end t spans + 1) le (λ x low high.
+    let most = all.at x low high in
+    le-ltb (x - t) (slots + need_until spans reserve r x) (omega (arith, most)))
 
 -- it looks at the times of a span
 pub Looks-inside : (spans : List Span) (t slots now needed first i : ℕ) (s : Span) → FollowOn t spans → slice_get spans i ≡ Some s → now ≡ t → needed ≡ slots + works (take i spans) → s.start ≤ first → Looks spans t slots now needed first s.end
@@ -204,7 +240,7 @@ Looks-end spans t slots now needed first until follow time due low all =
     }
 
 -- where a span covers what is needed and may come, no time from its end on is short
-pub covered : (spans : List Span) (reserve : Reserved) (t r slots now needed later most left i : ℕ) (s : Span) → FollowOn t spans → spans ≡ filled spans → slice_get spans i ≡ Some s → now ≡ t → needed ≡ slots + works (take i spans) → s.end ≤ later → ((z : ℕ) → z ≤ last_end t spans → demand reserve r z ≤ most) → pos (needed + most + left) ≡ pos (s.start - now) +ℤ s.spare → first_short spans reserve t r slots later ≡ None
+pub covered : (spans : List Span) (reserve : Reserved) (t r slots now needed later most left i : ℕ) (s : Span) → FollowOn t spans → spans ≡ filled spans → slice_get spans i ≡ Some s → now ≡ t → needed ≡ slots + works (take i spans) → s.end ≤ later → ((z : ℕ) → z ≤ last_end t spans → demand reserve r z ≤ most) → pos (needed + most + left) ≤ℤ (pos (s.start - now) +ℤ s.spare) → first_short spans reserve t r slots later ≡ None
 covered spans reserve t r slots now needed later most left i s follow full at time due low may_come covers =
     let least = least-at t i spans s follow full at in
     find-none (is_short spans reserve t r slots) later (last_end t spans + 1) (λ x from to.
@@ -212,7 +248,7 @@ covered spans reserve t r slots now needed later most left i s follow full at ti
     le-ltb (x - t) (slots + need_until spans reserve r x) (omega (arith, ints, may_come x (omega arith))))
 
 -- and as much is left there
-pub covered-leaves : (spans : List Span) (reserve : Reserved) (t r slots now needed most left i : ℕ) (s : Span) → FollowOn t spans → spans ≡ filled spans → slice_get spans i ≡ Some s → now ≡ t → needed ≡ slots + works (take i spans) → ((z : ℕ) → z ≤ last_end t spans → demand reserve r z ≤ most) → pos (needed + most + left) ≡ pos (s.start - now) +ℤ s.spare → Leaves (need_until spans reserve r) t slots left s.end (last_end t spans + 1)
+pub covered-leaves : (spans : List Span) (reserve : Reserved) (t r slots now needed most left i : ℕ) (s : Span) → FollowOn t spans → spans ≡ filled spans → slice_get spans i ≡ Some s → now ≡ t → needed ≡ slots + works (take i spans) → ((z : ℕ) → z ≤ last_end t spans → demand reserve r z ≤ most) → pos (needed + most + left) ≤ℤ (pos (s.start - now) +ℤ s.spare) → Leaves (need_until spans reserve r) t slots left s.end (last_end t spans + 1)
 covered-leaves spans reserve t r slots now needed most left i s follow full at time due may_come covers =
     let least = least-at t i spans s follow full at in
     record {

@@ -1,18 +1,20 @@
 -- The search span by span where no sporadic task may need anything.
-use Rattle.std.proofs.Common.{◌≡◌, ℕ, zero, suc, ◌+◌, ◌-◌, ◌<◌, ◌≤◌, List, [], ◌∷◌, take, Some, None, sym, ap, subst, inl, inr, arith}
-use Rattle.std.specs.Prelude.{slice_get}
+use Rattle.std.proofs.Common.{◌≡◌, ℕ, zero, suc, ◌+◌, ◌-◌, ◌<◌, ◌≤◌, List, [], ◌∷◌, take, Option, Some, None, sym, ap, subst, inl, inr, arith}
+use Rattle.std.specs.Prelude.{slice_get, IfSome}
 use Rattle.std.specs.Option.{option_map}
 use Rattle.std.proofs.lemmas.Bool.{cases_lt, le-ltb}
 use Rattle.slot_core.specs.declared.jobs.Span.{Span}
 use Rattle.spare_capacity.specs.PlanSpans.{AreProper}
 use Rattle.spare_capacity.specs.Recurrence.{last_end, FollowOn}
+use Rattle.interval_row.specs.Tables.{works}
 use Rattle.sporadic_reserve.specs.Reserves.{Reserved}
 use Rattle.guarantee.specs.declared.search.Level.{Level}
+use Rattle.guarantee.specs.declared.walk.SpanPlace.{SpanPlace}
 use Rattle.guarantee.specs.Offers.{evidence_at, first_short, is_short, need_until}
-use Rattle.guarantee.specs.Places.{works}
-use Rattle.guarantee.specs.Stretches.{evidence_of, IsLevelFrom, NeedsNone}
+use Rattle.guarantee.specs.Places.{MayPass}
+use Rattle.guarantee.specs.Stretches.{evidence_of, IsLevelFrom, LeavesAll, NeedsNone}
 use Rattle.guarantee.proofs.Places.{Stands-at, work_until-all}
-use Rattle.guarantee.proofs.Searches.{find-none}
+use Rattle.guarantee.proofs.Searches.{find-none, find-skip}
 use Rattle.guarantee.proofs.Segments.{demand, found-here, found-level, Looks-end, Looks-found, Looks-inside, Looks-later}
 
 -- each span of proper ones has a length
@@ -46,6 +48,14 @@ start-fits spans reserve t r slots now need i s follow at quiet time due fits =
     Looks-later spans reserve t r slots now need s.start s.end s.end looks (omega (arith, stands.rising))
     (sym (ap (option_map (evidence_of reserve now r need)) none))
 
+-- a search goes on after times that may be passed, where what is asked has in it what may come
+pub passed : (spans : List Span) (reserve : Reserved) (t r slots most asked until from to : ℕ) → asked ≡ t + slots + most → ((x : ℕ) → x < until → demand reserve r x ≤ most) → from ≤ to → MayPass spans asked until from to → first_short spans reserve t r slots from ≡ first_short spans reserve t r slots to
+passed spans reserve t r slots most asked until from to is may_come le may =
+    find-skip (is_short spans reserve t r slots) from to (last_end t spans + 1) le (λ x low high.
+    let room = may.room x low high in
+    let few = may_come x (may.before x low high) in
+    le-ltb (x - t) (slots + need_until spans reserve r x) (omega (arith, is, room, few)))
+
 -- where some time from the last end on is short, the last end is
 pub end-short : (spans : List Span) (reserve : Reserved) (t r slots now need room until : ℕ) → FollowOn t spans → NeedsNone reserve r (last_end t spans) → now ≡ t → until ≡ last_end t spans → need ≡ slots + works spans → room ≡ until - now → (first_short spans reserve t r slots until ≡ None → ⊥) → Some (record { until = until; need = need; room = room }) ≡ option_map (evidence_at spans reserve t r slots) (first_short spans reserve t r slots until)
 end-short spans reserve t r slots now need room until follow quiet time last due there missed =
@@ -60,3 +70,14 @@ end-short spans reserve t r slots now need room until follow quiet time last due
           let work = work_until-all t spans x follow (omega arith) in
           le-ltb (x - t) (slots + need_until spans reserve r x) (omega (arith, work, quiet x (omega arith))))))
     ]
+
+-- times that may be passed leave what was asked for beside what may come
+pub LeavesAll-passed : (spans : List Span) (reserve : Reserved) (t r slots left most asked until from : ℕ) (later : Option SpanPlace) → asked ≡ t + slots + left + most → ((x : ℕ) → x < until → demand reserve r x ≤ most) → IfSome later (λ l. MayPass spans asked until from l.span.start) → IfSome later (λ l. LeavesAll (need_until spans reserve r) t slots left from l.span.start)
+LeavesAll-passed spans reserve t r slots left most asked until from None is may_come may = tt
+LeavesAll-passed spans reserve t r slots left most asked until from (Some later) is may_come may =
+    record {
+      at = λ x low high.
+          let room = may.room x low high in
+          let few = may_come x (may.before x low high) in
+          omega (arith, is, room, few);
+    }

@@ -1,15 +1,18 @@
 -- Tables read span by span.
-use Rattle.std.proofs.Common.{◌≡◌, ℕ, suc, ◌+◌, ◌^◌, ◌≤◌, pos, ◌≤ℤ◌, List, [], ◌∷◌, length, take, Some, refl, sym, ap, ◌∙◌, arith}
-use Rattle.std.specs.Prelude.{slice_get}
+use Rattle.std.proofs.Common.{◌≡◌, ℕ, suc, ◌+◌, ◌^◌, ◌<◌, ◌≤◌, pos, ◌≤ℤ◌, List, [], ◌∷◌, length, take, Option, Some, None, refl, sym, ap, ◌∙◌, arith}
+use Rattle.std.specs.Prelude.{slice_get, IfSome, MatchOption}
 use Rattle.std.proofs.lemmas.List.{take_all}
 use Rattle.std.proofs.lemmas.Option.{slice_get_within}
 use Rattle.slot_core.specs.declared.jobs.Span.{Span}
+use Rattle.spare_capacity.specs.Laws.{work_until}
 use Rattle.spare_capacity.specs.Recurrence.{last_end, FollowOn}
+use Rattle.interval_row.specs.declared.table.Front.{Front}
 use Rattle.interval_row.specs.declared.table.Spot.{Spot}
-use Rattle.interval_row.specs.Tables.{span_at, spans_of_pairs, spot_at, IsTable}
+use Rattle.interval_row.specs.Changes.{ends_before}
+use Rattle.interval_row.specs.Tables.{span_at, spans_of_pairs, spot_at, works, IsFront, IsTable}
 use Rattle.guarantee.specs.declared.walk.SpanPlace.{SpanPlace}
-use Rattle.guarantee.specs.Places.{works, IsPlace}
-use Rattle.guarantee.proofs.Places.{end-after, spare-small, start-at, Stands, Stands-at, works-more, works-small}
+use Rattle.guarantee.specs.Places.{IsPlace, MayPass}
+use Rattle.guarantee.proofs.Places.{end-after, end-before, ends_before-within, spare-small, start-at, start-before, Stands, Stands-at, works-more, works-small}
 
 -- there are as many spans as pairs
 pub length-spans_of_pairs : (pairs : List (Spot × Span)) → length (spans_of_pairs pairs) ≡ length pairs
@@ -55,12 +58,6 @@ later-start t pairs place later follow is next more =
     ∙ ap (λ n. last_end t (take n spans)) more
     ∙ end-after t place.index spans place.span is.span
 
--- the first span starts at the time
-pub front-start : (t : ℕ) (pairs : List (Spot × Span)) (place : SpanPlace) → FollowOn t (spans_of_pairs pairs) → IsPlace pairs place → place.index ≡ 0 → place.span.start ≡ t
-front-start t pairs place follow is zero_index =
-    let spans = spans_of_pairs pairs in
-    start-at t place.index spans place.span follow is.span ∙ ap (λ n. last_end t (take n spans)) zero_index
-
 -- the last span ends at the last end, and its work makes up all works
 pub last-ends : (t : ℕ) (pairs : List (Spot × Span)) (place : SpanPlace) → IsPlace pairs place → place.index + 1 ≡ length pairs → place.span.end ≡ last_end t (spans_of_pairs pairs)
 last-ends t pairs place is last =
@@ -74,3 +71,49 @@ last-works pairs place is last =
     let all : length spans ≤ place.index + 1 = omega (arith, length-spans_of_pairs pairs) in
     let whole : works (take (place.index + 1) spans) ≡ works spans = ap works (take_all (place.index + 1) spans all) in
     omega (arith, is.due, works-more place.index spans place.span is.span)
+
+-- a place of a later index starts no earlier than this one ends
+pub later-after : (t : ℕ) (pairs : List (Spot × Span)) (place later : SpanPlace) → FollowOn t (spans_of_pairs pairs) → IsPlace pairs place → IsPlace pairs later → place.index < later.index → place.span.end ≤ later.span.start
+later-after t pairs place later follow is there more =
+    end-before t place.index later.index (spans_of_pairs pairs) place.span later.span follow more is.span there.span
+
+-- no more spans than end before a time up to the last end are not all, and the next starts before it
+pub near-within : (t x count : ℕ) (pairs : List (Spot × Span)) → FollowOn t (spans_of_pairs pairs) → t < x → x ≤ last_end t (spans_of_pairs pairs) → count ≤ ends_before x (spans_of_pairs pairs) → count < length pairs
+near-within t x count pairs follow after within few =
+    omega (arith, few, ends_before-within t x (spans_of_pairs pairs) follow after within, length-spans_of_pairs pairs)
+
+pub near-early : (t x count : ℕ) (pairs : List (Spot × Span)) (place : SpanPlace) → FollowOn t (spans_of_pairs pairs) → t < x → IsPlace pairs place → place.index ≡ count → count ≤ ends_before x (spans_of_pairs pairs) → place.span.start < x
+near-early t x count pairs place follow after is at few =
+    start-before t place.index x (spans_of_pairs pairs) place.span follow is.span after (omega arith)
+
+-- a place is after the spans before it
+pub IsFront-place : (pairs : List (Spot × Span)) (place : SpanPlace) (front : Front) → IsPlace pairs place → front ≡ record { count = place.index; works = place.due } → IsFront (spans_of_pairs pairs) front
+IsFront-place pairs place front is same =
+    rw same (record {
+      few = omega (arith, is.within, length-spans_of_pairs pairs);
+      works = is.due;
+    })
+
+-- up to the next span there is no time to pass
+pub MayPass-none : (t asked until : ℕ) (pairs : List (Spot × Span)) (place : SpanPlace) (later : Option SpanPlace) → FollowOn t (spans_of_pairs pairs) → IsPlace pairs place → MatchOption later (place.index + 1 ≡ length pairs) (λ l. l.index ≡ place.index + 1) → IfSome later (λ l. IsPlace pairs l) → IfSome later (λ l. MayPass (spans_of_pairs pairs) asked until place.span.end l.span.start)
+MayPass-none t asked until pairs place None follow is last there = tt
+MayPass-none t asked until pairs place (Some later) follow is last there =
+    let start = later-start t pairs place later follow is there last in
+    record {
+      before = λ x low high. absurd (omega arith);
+      room = λ x low high. absurd (omega arith);
+    }
+
+-- up to the start of a span that was passed to there is room
+pub MayPass-room : (t asked until : ℕ) (pairs : List (Spot × Span)) (place later : SpanPlace) → FollowOn t (spans_of_pairs pairs) → IsPlace pairs later → later.span.start < until → ((x : ℕ) → place.span.end ≤ x → x < later.span.end → asked + work_until (spans_of_pairs pairs) x ≤ x) → MayPass (spans_of_pairs pairs) asked until place.span.end later.span.start
+MayPass-room t asked until pairs place later follow there reached room =
+    let stands = Stands-at t later.index (spans_of_pairs pairs) later.span follow there.span in
+    record {
+      before = λ x low high. omega arith;
+      room = λ x low high. room x low (omega (arith, stands.rising));
+    }
+
+-- the next place is a later one
+pub later-more : (place : SpanPlace) (count : ℕ) (later : Option SpanPlace) → MatchOption later (place.index + 1 ≡ count) (λ l. l.index ≡ place.index + 1) → MatchOption later (place.index + 1 ≡ count) (λ l. place.index < l.index)
+later-more place count None is = is
+later-more place count (Some later) is = omega arith

@@ -1,13 +1,10 @@
 -- Places in a table of spans.
-use Rattle.std.specs.Prelude.{◌≡◌, ℕ, ◌<◌, List, length, take, Some, sum_by}
+use Rattle.std.specs.Prelude.{◌≡◌, ℕ, ◌+◌, ◌≤◌, ◌<◌, List, length, take, Some}
 use Rattle.slot_core.specs.declared.jobs.Span.{Span}
+use Rattle.spare_capacity.specs.Laws.{work_until}
 use Rattle.interval_row.specs.declared.table.Spot.{Spot}
-use Rattle.interval_row.specs.Tables.{span_at, spans_of_pairs, spot_at}
+use Rattle.interval_row.specs.Tables.{span_at, spans_of_pairs, spot_at, works}
 use Rattle.guarantee.specs.declared.walk.SpanPlace.{SpanPlace}
-
--- the works of spans
-abbrev pub works : List Span → ℕ
-works spans = sum_by (λ (s : Span). s.work) spans
 
 -- a place in a table: its spot and its span are those at its index, and the works of the spans
 -- before it are due
@@ -16,3 +13,9 @@ pub record IsPlace (pairs : List (Spot × Span)) (place : SpanPlace) : Type 0 wh
   pub spot : spot_at pairs place.index ≡ Some place.at
   pub span : span_at pairs place.index ≡ Some place.span
   pub due : place.due ≡ works (take place.index (spans_of_pairs pairs))
+
+-- the spans from one time to another may be passed: each time between is before `until`, and leaves
+-- room for what is asked, counted from slot 0 on
+pub record MayPass (spans : List Span) (asked until from to : ℕ) : Type 0 where
+  pub before : (x : ℕ) → from ≤ x → x < to → x < until
+  pub room : (x : ℕ) → from ≤ x → x < to → asked + work_until spans x ≤ x

@@ -1,5 +1,5 @@
 -- A stretch of times in which the same work is due.
-use Rattle.std.specs.Prelude.{◌≡◌, ℕ, ◌+◌, ◌-◌, ◌≤◌, ◌<◌, ◌^◌, Bool, List, nat_lt}
+use Rattle.std.specs.Prelude.{◌≡◌, ℕ, ◌+◌, ◌-◌, ◌≤◌, ◌<◌, Bool, List, nat_lt}
 use Rattle.slot_core.specs.declared.jobs.Evidence.{Evidence}
 use Rattle.slot_core.specs.declared.jobs.Span.{Span}
 use Rattle.slot_core.specs.Feasibility.Sporadics.{sporadic_demand}
@@ -39,6 +39,10 @@ pub record IsLevelFrom (reserve : Reserved) (r from : ℕ) (level : Level) : Typ
 pub record Leaves (need : ℕ → ℕ) (t slots left a b : ℕ) : Type 0 where
   pub at : (x : ℕ) → a ≤ x → x < b → 1 ≤ need x → left + slots + need x ≤ x - t
 
+-- at each time from a to before b so many slots are left beside what is needed and `slots` more
+pub record LeavesAll (need : ℕ → ℕ) (t slots left a b : ℕ) : Type 0 where
+  pub at : (x : ℕ) → a ≤ x → x < b → left + slots + need x ≤ x - t
+
 -- so many are left beside what is asked, where so much is due, and the densest arrivals
 abbrev pub LeavesBetween : Reserved → Ask → ℕ → ℕ → ℕ → ℕ → Type 0
 LeavesBetween reserve ask due left a b =
@@ -54,3 +58,13 @@ LeavesBetween reserve ask due left a b =
 abbrev pub LeavesFrom : List Span → Reserved → ℕ → ℕ → ℕ → ℕ → ℕ → Type 0
 LeavesFrom spans reserve t r slots left from =
     Leaves (need_until spans reserve r) t slots left from (last_end t spans + 1)
+
+-- of the numbers up to `most` that are left beside what is asked at those times, none is greater
+abbrev pub MostBetween : Reserved → Ask → ℕ → ℕ → ℕ → ℕ → ℕ → Type 0
+MostBetween reserve ask due most left a b =
+    (more : ℕ) → more ≤ most → LeavesBetween reserve ask due more a b → more ≤ left
+
+-- of the numbers up to `most` that are left from a time to the last end, none is greater
+abbrev pub MostFrom : List Span → Reserved → ℕ → ℕ → ℕ → ℕ → ℕ → ℕ → Type 0
+MostFrom spans reserve t r slots most left from =
+    (more : ℕ) → more ≤ most → LeavesFrom spans reserve t r slots more from → more ≤ left

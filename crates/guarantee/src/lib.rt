@@ -5,13 +5,13 @@
 //! sporadic tasks. They are handed no job. All times are in slots.
 #![tactic(auto)]
 
-ghost use Rattle.std.specs.Prelude.{◌≡◌, ℕ, Some, ◌+◌, ◌≤◌, ◌<◌, ◌^◌, ◌↔◌, [], length, pos, ◌≤ℤ◌, IsTrue};
+ghost use Rattle.std.specs.Prelude.{◌≡◌, ℕ, Some, ◌+◌, ◌-◌, ◌≤◌, ◌<◌, ◌^◌, ◌↔◌, [], length, pos, ◌≤ℤ◌, IsTrue};
 ghost use Rattle.slot_core.specs.declared.TheConstants.{OFFER_LIMIT};
 ghost use Rattle.spare_capacity.specs.Laws.{work_until};
 ghost use Rattle.spare_capacity.specs.Recurrence.{first_spare, last_end};
 ghost use Rattle.interval_row.specs.Changes.{ends_before};
 ghost use Rattle.interval_row.specs.Tables.{spans_of_pairs, IsTable};
-ghost use Rattle.guarantee.specs.Offers.{answer_to, first_short, lets_run, soft_fits, LeavesFree};
+ghost use Rattle.guarantee.specs.Offers.{answer_to, first_short, lets_run, need_until, soft_fits, LeavesFree};
 
 mod search;
 mod walk;
@@ -35,7 +35,8 @@ pub enum Answer {
 #[derive(Clone, Copy, PartialEq, Eq)]
 pub enum SoftRoom {
     /// Soft work may take the slot. Up to each later time by which something is needed, so many
-    /// slots are free, this one among them.
+    /// slots are free, this one among them, and no greater number is. Where nothing is needed, all
+    /// slots up to the last end are.
     Free(u64),
     /// It may not: with one slot more too much is needed up to a time.
     Short {
@@ -74,7 +75,7 @@ pub fn test<T: SpareTable, L: Ledger>(
         ≤ dl }
     ensures reads_once { steps.new ≤ steps.old + length (T.pairs table.now) }
 {
-    match first_short(table, reserve, table.time(), c, dl, steps) {
+    match first_short(table, reserve, table.time(), c, dl, 0, steps) {
         Ok(_left) => Answer::Accept,
         Err(evidence) => Answer::Refuse(evidence),
     }
@@ -125,6 +126,16 @@ pub fn soft_room<T: SpareTable, L: Ledger>(
         ≡ soft_fits (spans_of_pairs (T.pairs table.now)) reserve.now (T.time table.now) }
     ensures free { (free : ℕ) → result ≡ SoftRoom.Free free
         → LeavesFree (spans_of_pairs (T.pairs table.now)) reserve.now (T.time table.now) free }
+    ensures greatest { let spans = spans_of_pairs (T.pairs table.now) in
+        let t = T.time table.now in
+        (free more : ℕ) → result ≡ SoftRoom.Free free
+        → 1 ≤ need_until spans reserve.now (t + 1) (last_end t spans)
+        → LeavesFree spans reserve.now t more → more ≤ free }
+    ensures all_free { let spans = spans_of_pairs (T.pairs table.now) in
+        let t = T.time table.now in
+        (free : ℕ) → result ≡ SoftRoom.Free free
+        → ((x : ℕ) → t < x → x ≤ last_end t spans → need_until spans reserve.now (t + 1) x ≡ 0)
+        → free ≡ last_end t spans - t }
     ensures short { let spans = spans_of_pairs (T.pairs table.now) in
         let t = T.time table.now in
         (until due : ℕ) → result ≡ SoftRoom.Short until due
@@ -134,7 +145,7 @@ pub fn soft_room<T: SpareTable, L: Ledger>(
     ensures reads_once { steps.new ≤ steps.old + length (T.pairs table.now) }
 {
     let next = table.time() + 1;
-    match first_short(table, reserve, next, 1, next, steps) {
+    match first_short(table, reserve, next, 1, next, u64::MAX, steps) {
         Ok(left) => SoftRoom::Free(left + 1),
         Err(evidence) => {
             let demand = reserve.demand(next, evidence.until);

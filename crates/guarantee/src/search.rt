@@ -1,6 +1,6 @@
 //! The search for the first time that is too short.
 
-ghost use Rattle.std.specs.Prelude.{◌≡◌, [], None, Some, ◌+◌, ◌-◌, ◌≤◌, ◌<◌, ◌^◌, pos, ◌+ℤ◌, ◌≤ℤ◌, ◌<ℤ◌, IfOk, MatchOption, OnOk, find, length, max};
+ghost use Rattle.std.specs.Prelude.{◌≡◌, ℕ, [], None, Some, ◌+◌, ◌-◌, ◌≤◌, ◌<◌, ◌^◌, ◌↔◌, pos, ◌+ℤ◌, ◌≤ℤ◌, ◌<ℤ◌, IfOk, IfSome, IsTrue, MatchOption, OnOk, find, length, max, min};
 ghost use Rattle.std.specs.List.{range_with_len};
 ghost use Rattle.std.specs.Option.{option_map};
 ghost use Rattle.std.specs.Result.{result_err};
@@ -9,12 +9,12 @@ ghost use Rattle.spare_capacity.specs.Recurrence.{last_end};
 ghost use Rattle.interval_row.specs.Changes.{ends_before};
 ghost use Rattle.interval_row.specs.Tables.{spans_of_pairs, IsTable};
 ghost use Rattle.sporadic_reserve.specs.Reserves.{demand_limit, Reserved};
-ghost use Rattle.guarantee.specs.Offers.{evidence_at, first_short};
+ghost use Rattle.guarantee.specs.Offers.{evidence_at, first_short, need_until};
 ghost use Rattle.guarantee.specs.Places.{IsPlace};
-ghost use Rattle.guarantee.specs.Stretches.{exceeds, evidence_of, IsLevelFrom, LeavesBetween, LeavesFrom, NeedsNone};
+ghost use Rattle.guarantee.specs.Stretches.{exceeds, evidence_of, IsLevelFrom, LeavesAll, LeavesBetween, LeavesFrom, MostBetween, MostFrom, NeedsNone};
 
-use crate::walk::{SpanPlace, after, place_of};
-use interval_row::SpareTable;
+use crate::walk::{SpanPlace, after, later, place_of};
+use interval_row::{PAGE, SpareTable};
 use slot_core::{Evidence, Span, Steps};
 use sporadic_reserve::Reserve;
 use std::sync::ledger::Ledger;
@@ -47,7 +47,7 @@ struct Tried {
 /// arrivals of sporadic tasks from `arrivals` on. Each span is read once at most.
 ///
 /// Where no time is too short, Ok tells how many slots are left beside those at each such time by
-/// which something is needed.
+/// which something is needed: the greatest such number up to `told`, and up to all slots.
 #[inline(always)]
 pub(crate) fn first_short<T: SpareTable, L: Ledger>(
     table: &T,
@@ -55,12 +55,14 @@ pub(crate) fn first_short<T: SpareTable, L: Ledger>(
     arrivals: u64,
     slots: u32,
     from: u64,
+    told: u64,
     steps: &mut Steps<L>,
 ) -> Result<u64, Evidence>
     requires after { T.time table.now < from }
     requires within { from ≤ last_end (T.time table.now) (spans_of_pairs (T.pairs table.now)) }
     requires arrivals { arrivals < 2 ^ 41 }
     requires near { last_end (T.time table.now) (spans_of_pairs (T.pairs table.now)) < 2 ^ 41 }
+    requires some { 1 ≤ slots }
     requires few { slots ≤ OFFER_LIMIT }
     ensures first { let spans = spans_of_pairs (T.pairs table.now) in
         let t = T.time table.now in
@@ -68,10 +70,17 @@ pub(crate) fn first_short<T: SpareTable, L: Ledger>(
         (first_short spans reserve.now t arrivals slots from) }
     ensures left { IfOk result (λ left. LeavesFrom (spans_of_pairs (T.pairs table.now))
         reserve.now (T.time table.now) arrivals slots left from) }
+    ensures greatest { let spans = spans_of_pairs (T.pairs table.now) in
+        let t = T.time table.now in
+        IfOk result (λ left. MostFrom spans reserve.now t arrivals slots
+        (min told (last_end t spans - t - slots)) left from) }
     ensures small { IfOk result (λ left. left < 2 ^ 41) }
+    ensures told { IfOk result (λ left. left
+        ≤ min told (last_end (T.time table.now) (spans_of_pairs (T.pairs table.now))
+        - T.time table.now - slots)) }
     ensures steps { steps.old ≤ steps.new }
     ensures reads_once { steps.new ≤ steps.old + length (T.pairs table.now) }
-    ensures none_soon { reserve.now.sporadics ≡ [] → OnOk result (steps.new
+    ensures none_soon { told ≡ 0 → reserve.now.sporadics ≡ [] → OnOk result (steps.new
         ≤ steps.old + ends_before from (spans_of_pairs (T.pairs table.now)) + 1) }
     ensures places { ends_before from (spans_of_pairs (T.pairs table.now)) + 1 + T.time table.now
         ≤ from }
@@ -82,21 +91,23 @@ pub(crate) fn first_short<T: SpareTable, L: Ledger>(
         slots: u64::from(slots),
     };
     let place = place_of(table, from, steps);
-    first_short_on(table, reserve, ask, from, place, steps)
+    first_short_on(table, reserve, ask, from, told, place, steps)
 }
 
 /// The same, from the place of the first span that ends at `from` or later.
 ///
 /// Between two ends and without a rise of the sporadic demand nothing more is due, so only such
-/// times are tried. The search ends at a span whose capacity, with the slack before it, covers what
-/// may come up to the last end. Without sporadic tasks a span that does not cover what is due tells
-/// that some later time is short.
+/// times are tried, and pages whose times leave as much as those before are passed. The search ends
+/// at a span whose capacity, with the slack before it, covers what may come up to the last end and
+/// the least that is left so far: no later time leaves less.
+/// Without sporadic tasks a span that does not cover what is due tells that a later time is short.
 #[inline(always)]
 fn first_short_on<T: SpareTable, L: Ledger>(
     table: &T,
     reserve: &Reserve,
     ask: Ask,
     from: u64,
+    told: u64,
     place: SpanPlace,
     steps: &mut Steps<L>,
 ) -> Result<u64, Evidence>
@@ -107,6 +118,7 @@ fn first_short_on<T: SpareTable, L: Ledger>(
     requires now { ask.now ≡ T.time table.now }
     requires arrivals { ask.arrivals < 2 ^ 41 }
     requires near { last_end (T.time table.now) (spans_of_pairs (T.pairs table.now)) < 2 ^ 41 }
+    requires some { 1 ≤ ask.slots }
     requires few { ask.slots ≤ OFFER_LIMIT }
     ensures first { let spans = spans_of_pairs (T.pairs table.now) in
         let t = T.time table.now in
@@ -114,14 +126,22 @@ fn first_short_on<T: SpareTable, L: Ledger>(
         (first_short spans reserve.now t ask.arrivals ask.slots from) }
     ensures left { IfOk result (λ left. LeavesFrom (spans_of_pairs (T.pairs table.now))
         reserve.now (T.time table.now) ask.arrivals ask.slots left from) }
+    ensures greatest { let spans = spans_of_pairs (T.pairs table.now) in
+        let t = T.time table.now in
+        IfOk result (λ left. MostFrom spans reserve.now t ask.arrivals ask.slots
+        (min told (last_end t spans - t - ask.slots)) left from) }
     ensures small { IfOk result (λ left. left < 2 ^ 41) }
+    ensures told { IfOk result (λ left. left
+        ≤ min told (last_end (T.time table.now) (spans_of_pairs (T.pairs table.now))
+        - T.time table.now - ask.slots)) }
     ensures steps { steps.old ≤ steps.new }
     ensures reads_once { steps.new + place.index + 1 ≤ steps.old + length (T.pairs table.now) }
-    ensures none_soon { reserve.now.sporadics ≡ [] → OnOk result (steps.new ≡ steps.old) }
+    ensures none_soon { told ≡ 0 → reserve.now.sporadics ≡ []
+        → OnOk result (steps.new ≡ steps.old) }
 {
     let last = table.last_end();
     let most = reserve.demand(ask.arrivals, last);
-    let mut tried = untried(ask, last);
+    let mut tried = untried(ask, last, told);
     let mut place = place;
     loop {
         let first = from.max(place.span.start);
@@ -135,24 +155,77 @@ fn first_short_on<T: SpareTable, L: Ledger>(
         ) {
             return Err(evidence);
         }
-        if let Some(left) = left_after(place.span, ask.now, ask.slots + place.due + most) {
-            return Ok(tried.left.min(left));
+        let due = ask.slots + place.due;
+        if covers(place.span, ask.now, due + most + tried.left) {
+            return Ok(tried.left);
         }
-        if most == 0 {
+        if most == 0 && !covers(place.span, ask.now, due) {
             return Err(first_short_start(table, ask, place, steps));
         }
-        let Some(later) = after(table, place, steps) else {
+        let Some(next) = onward(table, reserve, ask, place, tried.left, steps) else {
             let all = place.due + place.span.work;
             return left_between(reserve, ask, all, from.max(last), last + 1, tried);
         };
-        place = later;
+        place = next;
     }
+}
+
+/// The place from which a search goes on where so much is left so far. None exactly after the last.
+///
+/// Where a span crosses the border of a page, spans are passed whose times leave as much even with
+/// the sporadic demand up to a later time: a page and a quarter of the way so far ahead.
+#[inline(always)]
+fn onward<T: SpareTable, L: Ledger>(
+    table: &T,
+    reserve: &Reserve,
+    ask: Ask,
+    place: SpanPlace,
+    left: u64,
+    steps: &mut Steps<L>,
+) -> Option<SpanPlace>
+    requires table { IsTable (T.time table.now) (T.pairs table.now) (T.limit table.now) }
+    requires place { IsPlace (T.pairs table.now) place }
+    requires now { ask.now ≡ T.time table.now }
+    requires arrivals { ask.arrivals < 2 ^ 41 }
+    requires near { last_end (T.time table.now) (spans_of_pairs (T.pairs table.now)) < 2 ^ 41 }
+    requires some { 1 ≤ ask.slots }
+    requires few { ask.slots ≤ OFFER_LIMIT }
+    requires small { left < 2 ^ 41 }
+    ensures last { MatchOption result
+        (place.index + 1 ≡ length (T.pairs table.now))
+        (λ later. place.index < later.index) }
+    ensures place { IfSome result (λ later. IsPlace (T.pairs table.now) later) }
+    ensures left { IfSome result (λ later. LeavesAll
+        (need_until (spans_of_pairs (T.pairs table.now)) reserve.now ask.arrivals)
+        (T.time table.now)
+        ask.slots
+        left
+        place.span.end
+        later.span.start) }
+    ensures steps { MatchOption result
+        (steps.new ≡ steps.old)
+        (λ later. steps.new ≡ steps.old + 1) }
+{
+    if place.span.start / PAGE == place.span.end / PAGE {
+        return after(table, place, steps);
+    }
+    let far = place.span.end + PAGE + (place.span.end - ask.now) / 4;
+    let until = table.last_end().min(far);
+    let most = reserve.demand(ask.arrivals, until);
+    later(
+        table,
+        place,
+        until,
+        ask.now + ask.slots + left + most,
+        steps,
+    )
 }
 
 /// The first time from the end of a span on that is too short, where no sporadic task may need
 /// anything up to the last end. The span does not cover what is due, so such a time exists.
 ///
-/// Inside a span nothing more is due, so only starts, and the last end, are tried.
+/// Inside a span nothing more is due, so only starts, and the last end, are tried. Where all times
+/// of a page leave room, its spans are passed.
 #[inline(always)]
 fn first_short_start<T: SpareTable, L: Ledger>(
     table: &T,
@@ -163,6 +236,8 @@ fn first_short_start<T: SpareTable, L: Ledger>(
     requires table { IsTable (T.time table.now) (T.pairs table.now) (T.limit table.now) }
     requires place { IsPlace (T.pairs table.now) place }
     requires now { ask.now ≡ T.time table.now }
+    requires near { last_end (T.time table.now) (spans_of_pairs (T.pairs table.now)) < 2 ^ 41 }
+    requires some { 1 ≤ ask.slots }
     requires few { ask.slots ≤ OFFER_LIMIT }
     requires uncovered { (pos (place.span.start - ask.now) +ℤ place.span.spare)
         <ℤ pos (ask.slots + place.due) }
@@ -174,62 +249,60 @@ fn first_short_start<T: SpareTable, L: Ledger>(
     ensures steps { steps.old ≤ steps.new }
     ensures reads_once { steps.new + place.index + 1 ≤ steps.old + length (T.pairs table.now) }
 {
+    let last = table.last_end();
+    let asked = ask.now + ask.slots;
     let mut place = place;
     loop {
-        let Some(later) = after(table, place, steps) else {
+        let Some(next) = later(table, place, last, asked, steps) else {
             return Evidence {
                 until: place.span.end,
                 need: ask.slots + place.due + place.span.work,
                 room: place.span.end - ask.now,
             };
         };
-        let need = ask.slots + later.due;
-        let room = later.span.start - ask.now;
+        let need = ask.slots + next.due;
+        let room = next.span.start - ask.now;
         if room < need {
             return Evidence {
-                until: later.span.start,
+                until: next.span.start,
                 need,
                 room,
             };
         }
-        place = later;
+        place = next;
     }
 }
 
-/// Nothing tried so far: no level, and all slots up to the last end are left.
+/// Nothing tried so far: no level, and all slots up to the last end are left, but no more than are
+/// to be told.
 #[inline(always)]
-fn untried(ask: Ask, last: u64) -> Tried
+fn untried(ask: Ask, last: u64, told: u64) -> Tried
     requires after { ask.now ≤ last }
     ensures level { result.level.until ≡ 0 }
     ensures none { result.level.demand ≡ 0 }
-    ensures left { result.left ≤ last }
+    ensures left { result.left ≡ min told (last - ask.now - ask.slots) }
 {
     Tried {
         level: Level {
             demand: 0,
             until: 0,
         },
-        left: (last - ask.now).saturating_sub(ask.slots),
+        left: told.min((last - ask.now).saturating_sub(ask.slots)),
     }
 }
 
-/// How much the slots before a span and its capacity leave beside so many slots, or none where they
-/// do not cover them. At each time from its end on there is as much left.
+/// Whether the slots before a span and its capacity cover so many slots. Then as many are free of
+/// works by each time from its end on.
 #[inline(always)]
-fn left_after(span: Span, now: u64, slots: u64) -> Option<u64>
+fn covers(span: Span, now: u64, slots: u64) -> bool
     requires after { now ≤ span.start }
     requires near { span.start < 2 ^ 41 }
     requires few { slots < 2 ^ 62 }
     requires short { span.spare ≤ℤ pos (2 ^ 40) }
-    ensures { MatchOption result
-        ((pos (span.start - now) +ℤ span.spare) <ℤ pos slots)
-        (λ left. pos (slots + left) ≡ pos (span.start - now) +ℤ span.spare) }
+    ensures { IsTrue result ↔ (pos slots ≤ℤ (pos (span.start - now) +ℤ span.spare)) }
 {
     let room = (span.start - now) as i64 + span.spare;
-    if room < slots as i64 {
-        return None;
-    }
-    Some((room - slots as i64) as u64)
+    slots as i64 <= room
 }
 
 /// The first time from `from` to before `until` that is too short, or what is left at all so far.
@@ -252,6 +325,8 @@ fn left_between(
         (find (exceeds reserve.now ask.now ask.arrivals (ask.slots + due))
         (range_with_len from (until - from))) }
     ensures left { IfOk result (λ left. LeavesBetween reserve.now ask due left from until) }
+    ensures greatest { IfOk result (λ left. MostBetween
+        reserve.now ask due tried.left left from until) }
     ensures least { IfOk result (λ left. left ≤ tried.left) }
 {
     let mut tried = tried;
@@ -284,6 +359,8 @@ fn short_between(
         (range_with_len from (until - from))) }
     ensures level { IsLevelFrom reserve.now ask.arrivals (max from until) tried.new.level }
     ensures left { result ≡ None → LeavesBetween reserve.now ask due tried.new.left from until }
+    ensures greatest { result ≡ None → MostBetween
+        reserve.now ask due tried.old.left tried.new.left from until }
     ensures least { tried.new.left ≤ tried.old.left }
 {
     if until <= from {
@@ -316,6 +393,8 @@ fn short_by_levels(
         (range_with_len from (until - from))) }
     ensures level { IsLevelFrom reserve.now ask.arrivals (max from until) tried.new.level }
     ensures left { result ≡ None → LeavesBetween reserve.now ask due tried.new.left from until }
+    ensures greatest { result ≡ None → MostBetween
+        reserve.now ask due tried.old.left tried.new.left from until }
     ensures least { tried.new.left ≤ tried.old.left }
 {
     let mut at = from;
@@ -343,6 +422,10 @@ fn short_at(ask: Ask, due: u64, at: u64, tried: &mut Tried) -> Option<Evidence>
     ensures level { tried.new.level ≡ tried.old.level }
     ensures left { result ≡ None → 1 ≤ due + tried.old.level.demand
         → tried.new.left + (ask.slots + due + tried.old.level.demand) ≤ at - ask.now }
+    ensures greatest { result ≡ None → (more : ℕ) → more ≤ tried.old.left
+        → (1 ≤ due + tried.old.level.demand
+        → more + (ask.slots + due + tried.old.level.demand) ≤ at - ask.now)
+        → more ≤ tried.new.left }
     ensures least { tried.new.left ≤ tried.old.left }
 {
     let need = ask.slots + due + tried.level.demand;

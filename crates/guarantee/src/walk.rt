@@ -1,11 +1,11 @@
 //! Places in a table: spans, with the works before them.
 
-ghost use Rattle.std.specs.Prelude.{◌≡◌, ◌+◌, ◌≤◌, ◌<◌, length, IfSome, MatchOption};
+ghost use Rattle.std.specs.Prelude.{◌≡◌, ◌+◌, ◌≤◌, ◌<◌, ◌^◌, length, IfSome, MatchOption};
 ghost use Rattle.spare_capacity.specs.Recurrence.{last_end};
-ghost use Rattle.interval_row.specs.Tables.{spans_of_pairs, IsTable};
-ghost use Rattle.guarantee.specs.Places.{IsPlace};
+ghost use Rattle.interval_row.specs.Tables.{spans_of_pairs, IsFront, IsTable};
+ghost use Rattle.guarantee.specs.Places.{IsPlace, MayPass};
 
-use interval_row::{SpareTable, Spot};
+use interval_row::{Front, SpareTable, Spot};
 use slot_core::{Span, Steps};
 use std::sync::ledger::Ledger;
 
@@ -22,8 +22,8 @@ pub struct SpanPlace {
     pub due: u64,
 }
 
-/// The place of the first span that ends at a time or later. Each span up to there is read once,
-/// and only ends are compared.
+/// The place of the first span that ends at a time or later. The spans before it are read once at
+/// most, and only ends are compared.
 #[inline(always)]
 pub(crate) fn place_of<T: SpareTable, L: Ledger>(
     table: &T,
@@ -36,9 +36,10 @@ pub(crate) fn place_of<T: SpareTable, L: Ledger>(
     ensures place { IsPlace (T.pairs table.now) result }
     ensures early { result.span.start < time }
     ensures reached { time ≤ result.span.end }
-    ensures steps { steps.new ≡ steps.old + result.index + 1 }
+    ensures steps { steps.old ≤ steps.new }
+    ensures few_steps { steps.new ≤ steps.old + result.index + 1 }
 {
-    let mut place = front(table, steps);
+    let mut place = place_near(table, time, steps);
     while place.span.end < time {
         let Some(later) = after(table, place, steps) else {
             return place;
@@ -48,23 +49,78 @@ pub(crate) fn place_of<T: SpareTable, L: Ledger>(
     place
 }
 
-/// The place of the first span.
+/// The place of a span that starts before a time, as near to it as the table tells. One read.
 #[inline(always)]
-fn front<T: SpareTable, L: Ledger>(table: &T, steps: &mut Steps<L>) -> SpanPlace
+fn place_near<T: SpareTable, L: Ledger>(table: &T, time: u64, steps: &mut Steps<L>) -> SpanPlace
+    requires after { T.time table.now < time }
+    requires within { time ≤ last_end (T.time table.now) (spans_of_pairs (T.pairs table.now)) }
     ensures table { IsTable (T.time table.now) (T.pairs table.now) (T.limit table.now) }
     ensures place { IsPlace (T.pairs table.now) result }
-    ensures first { result.index ≡ 0 }
+    ensures early { result.span.start < time }
     ensures one_step { steps.new ≡ steps.old + 1 }
 {
     // (so that the prover knows what every table is)
     let _count = table.count();
-    let at = table.first();
+    let front = table.near(time);
+    place_at(table, front, steps)
+}
+
+/// The place after some of the first spans. One read.
+#[inline(always)]
+fn place_at<T: SpareTable, L: Ledger>(table: &T, front: Front, steps: &mut Steps<L>) -> SpanPlace
+    requires front { IsFront (spans_of_pairs (T.pairs table.now)) front }
+    requires within { front.count < length (T.pairs table.now) }
+    ensures place { IsPlace (T.pairs table.now) result }
+    ensures index { result.index ≡ front.count }
+    ensures one_step { steps.new ≡ steps.old + 1 }
+{
+    let at = table.spot(front.count);
     SpanPlace {
         at,
-        index: 0,
+        index: front.count,
         span: table.read(at, steps),
-        due: 0,
+        due: front.works,
     }
+}
+
+/// The place of a span after one: a later one where the times up to it leave room for what is
+/// asked, all before `until`, else the next. One read, and none exactly after the last.
+#[inline(always)]
+pub(crate) fn later<T: SpareTable, L: Ledger>(
+    table: &T,
+    place: SpanPlace,
+    until: u64,
+    asked: u64,
+    steps: &mut Steps<L>,
+) -> Option<SpanPlace>
+    requires table { IsTable (T.time table.now) (T.pairs table.now) (T.limit table.now) }
+    requires place { IsPlace (T.pairs table.now) place }
+    requires until { until ≤ last_end (T.time table.now) (spans_of_pairs (T.pairs table.now)) }
+    requires some { 1 ≤ asked }
+    requires few { asked ≤ 2 ^ 62 }
+    ensures last { MatchOption result
+        (place.index + 1 ≡ length (T.pairs table.now))
+        (λ later. place.index < later.index) }
+    ensures place { IfSome result (λ later. IsPlace (T.pairs table.now) later) }
+    ensures passed { IfSome result (λ later. MayPass
+        (spans_of_pairs (T.pairs table.now))
+        asked
+        until
+        place.span.end
+        later.span.start) }
+    ensures steps { MatchOption result
+        (steps.new ≡ steps.old)
+        (λ later. steps.new ≡ steps.old + 1) }
+{
+    let front = Front {
+        count: place.index,
+        works: place.due,
+    };
+    let passed = table.skip(front, place.span, until, asked);
+    if passed.count == place.index {
+        return after(table, place, steps);
+    }
+    Some(place_at(table, passed, steps))
 }
 
 /// The place of the span after one. None exactly after the last.

@@ -1,8 +1,8 @@
 -- Spans that are appended to others.
 use Rattle.std.proofs.Math.Nat.{mul-le-mul_left}
-use Rattle.std.proofs.Common.{◌≡◌, ℕ, suc, ◌+◌, ◌-◌, ◌*◌, ◌≤◌, ◌^◌, ℤ, pos, ◌≤ℤ◌, List, [], ◌∷◌, ◌++◌, length, map, get_or, refl, sym, ◌∙◌, ap, arith, zero, zero-add, subst, ◌<◌}
+use Rattle.std.proofs.Common.{◌≡◌, ℕ, suc, ◌+◌, ◌-◌, ◌*◌, ◌≤◌, ◌^◌, ℤ, pos, ◌≤ℤ◌, List, [], ◌∷◌, ◌++◌, length, map, get_or, take, take-suc, refl, sym, ◌∙◌, ap, arith, zero, zero-add, subst, ◌<◌}
 use Rattle.std.proofs.lemmas.Int.{ints, clamps}
-use Rattle.std.proofs.lemmas.List.{length-append, length-map}
+use Rattle.std.proofs.lemmas.List.{append_assoc, length-append, length-map, map-append}
 use Rattle.slot_core.specs.declared.jobs.Span.{Span}
 use Rattle.spare_capacity.specs.Recurrence.{filled, first_spare, with_spare, FollowOn, first_start, last_end}
 use Rattle.spare_capacity.proofs.Steps.{no_row}
@@ -91,6 +91,16 @@ filled-appended spans rows plan e =
 
 pub length-appended : (spans rows : List Span) → length (appended spans rows) ≡ length rows + length spans
 length-appended spans rows = simp (length-append, length-map)
+
+-- one more of the spans is appended
+pub appended-next : (by k : ℕ) (rows spans : List Span) → k < length spans → (rows ++ map (shifted by) (take k spans)) ++ shifted by (get_or spans k no_row) ∷ [] ≡ rows ++ map (shifted by) (take (k + 1) spans)
+appended-next by k rows spans l =
+    let s = get_or spans k no_row in
+    let one : k + 1 ≡ suc k = omega arith in
+    append_assoc rows (map (shifted by) (take k spans)) (shifted by s ∷ [])
+    ∙ ap (λ ys. rows ++ ys) (sym (map-append (shifted by) (take k spans) (s ∷ [])))
+    ∙ ap (λ ys. rows ++ map (shifted by) ys) (sym (take-suc spans k no_row l))
+    ∙ ap (λ n. rows ++ map (shifted by) (take n spans)) (sym one)
 
 -- copies of a plan's spans: consecutive from 0, proper, with their capacities, as many as they should be
 pub record AreCopies (spans : List Span) (n : ℕ) (rows : List Span) : Type 0 where

@@ -34,6 +34,10 @@ follow_from_zero : (rows : List Span) → FollowOn 0 rows → FollowOn (first_st
 follow_from_zero [] h = h
 follow_from_zero (s ∷ ss) h = (refl, h.1, h.2, h.3, h.4)
 
+pub starts-at_zero : (rows : List Span) → FollowOn 0 rows → first_start rows ≡ 0
+starts-at_zero [] h = refl
+starts-at_zero (s ∷ ss) h = h.0
+
 -- and starts there
 pub first_start-FollowOn : (start : ℕ) (rows : List Span) → FollowOn start rows → 1 ≤ length rows → first_start rows ≡ start
 first_start-FollowOn start [] h some = absurd (omega arith)

@@ -1,10 +1,14 @@
+pub mod CutTimes
 pub mod Cuts
 pub mod Cycles
 pub mod Ends
 pub mod Fillings
 pub mod Kept
+pub mod Marked
+pub mod Laps
 pub mod Places
 pub mod Rooms
+pub mod Skips
 pub mod Spots
 pub mod Stores
 pub mod WalkBack

@@ -1,12 +1,14 @@
 -- Rows that a table keeps stay so.
-use Rattle.std.proofs.Common.{◌≡◌, ℕ, ◌+◌, ◌*◌, ◌<◌, ◌≤◌, ◌^◌, List, length, map, get_or, IsSomeAnd, refl, sym, ◌∙◌, ap, arith}
+use Rattle.std.proofs.Common.{◌≡◌, ℕ, ◌+◌, ◌*◌, ◌<◌, ◌≤◌, ◌^◌, List, length, map, get_or, IsSomeAnd, refl, sym, subst, ◌∙◌, ap, arith}
 use Rattle.slot_core.specs.declared.jobs.Span.{Span}
 use Rattle.spare_capacity.specs.Recurrence.{filled, first_start, last_end}
 use Rattle.spare_capacity.specs.PlanSpans.{ArePlanSpans}
 use Rattle.spare_capacity.proofs.Steps.{no_row}
 use Rattle.interval_row.specs.Changes.{after_pass, appended, copies_of, cut, shifted, span_ending, with_work}
 use Rattle.interval_row.specs.Rows.{place_of, with_work_at}
-use Rattle.interval_row.specs.Stores.{AreKept, Stored}
+use Rattle.node_chain.specs.declared.marks.Mark.{Mark}
+use Rattle.interval_row.specs.Marks.{AreMarked, AreTimed}
+use Rattle.interval_row.specs.Stores.{AreKept, AreKeptMarked, Stored}
 use Rattle.interval_row.specs.Tables.{numbered, spans_of_pairs, IsTable}
 use Rattle.interval_row.specs.declared.spans.Change.{Change}
 use Rattle.interval_row.specs.Works.{changed_by, MayChangeBy}
@@ -104,3 +106,12 @@ AreKept-copies_of spans copies room plan some fits small =
       ends = refl;
       near = omega (arith, last_end-le 0 rows made.consecutive, made.count, fits, small);
     }
+
+-- kept rows and their marks, as searches take them
+pub AreTimed-AreKept : {rows : List Span} {room : ℕ} {marks : List Mark} {time end : ℕ} → AreKeptMarked rows room marks time end → AreTimed time end rows marks
+AreTimed-AreKept h =
+    record { rows = h.kept.rows; starts = h.kept.starts; ends = h.kept.ends; near = h.kept.near; marked = h.marked }
+
+-- the marks are those from the first start on
+pub marked-start : {rows : List Span} {room : ℕ} {marks : List Mark} {time end : ℕ} → AreKeptMarked rows room marks time end → AreMarked (first_start rows) rows marks
+marked-start {rows = rows} {marks = marks} h = subst (λ n. AreMarked n rows marks) h.kept.starts h.marked

@@ -1,9 +1,12 @@
 -- Worked calls: each holds by computing the definitions.
-use Rattle.std.specs.Prelude.{◌≡◌, pos, negsuc, List, [], ◌∷◌, drop, refl}
+use Rattle.std.specs.Prelude.{◌≡◌, pos, negsuc, List, [], ◌∷◌, drop, take, refl}
 use Rattle.slot_core.specs.declared.jobs.Span.{Span}
 use Rattle.spare_capacity.specs.Recurrence.{filled}
 use Rattle.spare_capacity.specs.Examples.{span}
 use Rattle.interval_row.specs.Changes.{after_pass, cut, with_less, with_more}
+use Rattle.interval_row.specs.Marks.{blank, count_at, mark_of, passed, with_change, with_cut, with_end, without_end, works_at, works_in_page}
+use Rattle.interval_row.specs.Tables.{works}
+use Rattle.interval_row.specs.declared.spans.Change.TheVariants.{More}
 
 -- three cycles of a set in which every second span lacks two slots
 abbrev pub borrowing : List Span
@@ -15,6 +18,10 @@ borrowing =
     ∷ span 20 24 1 (pos 1)
     ∷ span 24 30 8 (negsuc 1)
     ∷ []
+
+-- of which the first three have ten slots of work
+pub works_of_three : works (take 3 borrowing) ≡ 10
+works_of_three = refl
 
 -- after 2 became the end of a span
 abbrev pub cut_at_2 : List Span
@@ -43,3 +50,30 @@ pub after_run :
     filled (with_less 10 1 borrowing)
     ≡ span 0 4 1 (pos 2) ∷ span 4 10 7 (negsuc 0) ∷ drop 2 borrowing
 after_run = refl
+
+-- spans that end in two pages of one mark, a lap of 256 pages apart, and one between
+abbrev pub far : List Span
+far = span 0 100 7 (pos 93) ∷ span 100 150 9 (pos 41) ∷ span 150 32800 5 (pos 32645) ∷ []
+
+pub far_marks : mark_of 100 ∷ mark_of 150 ∷ mark_of 32800 ∷ [] ≡ 0 ∷ 1 ∷ 0 ∷ []
+far_marks = refl
+
+-- so two spans have mark 0, with twelve slots of work, of which five are in the later page
+pub far_count : count_at 0 far ≡ 2
+far_count = refl
+
+pub far_works : works_at 0 far ≡ 12
+far_works = refl
+
+pub far_page : works_in_page 32800 far ≡ 5
+far_page = refl
+
+-- marks that follow spans: two that end at 100 and 120, a slot more, a cut, one that has passed
+pub marks_followed :
+    without_end 7 (with_cut (with_change (More 1) (with_end 120 9 (with_end 100 7 (blank 3)))))
+    ≡ record { count = 2; works = 10; low = 92 }
+marks_followed = refl
+
+-- an empty page that has passed is the one a lap later
+pub mark_passed : passed 127 (blank 0) ≡ record { count = 0; works = 0; low = 32768 }
+mark_passed = refl

@@ -3,17 +3,25 @@ use Rattle.std.specs.Prelude.{◌≡◌, ℕ, ◌≤◌, ◌^◌, List, length, 
 use Rattle.slot_core.specs.declared.jobs.Span.{Span}
 use Rattle.spare_capacity.specs.Recurrence.{first_start, last_end}
 use Rattle.node_chain.specs.declared.chain.NodeId.{NodeId}
+use Rattle.node_chain.specs.declared.marks.Mark.{Mark}
 use Rattle.node_chain.specs.Orders.{OrderParts}
+use Rattle.interval_row.specs.Marks.{AreMarked}
 use Rattle.interval_row.specs.Rows.{AreRows}
 
 -- the spans of a chain without their ids
 abbrev pub spans_of : List (NodeId × Span) → List Span
 spans_of pairs = map (λ (p : NodeId × Span). p.1) pairs
 
--- what contracts see of a plain list and of a table: the spans, and how many there is room for
+-- what contracts see of a table: the spans, and how many there is room for
 pub record Stored : Type 0 where
   pub spans : List Span
   pub room : ℕ
+
+-- what contracts see of a plain list: the spans, how many there is room for, and the marks
+pub record Listed : Type 0 where
+  pub spans : List Span
+  pub room : ℕ
+  pub marks : List Mark
 
 -- no more spans than there is room for, at most 2 ^ 20, with a place reserved for each
 pub record FitRoom (row : OrderParts Span) (room : ℕ) : Type 0 where
@@ -30,3 +38,9 @@ pub record AreKept (spans : List Span) (room time end : ℕ) : Type 0 where
   pub starts : time ≡ first_start spans
   pub ends : end ≡ last_end 0 spans
   pub near : end ≤ 2 ^ 60
+
+-- kept spans, and their marks
+pub record AreKeptMarked (spans : List Span) (room : ℕ) (marks : List Mark) (time end : ℕ) :
+    Type 0 where
+  pub kept : AreKept spans room time end
+  pub marked : AreMarked time spans marks

@@ -1,8 +1,9 @@
 -- What a table of spans is.
-use Rattle.std.specs.Prelude.{◌≡◌, ℕ, suc, ◌≤◌, ◌^◌, List, [], ◌∷◌, length, map, Option, Some, slice_get}
+use Rattle.std.specs.Prelude.{◌≡◌, ℕ, suc, ◌≤◌, ◌^◌, List, [], ◌∷◌, length, map, take, Option, Some, slice_get, sum_by}
 use Rattle.slot_core.specs.declared.jobs.Span.{Span}
 use Rattle.spare_capacity.specs.PlanSpans.{AreProper}
 use Rattle.spare_capacity.specs.Recurrence.{filled, FollowOn}
+use Rattle.interval_row.specs.declared.table.Front.{Front}
 use Rattle.interval_row.specs.declared.table.Spot.{Spot}
 
 -- the spans numbered from n on, each with its number as its spot
@@ -37,3 +38,12 @@ pub record IsTable (time : ℕ) (pairs : List (Spot × Span)) (limit : ℕ) : Ty
   pub filled : spans_of_pairs pairs ≡ filled (spans_of_pairs pairs)
   pub few : length pairs ≤ limit
   pub small : limit ≤ 2 ^ 20
+
+-- the works of spans
+abbrev pub works : List Span → ℕ
+works spans = sum_by (λ (s : Span). s.work) spans
+
+-- so many of the first spans, with their works
+pub record IsFront (spans : List Span) (front : Front) : Type 0 where
+  pub few : front.count ≤ length spans
+  pub works : front.works ≡ works (take front.count spans)

@@ -8,6 +8,8 @@
 #![tactic(auto)]
 
 mod changes;
+mod marks;
+mod pages;
 pub mod rows;
 pub mod span_table;
 mod spans;
@@ -15,7 +17,8 @@ pub mod store;
 pub mod table;
 mod walk;
 
+pub use marks::PAGE;
 pub use rows::Rows;
 pub use span_table::{ChainTable, RowTable, Table};
 pub use store::Store;
-pub use table::{SpareTable, Spot};
+pub use table::{Front, SpareTable, Spot};

@@ -2,25 +2,27 @@
 
 use crate::store::Store;
 use node_chain::order::Order;
+use node_chain::{Mark, Marks};
 use slot_core::{Memory, Span, Steps};
 use std::alloc::Global;
 use std::marker::Model;
 use std::sync::ledger::Ledger;
 
-/// Spans in a list whose places are reserved once. A table over it answers as every table does, and
-/// promises no bound on steps but that of `read`.
+/// Spans in a list whose places are reserved once, and a lap of marks. A table over it answers as
+/// every table does, and promises no bound on steps but that of `read`.
 #[derive(Drop)]
 pub struct Rows {
     rows: Order<Span>,
     room: u32,
+    marks: Marks,
 }
 
 impl Model for Rows {
-    ghost use Rattle.interval_row.specs.Stores.{FitRoom, Stored};
+    ghost use Rattle.interval_row.specs.Stores.{FitRoom, Listed};
 
-    ghost Value = { Stored };
+    ghost Value = { Listed };
 
-    ghost view = { λ r. record { spans = r.rows.items; room = r.room } };
+    ghost view = { λ r. record { spans = r.rows.items; room = r.room; marks = r.marks } };
 
     ghost invariant = { λ r. FitRoom r.rows r.room };
 }
@@ -32,12 +34,15 @@ impl Store for Rows {
 
     ghost room = { λ r. r.room };
 
+    ghost marks = { λ r. r.marks };
+
     ghost counted = { false };
 
     fn with_room(alloc: Global, places: u32) -> Result<Self, Memory> {
         Ok(Rows {
             rows: Order::with_capacity(alloc, places)?,
             room: places,
+            marks: Marks::new(alloc)?,
         })
     }
 
@@ -53,6 +58,11 @@ impl Store for Rows {
     fn set<L: Ledger>(&mut self, index: u32, span: Span, steps: &mut Steps<L>) {
         steps.tick();
         self.rows.set(index, span);
+    }
+
+    fn set_spare<L: Ledger>(&mut self, index: u32, spare: i64, steps: &mut Steps<L>) {
+        let span = self.at(index, steps);
+        self.rows.set(index, Span { spare, ..span });
     }
 
     fn insert<L: Ledger>(&mut self, index: u32, span: Span, steps: &mut Steps<L>) {
@@ -73,5 +83,13 @@ impl Store for Rows {
         steps.tick();
         self.rows.pop_front();
         first
+    }
+
+    fn mark(&self, index: u32) -> Mark {
+        self.marks.at(index)
+    }
+
+    fn set_mark(&mut self, index: u32, mark: Mark) {
+        self.marks.set(index, mark);
     }
 }

@@ -7,11 +7,12 @@ ghost use Rattle.interval_row.specs.Changes.{copies_of, ends_before, span_ending
 ghost use Rattle.interval_row.specs.Tables.{numbered, spans_of_pairs, IsTable};
 ghost use Rattle.interval_row.specs.Works.{changed_by, MayChangeBy};
 
-use crate::changes;
+use crate::pages::{self, Times};
 use crate::rows::Rows;
 use crate::spans::{self, Change};
 use crate::store::Store;
-use crate::table::{SpareTable, Spot};
+use crate::table::{Front, SpareTable, Spot};
+use crate::{changes, marks};
 use node_chain::Chain;
 use slot_core::{Memory, Span, Steps};
 use std::alloc::Global;
@@ -33,7 +34,8 @@ pub type RowTable = Table<Rows>;
 /// `charge`, `give_back` or `split`, or the first where that one has gone. A change of work looks
 /// there first: the job that ran in a slot mostly runs in the next, and the slots of an offer are
 /// due at the end that was made for it. Capacities are followed back from such a change only as far
-/// as they change.
+/// as they change. Each call keeps the marks of the store those of its spans: from them a search
+/// starts near its span, where all spans lie within a lap of pages, and are more than the pages.
 #[derive(Drop)]
 pub struct Table<S: Store> {
     chain: S,
@@ -44,13 +46,14 @@ pub struct Table<S: Store> {
 }
 
 impl<S: Store> Model for Table<S> {
-    ghost use Rattle.interval_row.specs.Stores.{AreKept, Stored};
+    ghost use Rattle.interval_row.specs.Stores.{AreKeptMarked, Stored};
 
     ghost Value = { Stored };
 
     ghost view = { λ t. record { spans = S.spans t.chain; room = S.room t.chain } };
 
-    ghost invariant = { λ t. AreKept (S.spans t.chain) (S.room t.chain) t.time t.end };
+    ghost invariant = { λ t.
+        AreKeptMarked (S.spans t.chain) (S.room t.chain) (S.marks t.chain) t.time t.end };
 }
 
 impl<S: Store> Table<S> {
@@ -68,7 +71,18 @@ impl<S: Store> Table<S> {
         ensures few_steps { steps.new ≤ steps.old
             + 3 * ends_before deadline self.old.spans + 3 }
     {
-        self.hint = changes::change_work(&mut self.chain, self.hint, deadline, change, steps);
+        let times = Times {
+            start: self.time,
+            end: self.end,
+        };
+        self.hint = changes::change_work(
+            &mut self.chain,
+            times,
+            self.hint,
+            deadline,
+            change,
+            steps,
+        );
     }
 }
 
@@ -116,6 +130,26 @@ impl<S: Store> SpareTable for Table<S> {
         }
     }
 
+    fn spot(&self, index: u32) -> Spot {
+        Spot(index)
+    }
+
+    fn near(&self, x: u64) -> Front {
+        let times = Times {
+            start: self.time,
+            end: self.end,
+        };
+        pages::near(&self.chain, times, x)
+    }
+
+    fn skip(&self, front: Front, place: Span, until: u64, asked: u64) -> Front {
+        let times = Times {
+            start: self.time,
+            end: self.end,
+        };
+        pages::skip(&self.chain, times, front, place, until, asked)
+    }
+
     fn read<L: Ledger>(&self, at: Spot, steps: &mut Steps<L>) -> Span {
         let Spot(index) = at;
         self.chain.at(index, steps)
@@ -123,6 +157,7 @@ impl<S: Store> SpareTable for Table<S> {
 
     fn pass_slot<L: Ledger>(&mut self, steps: &mut Steps<L>) {
         self.hint = changes::pass(&mut self.chain, self.hint, steps);
+        marks::pass_time(&mut self.chain, self.time);
         self.time += 1;
     }
 
@@ -135,7 +170,11 @@ impl<S: Store> SpareTable for Table<S> {
     }
 
     fn split<L: Ledger>(&mut self, at: u64, steps: &mut Steps<L>) {
-        self.hint = changes::split(&mut self.chain, at, steps);
+        let times = Times {
+            start: self.time,
+            end: self.end,
+        };
+        self.hint = changes::split(&mut self.chain, times, at, steps);
     }
 
     fn append_cycle<L: Ledger>(&mut self, spans: &[Span], steps: &mut Steps<L>) {
@@ -168,6 +207,7 @@ fn filled_table<S: Store, L: Ledger>(
 {
     let mut steps: Steps<L> = Steps::new(blank);
     let mut chain = S::with_room(alloc, room)?;
+    marks::blank_marks(&mut chain);
     let mut end = 0;
     let cycle = spans::last_end(spans);
     for _copy in 0..copies {

@@ -1,15 +1,18 @@
 //! What a table keeps its spans in.
 
-ghost use Rattle.std.specs.Prelude.{◌≡◌, ℕ, ◌+◌, ◌≤◌, ◌<◌, ◌^◌, Bool, List, [], ◌∷◌, ◌++◌, drop, insert, length, Some, IfOk, slice_get, slice_set};
+ghost use Rattle.std.specs.Prelude.{◌≡◌, ℕ, ◌+◌, ◌≤◌, ◌<◌, ◌^◌, Bool, List, [], ◌∷◌, ◌++◌, drop, insert, length, replicate, Some, IfOk, slice_get, slice_set};
 ghost use Rattle.slot_core.specs.declared.jobs.Span.{Span};
+ghost use Rattle.node_chain.specs.Chains.{blank_mark};
+ghost use Rattle.node_chain.specs.declared.marks.Mark.{Mark};
+ghost use Rattle.node_chain.specs.declared.marks.TheConstants.{LAP};
 
-use node_chain::Chain;
+use node_chain::{Chain, Mark};
 use slot_core::{Memory, Span, Steps};
 use std::alloc::Global;
 use std::sync::ledger::Ledger;
 
-/// Spans in order, each found by how many stand before it, with room for at most 2^20. Only
-/// `with_room` takes memory, and no call but it refuses.
+/// Spans in order, each found by how many stand before it, with room for at most 2^20, and a lap of
+/// marks, whose numbers are the table's. Only `with_room` takes memory, and no call but it refuses.
 pub trait Store: Drop {
     /// The spans in order.
     ghost spans: { Self → List Span };
@@ -17,15 +20,19 @@ pub trait Store: Drop {
     /// How many it has room for.
     ghost room: { Self → ℕ };
 
+    /// The marks, which no call on spans changes.
+    ghost marks: { Self → List Mark };
+
     /// Whether a table over it promises a bound on the steps of each call.
     ghost counted: { Bool };
 
-    /// No spans, and room for so many.
+    /// No spans, room for so many, and marks without numbers.
     fn with_room(alloc: Global, places: u32) -> Result<Self, Memory>
         requires some { 1 ≤ places }
         requires few { places ≤ 2 ^ 20 }
         ensures empty { IfOk result (λ made. spans made ≡ []) }
-        ensures room { IfOk result (λ made. room made ≡ places) };
+        ensures room { IfOk result (λ made. room made ≡ places) }
+        ensures marks { IfOk result (λ made. marks made ≡ replicate LAP blank_mark) };
 
     /// How many spans there are.
     fn len(&self) -> u32
@@ -42,6 +49,16 @@ pub trait Store: Drop {
         requires { index < length (spans self.old) }
         ensures spans { spans self.new ≡ slice_set (spans self.old) index span }
         ensures room { room self.new ≡ room self.old }
+        ensures marks { marks self.new ≡ marks self.old }
+        ensures one_step { steps.new ≡ steps.old + 1 };
+
+    /// Gives the span there another capacity. One step.
+    fn set_spare<L: Ledger>(&mut self, index: u32, spare: i64, steps: &mut Steps<L>)
+        requires { index < length (spans self.old) }
+        ensures spans { (s : Span) → slice_get (spans self.old) index ≡ Some s
+            → spans self.new ≡ slice_set (spans self.old) index (record s { spare = spare }) }
+        ensures room { room self.new ≡ room self.old }
+        ensures marks { marks self.new ≡ marks self.old }
         ensures one_step { steps.new ≡ steps.old + 1 };
 
     /// Puts a span in before the one there. Three steps.
@@ -50,6 +67,7 @@ pub trait Store: Drop {
         requires free { length (spans self.old) < room self.old }
         ensures spans { spans self.new ≡ insert (spans self.old) index span }
         ensures room { room self.new ≡ room self.old }
+        ensures marks { marks self.new ≡ marks self.old }
         ensures three_steps { steps.new ≡ steps.old + 3 };
 
     /// Appends a span. Two steps.
@@ -57,6 +75,7 @@ pub trait Store: Drop {
         requires { length (spans self.old) < room self.old }
         ensures spans { spans self.new ≡ spans self.old ++ span ∷ [] }
         ensures room { room self.new ≡ room self.old }
+        ensures marks { marks self.new ≡ marks self.old }
         ensures two_steps { steps.new ≡ steps.old + 2 };
 
     /// Takes the first span out. Two steps.
@@ -65,7 +84,20 @@ pub trait Store: Drop {
         ensures first { slice_get (spans self.old) 0 ≡ Some result }
         ensures rest { spans self.new ≡ drop 1 (spans self.old) }
         ensures room { room self.new ≡ room self.old }
+        ensures marks { marks self.new ≡ marks self.old }
         ensures two_steps { steps.new ≡ steps.old + 2 };
+
+    /// The mark at an index.
+    fn mark(&self, index: u32) -> Mark
+        requires { index < LAP }
+        ensures { slice_get (marks self.now) index ≡ Some result };
+
+    /// Puts another mark at an index.
+    fn set_mark(&mut self, index: u32, mark: Mark)
+        requires { index < LAP }
+        ensures spans { spans self.new ≡ spans self.old }
+        ensures room { room self.new ≡ room self.old }
+        ensures marks { marks self.new ≡ slice_set (marks self.old) index mark };
 }
 
 /// The chain, where each step is a node. A table over it bounds its steps.
@@ -76,6 +108,8 @@ impl Store for Chain {
     ghost spans = { λ c. spans_of c.pairs };
 
     ghost room = { λ c. c.capacity };
+
+    ghost marks = { λ c. c.marks };
 
     ghost counted = { true };
 
@@ -95,6 +129,10 @@ impl Store for Chain {
         self.set(self.at(index), span, steps);
     }
 
+    fn set_spare<L: Ledger>(&mut self, index: u32, spare: i64, steps: &mut Steps<L>) {
+        self.set_spare(self.at(index), spare, steps);
+    }
+
     fn insert<L: Ledger>(&mut self, index: u32, span: Span, steps: &mut Steps<L>) {
         let _id = self.insert_at(index, span, steps);
     }
@@ -105,5 +143,13 @@ impl Store for Chain {
 
     fn pop_front<L: Ledger>(&mut self, steps: &mut Steps<L>) -> Span {
         self.pop_front(steps)
+    }
+
+    fn mark(&self, index: u32) -> Mark {
+        self.mark(index)
+    }
+
+    fn set_mark(&mut self, index: u32, mark: Mark) {
+        self.set_mark(index, mark);
     }
 }

@@ -2,11 +2,12 @@
 
 ghost use Rattle.std.specs.Prelude.{◌≡◌, ℕ, ◌+◌, ◌*◌, ◌≤◌, ◌<◌, ◌^◌, Bool, List, length, Option, Some, IfOk, IsSome, IsSomeAnd, IsTrue};
 ghost use Rattle.slot_core.specs.declared.jobs.Span.{Span};
+ghost use Rattle.spare_capacity.specs.Laws.{work_until};
 ghost use Rattle.spare_capacity.specs.PlanSpans.{ArePlanSpans};
 ghost use Rattle.spare_capacity.specs.Recurrence.{filled, last_end};
 ghost use Rattle.interval_row.specs.declared.table.Spot.{Spot};
 ghost use Rattle.interval_row.specs.Changes.{after_pass, appended, apart_from, copies_of, cut, ends_before, span_ending, with_less, with_more};
-ghost use Rattle.interval_row.specs.Tables.{IsLive, IsTable, span_at, spans_of_pairs, spot_at};
+ghost use Rattle.interval_row.specs.Tables.{span_at, spans_of_pairs, spot_at, IsFront, IsLive, IsTable};
 
 use slot_core::{Memory, Span, Steps};
 use std::alloc::Global;
@@ -15,6 +16,14 @@ use std::sync::ledger::Ledger;
 /// The name of a span in a table. It stays good until the table changes.
 #[derive(Clone, Copy, PartialEq, Eq)]
 pub struct Spot(pub u32);
+
+/// Some of the first spans of a table: how many, and what is due in them.
+#[derive(Clone, Copy, PartialEq, Eq)]
+pub struct Front {
+    pub count: u32,
+    /// In slots.
+    pub works: u64,
+}
 
 /// A table of consecutive spans from a time on, with their capacities by the recurrence. All times,
 /// lengths and works are in slots.
@@ -70,6 +79,35 @@ pub trait SpareTable: Drop {
         requires { IsLive (pairs self.now) at }
         ensures { (i : ℕ) → spot_at (pairs self.now) i ≡ Some at
             → result ≡ spot_at (pairs self.now) (i + 1) };
+
+    /// The spot of the span with so many before it.
+    fn spot(&self, index: u32) -> Spot
+        requires { index < length (pairs self.now) }
+        ensures { spot_at (pairs self.now) index ≡ Some result };
+
+    /// Some of the first spans, which all end before `x`. No span is read.
+    fn near(&self, x: u64) -> Front
+        requires after { time self.now < x }
+        requires within { x ≤ last_end (time self.now) (spans_of_pairs (pairs self.now)) }
+        ensures front { IsFront (spans_of_pairs (pairs self.now)) result }
+        ensures early { result.count ≤ ends_before x (spans_of_pairs (pairs self.now)) };
+
+    /// Passes spans from a place on, as long as by each time so much room is left. Where none is
+    /// passed the same place. No span is read.
+    fn skip(&self, front: Front, place: Span, until: u64, asked: u64) -> Front
+        requires front { IsFront (spans_of_pairs (pairs self.now)) front }
+        requires place { span_at (pairs self.now) front.count ≡ Some place }
+        requires until { until ≤ last_end (time self.now) (spans_of_pairs (pairs self.now)) }
+        requires some { 1 ≤ asked }
+        requires few { asked ≤ 2 ^ 62 }
+        ensures front { IsFront (spans_of_pairs (pairs self.now)) result }
+        ensures later { front.count ≤ result.count }
+        ensures within { result.count < length (pairs self.now) }
+        ensures reached { (later : Span) → span_at (pairs self.now) result.count ≡ Some later
+            → front.count < result.count → later.start < until }
+        ensures room { (later : Span) → span_at (pairs self.now) result.count ≡ Some later
+            → (x : ℕ) → place.end ≤ x → x < later.end
+            → asked + work_until (spans_of_pairs (pairs self.now)) x ≤ x };
 
     /// The span at this spot. One step.
     fn read<L: Ledger>(&self, at: Spot, steps: &mut Steps<L>) -> Span

@@ -5,8 +5,10 @@ ghost use Rattle.std.specs.Prelude.{◌≡◌, ℕ, ◌+◌, ◌*◌, ◌≤◌,
 ghost use Rattle.spare_capacity.specs.Lending.{raised, repaid};
 ghost use Rattle.spare_capacity.specs.Recurrence.{filled, first_spare, with_spare};
 ghost use Rattle.interval_row.specs.Changes.{span_ending};
+ghost use Rattle.interval_row.specs.Marks.{AreTimed};
 ghost use Rattle.interval_row.specs.Rows.{place_of, with_work_at, AreRows};
 
+use crate::pages::{self, Times};
 use crate::spans;
 use crate::store::Store;
 use slot_core::{Span, Steps};
@@ -19,14 +21,23 @@ pub struct FoundSpan {
     pub row: Span,
 }
 
-/// The first span that ends at `x` or later. One step for each that ends before, and one.
-pub(crate) fn find<S: Store, L: Ledger>(store: &S, x: u64, steps: &mut Steps<L>) -> FoundSpan
-    requires { place_of x (S.spans store.now) < length (S.spans store.now) }
+/// The first span that ends at `x` or later. At most one step for each that ends before, and one:
+/// those that the marks tell of are not read.
+pub(crate) fn find<S: Store, L: Ledger>(
+    store: &S,
+    times: Times,
+    x: u64,
+    steps: &mut Steps<L>,
+) -> FoundSpan
+    requires timed { AreTimed times.start times.end (S.spans store.now) (S.marks store.now) }
+    requires within { place_of x (S.spans store.now) < length (S.spans store.now) }
     ensures index { result.index ≡ place_of x (S.spans store.now) }
     ensures row { slice_get (S.spans store.now) result.index ≡ Some result.row }
-    ensures steps { steps.new ≡ steps.old + result.index + 1 }
+    ensures steps { steps.old ≤ steps.new }
+    ensures few_steps { steps.new ≤ steps.old + result.index + 1 }
 {
-    for index in 0..store.len() {
+    let front = pages::near(store, times, x);
+    for index in front.count..store.len() {
         let row = store.at(index, steps);
         if x <= row.end {
             return FoundSpan { index, row };
@@ -39,11 +50,12 @@ pub(crate) fn find<S: Store, L: Ledger>(store: &S, x: u64, steps: &mut Steps<L>)
 /// step. At most one step more than without a hint.
 pub(crate) fn find_hinted<S: Store, L: Ledger>(
     store: &S,
+    times: Times,
     hint: u32,
     x: u64,
     steps: &mut Steps<L>,
 ) -> FoundSpan
-    requires rows { AreRows (S.spans store.now) }
+    requires timed { AreTimed times.start times.end (S.spans store.now) (S.marks store.now) }
     requires within { place_of x (S.spans store.now) < length (S.spans store.now) }
     ensures index { result.index ≡ place_of x (S.spans store.now) }
     ensures row { slice_get (S.spans store.now) result.index ≡ Some result.row }
@@ -58,7 +70,7 @@ pub(crate) fn find_hinted<S: Store, L: Ledger>(
             return FoundSpan { index: hint, row };
         }
     }
-    find(store, x, steps)
+    find(store, times, x, steps)
 }
 
 /// The span at a place becomes this one, with another work and its capacity, and those before it
@@ -78,6 +90,7 @@ pub(crate) fn set_work<S: Store, L: Ledger>(
     ensures spans { S.spans store.new
         ≡ filled (with_work_at place.index row.work (S.spans store.old)) }
     ensures room { S.room store.new ≡ S.room store.old }
+    ensures marks { S.marks store.new ≡ S.marks store.old }
     ensures steps { steps.old ≤ steps.new }
     ensures few_steps { steps.new ≤ steps.old + 2 * place.index + 1 }
 {
@@ -102,13 +115,11 @@ fn raise<S: Store, L: Ledger>(store: &mut S, index: u32, more: i64, steps: &mut 
     ensures repaid { IfSome (slice_get (S.spans store.old) index) (λ s.
         result ≡ repaid s.spare (s.spare +ℤ more)) }
     ensures room { S.room store.new ≡ S.room store.old }
+    ensures marks { S.marks store.new ≡ S.marks store.old }
     ensures two_steps { steps.new ≡ steps.old + 2 }
 {
     let before = store.at(index, steps);
-    let after = Span {
-        spare: before.spare + more,
-        ..before
-    };
-    store.set(index, after, steps);
-    spans::repaid(before.spare, after.spare)
+    let spare = before.spare + more;
+    store.set_spare(index, spare, steps);
+    spans::repaid(before.spare, spare)
 }

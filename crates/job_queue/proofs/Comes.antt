@@ -4,7 +4,7 @@ use Rattle.std.specs.Prelude.{nat_le, reverse}
 use Rattle.std.specs.Cmp.Lexicographic.{slice_cmp}
 use Rattle.std.specs.List.{insert, remove}
 use Rattle.std.specs.Ordering.{ordering_reverse}
-use Rattle.std.proofs.lemmas.Bool.{cases_lt, cond-false, lt-leb}
+use Rattle.std.proofs.lemmas.Bool.{cases_lt, cond-false, false≢true, lt-leb, true_from_ne_false}
 use Rattle.std.proofs.lemmas.Cmp.{upto}
 use Rattle.std.proofs.lemmas.List.{drop_more, get_or_read, get_or-drop, get_or-reverse, length-drop, length-reverse}
 use Rattle.std.proofs.lemmas.List.Edits.{length-insert, length-remove, get_or-insert_at, get_or-insert_above, get_or-insert_below, get_or-remove_below, get_or-remove_above}
@@ -37,6 +37,18 @@ get_or-insert_past : (jobs : List Job) (p k : ℕ) (job d : Job) → p < k → p
 get_or-insert_past jobs p k job d past inside =
     let back : k - 1 + 1 ≡ k = omega arith in
     ap (λ n. get_or (insert jobs p job) n d) (sym back) ∙ get_or-insert_above jobs p job d (k - 1) (omega arith) inside
+
+-- where one of them goes before a job, so does each that stands behind it
+pub is_earlier-behind : (jobs : List Job) (m i : ℕ) (x job d : Job) → IsEarliestLast jobs → m < length jobs → x ≡ get_or jobs m x → is_earlier x job ≡ true → m ≤ i → i < length jobs → is_earlier (get_or jobs i d) job ≡ true
+is_earlier-behind jobs m i x job d ordered inside is earlier from below =
+    let there = ap (λ j. is_earlier j job) (sym (get_or_read jobs m x inside is d)) ∙ earlier in
+    elim (cases_lt m i) [
+      | inl above ↦
+          true_from_ne_false (is_earlier (get_or jobs i d) job) (λ fails. false≢true (sym (not_earlier-trans (get_or jobs m d) (get_or jobs i d) job (ordered m i d above below) fails) ∙ there))
+      | inr upto_m ↦
+          let same : i ≡ m = omega arith in
+          ap (λ k. is_earlier (get_or jobs k d) job) same ∙ there
+    ]
 
 -- a job put at its place
 pub IsEarliestLast-insert : (jobs : List Job) (p : ℕ) (job : Job) → p ≤ length jobs → IsEarliestLast jobs → ((i : ℕ) (d : Job) → p ≤ i → i < length jobs → is_earlier (get_or jobs i d) job ≡ true) → ((d : Job) → 1 ≤ p → is_earlier (get_or jobs (p - 1) d) job ≡ false) → IsEarliestLast (insert jobs p job)

@@ -37,7 +37,7 @@ IsQueue-same n xs ys same queue =
     }
 
 -- a sum over the jobs that have come, looked at from the last
-sum_by-reverse : (f : Job → ℕ) (jobs : List Job) → sum_by f (reverse jobs) ≡ sum_by f jobs
+pub sum_by-reverse : (f : Job → ℕ) (jobs : List Job) → sum_by f (reverse jobs) ≡ sum_by f jobs
 sum_by-reverse f jobs = sum_by-IsPermutation f jobs (reverse jobs) (IsPermutation-reverse jobs)
 
 -- a sum over three parts
@@ -304,7 +304,7 @@ IsGone-listed n i k places old kept inside past further rest stays =
     }
 
 -- a run at a place leaves sums over the keys
-sum_by-after_run_at : (f : Key → ℕ) (i : ℕ) (jobs : List Job) → sum_by (λ (j : Job). f j.key) (after_run_at i jobs) ≡ sum_by (λ (j : Job). f j.key) jobs
+pub sum_by-after_run_at : (f : Key → ℕ) (i : ℕ) (jobs : List Job) → sum_by (λ (j : Job). f j.key) (after_run_at i jobs) ≡ sum_by (λ (j : Job). f j.key) jobs
 sum_by-after_run_at f i [] = refl
 sum_by-after_run_at f zero (j ∷ jobs) =
     let g = λ (o : Job). f o.key in

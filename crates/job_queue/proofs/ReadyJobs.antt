@@ -1,18 +1,14 @@
 -- The ready jobs of a queue, by how far it was looked at.
 use Rattle.std.proofs.Common.{◌≡◌, ℕ, zero, suc, ◌+◌, ◌-◌, ◌<◌, ◌≤◌, true, false, cond, List, [], ◌∷◌, ◌++◌, length, take, drop, get_or, Some, None, refl, sym, ap, ◌∙◌, subst, arith}
 use Rattle.std.specs.Prelude.{find, nat_le}
-use Rattle.std.specs.List.{position_or_len}
 use Rattle.std.specs.List.Sorted.{IsNonDecreasingBy}
 use Rattle.std.proofs.lemmas.Bool.{cond-true, cond-false, le-leb, lt-leb}
-use Rattle.std.proofs.lemmas.List.{append-nil, take-append-drop, length-append, length-take, length-drop, get_or-drop, get_or-append_right, get_or_read, drop_more}
+use Rattle.std.proofs.lemmas.List.{append-nil, take-append-drop, length-append, length-drop, get_or-drop, get_or-append_right, get_or_read, drop_more}
 use Rattle.std.proofs.lemmas.List.Elements.{filter-append, filter_more}
 use Rattle.std.proofs.lemmas.List.Folds.{find-append}
-use Rattle.std.proofs.lemmas.List.Sums.{length-filter, count_by-le-length}
 use Rattle.slot_core.specs.declared.jobs.Key.{Key}
 use Rattle.slot_core.specs.declared.jobs.Job.{Job}
 use Rattle.slot_core.specs.Runs.Choice.{ready}
-use Rattle.slot_facts.proofs.Sets.Faults.{cond-None}
-use Rattle.job_queue.specs.Queues.{search_steps}
 use Rattle.job_queue.proofs.Searches.{has_key}
 
 -- the ready jobs among one more job
@@ -72,32 +68,9 @@ ready-rest now beside listed jobs m i x parts ordered long past inside is later 
     ap (ready now) (sym (take-append-drop i all)) ∙ (split ∙ (ap (λ js. ready now (take i all) ++ js) none ∙ append-nil (ready now (take i all)))) in
     subst (λ js. ready now js ≡ ready now (take i js)) parts whole
 
--- no more are ready than there are
-pub ready-le-length : (now : ℕ) (jobs : List Job) → length (ready now jobs) ≤ length jobs
-ready-le-length now jobs =
-    let may = λ (j : Job). nat_le j.est now in
-    omega (arith, length-filter may jobs, count_by-le-length may jobs)
-
--- nor among so many of the first
-pub ready-le-place : (now : ℕ) (jobs : List Job) (i : ℕ) → length (ready now (take i jobs)) ≤ i
-ready-le-place now jobs i =
-    omega (arith, ready-le-length now (take i jobs), length-take i jobs)
-
--- the first job of the key after some of other keys
-position-after : (key : Key) (us : List Job) (x : Job) (vs : List Job) → find (has_key key) us ≡ None → has_key key x ≡ true → position_or_len (has_key key) (us ++ x ∷ vs) ≡ length us
-position-after key [] x vs none here = rw here refl
-position-after key (u ∷ us) x vs none here =
-    let parts = cond-None (has_key key u) u (find (has_key key) us) none in
-    rw parts.0 (omega (arith, position-after key us x vs parts.1 here))
-
--- what is found among the ready jobs, and how many of them are looked at up to it
-pub record IsFound (now : ℕ) (key : Key) (jobs : List Job) (i : ℕ) (x : Job) : Type 0 where
-  pub is : find (has_key key) (ready now jobs) ≡ Some x
-  pub few : search_steps key (ready now jobs) ≤ i + 1
-
--- so it is where a ready job of the key stands after ready jobs of other keys
-pub IsFound-from_place : (now : ℕ) (key : Key) (jobs : List Job) (i : ℕ) (x : Job) → i < length jobs → x ≡ get_or jobs i x → x.est ≤ now → has_key key x ≡ true → find (has_key key) (ready now (take i jobs)) ≡ None → IsFound now key jobs i x
-IsFound-from_place now key jobs i x inside is starts here none =
+-- a ready job of the key that stands after ready jobs of other keys is what is found
+pub find-place : (now : ℕ) (key : Key) (jobs : List Job) (i : ℕ) (x : Job) → i < length jobs → x ≡ get_or jobs i x → x.est ≤ now → has_key key x ≡ true → find (has_key key) (ready now (take i jobs)) ≡ None → find (has_key key) (ready now jobs) ≡ Some x
+find-place now key jobs i x inside is starts here none =
     let may = λ (j : Job). nat_le j.est now in
     let before = ready now (take i jobs) in
     let after = ready now (drop (i + 1) jobs) in
@@ -107,12 +80,7 @@ IsFound-from_place now key jobs i x inside is starts here none =
     ap (ready now) (sym (take-append-drop i jobs)) ∙ (filter-append may (take i jobs) (drop i jobs) ∙ ap (λ js. before ++ js) (ap (ready now) rest ∙ kept)) in
     let found : find (has_key key) (x ∷ after) ≡ Some x =
     cond-true (has_key key x) (Some x) (find (has_key key) after) here in
-    record {
-      is = rw parts (find-append (has_key key) before (x ∷ after) ∙ rw none found);
-      few = rw
-          parts
-          (omega (arith, position-after key before x after none here, ready-le-place now jobs i));
-    }
+    rw parts (find-append (has_key key) before (x ∷ after) ∙ rw none found)
 
 -- nothing is found where neither those before a place nor the one at it have the key
 pub find-take_now : (now : ℕ) (key : Key) (jobs : List Job) (i : ℕ) (x : Job) → i < length jobs → x ≡ get_or jobs i x → x.est ≤ now → has_key key x ≡ false → find (has_key key) (ready now (take i jobs)) ≡ None → find (has_key key) (ready now (take (i + 1) jobs)) ≡ None

@@ -1,11 +1,13 @@
 -- What a queue of jobs is, and what a search in it looks at.
-use Rattle.std.specs.Prelude.{◌≡◌, ℕ, zero, suc, ◌+◌, ◌-◌, ◌<◌, ◌≤◌, ◌^◌, false, List, [], ◌∷◌, ◌++◌, length, min, reverse, slice_index_or, All}
+use Rattle.std.specs.Prelude.{◌≡◌, ℕ, zero, suc, ◌+◌, ◌-◌, ◌<◌, ◌≤◌, ◌^◌, false, List, [], ◌∷◌, ◌++◌, find, length, min, reverse, slice_index_or, All, Option, Some}
+use Rattle.std.specs.Option.{option_map}
 use Rattle.std.specs.List.{position_or_len}
 use Rattle.std.specs.List.Sorted.{IsNonDecreasingBy}
 use Rattle.slot_core.specs.declared.jobs.Key.{Key}
 use Rattle.slot_core.specs.declared.jobs.Job.{Job}
 use Rattle.slot_core.specs.Offline.Keys.{is_earlier, same_key, is_soft}
 use Rattle.slot_core.specs.Keeping.Kept.{AreApart}
+use Rattle.slot_core.specs.Runs.Choice.{ready}
 
 -- what contracts see of a queue: its jobs, and how many it has places for
 pub record QueueParts : Type 0 where
@@ -42,6 +44,13 @@ pub record KeepsQueue
 abbrev pub search_steps : Key → List Job → ℕ
 search_steps key jobs =
     min (position_or_len (λ (j : Job). same_key j.key key) jobs + 1) (length jobs)
+
+-- the place of the job of this key, where it may start by `now`; none where no such job has it
+pub record IsReadyPlace (now : ℕ) (key : Key) (jobs : List Job) (place : Option ℕ) : Type 0 where
+  pub job :
+      (d : Job) → find (λ (j : Job). same_key j.key key) (ready now jobs)
+      ≡ option_map (λ (i : ℕ). slice_index_or jobs i d) place
+  pub within : (i : ℕ) → place ≡ Some i → i < length jobs
 
 -- the jobs, where the one at this place has run one slot
 abbrev pub after_run_at : ℕ → List Job → List Job

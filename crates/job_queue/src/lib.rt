@@ -6,6 +6,7 @@
 //! is found without a walk through the others or through the jobs of later cycles.
 #![tactic(auto)]
 
+mod marked;
 mod order;
 pub mod queue;
 

@@ -1,15 +1,16 @@
 //! A queue of jobs in three parts.
 
-ghost use Rattle.std.specs.Prelude.{◌≡◌, ℕ, ◌+◌, ◌-◌, ◌<◌, ◌≤◌, ◌^◌, [], ◌∷◌, ◌++◌, false, true, not, filter, find, fold, length, count_by, position, remove, reverse, slice_get, slice_index_or, vec_capacity, None, Some, IfOk, IsTrue};
+ghost use Rattle.std.specs.Prelude.{◌≡◌, ℕ, ◌+◌, ◌-◌, ◌<◌, ◌≤◌, ◌^◌, ◌&&◌, [], ◌∷◌, ◌++◌, false, true, nat_le, not, filter, find, fold, length, count_by, position, remove, reverse, slice_get, slice_index_or, None, Some, IfOk, IsTrue};
 ghost use Rattle.std.specs.List.Sorted.{IsNonDecreasingBy};
-ghost use Rattle.std.specs.Option.{option_copied, option_map};
+ghost use Rattle.std.specs.Option.{option_copied};
 ghost use Rattle.slot_core.specs.declared.jobs.Job.{Job};
 ghost use Rattle.slot_core.specs.Offline.Keys.{is_earlier, is_soft, same_key};
 ghost use Rattle.slot_core.specs.Runs.Choice.{earlier_of, earliest, ready};
 ghost use Rattle.slot_core.specs.Runs.Matches.{HaveSameItems};
 ghost use Rattle.slot_core.specs.Claims.Safety.{after_run};
-ghost use Rattle.job_queue.specs.Queues.{IsEarliestLast, IsQueue, after_run_at, search_steps};
+ghost use Rattle.job_queue.specs.Queues.{IsEarliestLast, IsQueue, IsReadyPlace, after_run_at, search_steps};
 
+use crate::marked::MarkedJobs;
 use crate::order::{earlier_of, is_earlier, is_same_key};
 use slot_core::{Job, Key, Memory, Steps};
 use std::alloc::Global;
@@ -26,11 +27,13 @@ use std::sync::ledger::Ledger;
 /// in each part when the queue is made, so no later call takes memory.
 ///
 /// A step is a job that is looked at. A search for a key looks at the jobs beside first, then at
-/// those that have come and at the listed ones from the front, and stops at the job of that key.
+/// those that have come and at the listed ones from the front, and stops at the job of that key. A
+/// search among the jobs that may start passes those that have come where none has the mark of the
+/// key: a small number that each of them is counted by.
 #[derive(Drop)]
 pub struct JobQueue {
     beside: Vec<Job>,
-    come: Vec<Job>,
+    come: MarkedJobs,
     listed: VecDeque<Job>,
     capacity: u32,
 }
@@ -48,7 +51,7 @@ impl Model for JobQueue {
     } };
 
     ghost invariant = { λ q. KeepsQueue q.beside.items q.come.items q.listed.items q.capacity
-        (vec_capacity q.beside) (vec_capacity q.come) (deque_capacity q.listed) };
+        (vec_capacity q.beside) q.come.places (deque_capacity q.listed) };
 }
 
 impl JobQueue {
@@ -60,7 +63,7 @@ impl JobQueue {
     {
         Ok(JobQueue {
             beside: Vec::with_capacity(alloc, n as usize)?,
-            come: Vec::with_capacity(alloc, n as usize)?,
+            come: MarkedJobs::with_capacity(alloc, n as usize)?,
             listed: VecDeque::with_capacity(alloc, n as usize)?,
             capacity: n,
         })
@@ -169,7 +172,7 @@ impl JobQueue {
         ensures few_steps { steps.new ≤ steps.old + length self.now.jobs }
     {
         let best = earliest_of(&self.beside, now, steps);
-        let best = earliest_come(best, &self.come, now, steps);
+        let best = earliest_come(best, self.come.jobs(), now, steps);
         earliest_listed(best, &self.listed, now, steps).copied()
     }
 
@@ -184,11 +187,11 @@ impl JobQueue {
     }
 
     /// The job of this key, where it may start by `now`. None exactly where no such job has it. One
-    /// step a job looked at: those beside, those that have come, and the listed ones up to the
-    /// first that starts later.
+    /// step a job looked at: those beside, those that have come where one of them has the mark of
+    /// the key, and the listed ones up to the first that starts later.
     pub fn find_ready<L: Ledger>(&self, now: u64, key: Key, steps: &mut Steps<L>) -> Option<Job>
         ensures job { result ≡ find (λ j. same_key j.key key) (ready now self.now.jobs) }
-        ensures steps { steps.old + search_steps key (ready now self.now.jobs) ≤ steps.new }
+        ensures steps { steps.old ≤ steps.new }
         ensures few_steps { steps.new ≤ steps.old + length self.now.jobs }
     {
         let place = self.place_ready(now, key, steps)?;
@@ -229,8 +232,8 @@ impl JobQueue {
     }
 
     /// Removes the job of this key, where it may start by `now`, and returns it. None exactly where
-    /// no such job has it. One step a job looked at: those beside, those that have come, and the
-    /// listed ones up to the first that starts later.
+    /// no such job has it. One step a job looked at: those beside, those that have come where one
+    /// of them has the mark of the key, and the listed ones up to the first that starts later.
     pub fn take_ready<L: Ledger>(&mut self, now: u64, key: Key, steps: &mut Steps<L>) -> Option<Job>
         ensures job { result ≡ find (λ j. same_key j.key key) (ready now self.old.jobs) }
         ensures jobs { (job : Job) → result ≡ Some job → HaveSameItems self.new.jobs
@@ -247,25 +250,20 @@ impl JobQueue {
     /// The place of the job of this key, where it may start by `now`. This call also tells what
     /// every queue is.
     fn place_ready<L: Ledger>(&self, now: u64, key: Key, steps: &mut Steps<L>) -> Option<usize>
-        ensures job { (d : Job) → find (λ j. same_key j.key key) (ready now self.now.jobs)
-            ≡ option_map (λ place. slice_index_or self.now.jobs place d) result }
-        ensures within { (place : ℕ) → result ≡ Some place → place < length self.now.jobs }
+        ensures place { IsReadyPlace now key self.now.jobs result }
         ensures queue { IsQueue self.now }
-        ensures steps { steps.old + search_steps key (ready now self.now.jobs) ≤ steps.new }
+        ensures steps { steps.old ≤ steps.new }
         ensures few_steps { steps.new ≤ steps.old + length self.now.jobs }
     {
-        for place in 0..self.len() as usize {
-            let job = self.job(place);
-            steps.tick();
-            if job.est <= now {
-                if is_same_key(job.key, key) {
-                    return Some(place);
-                }
-            } else if self.beside.len() + self.come.len() <= place {
-                break;
-            }
+        if let Some(place) = place_beside(&self.beside, now, key, steps) {
+            return Some(place);
         }
-        None
+        let beside = self.beside.len();
+        if let Some(place) = place_come(&self.come, now, key, steps) {
+            return Some(beside + place);
+        }
+        let place = place_listed(&self.listed, now, key, steps)?;
+        Some(beside + self.come.len() + place)
     }
 
     /// The place of the job of this key. This call also tells what every queue is.
@@ -294,7 +292,7 @@ impl JobQueue {
         }
         let come = self.come.len();
         if place - beside < come {
-            from_end(&self.come, place - beside)
+            from_end(self.come.jobs(), place - beside)
         } else {
             &self.listed[place - beside - come]
         }
@@ -314,7 +312,7 @@ impl JobQueue {
         }
         let come = self.come.len();
         if place - beside < come {
-            self.come[come - 1 - (place - beside)].left -= 1;
+            self.come.run(come - 1 - (place - beside));
         } else {
             self.listed[place - beside - come].left -= 1;
         }
@@ -364,24 +362,115 @@ fn earliest_of<'a, L: Ledger>(jobs: &'a [Job], now: u64, steps: &mut Steps<L>) -
     best
 }
 
-/// Puts the job among these, of which the one that earliest deadline first takes first stands last.
-/// One step a job looked at.
-fn put_in_order<L: Ledger>(come: &mut Vec<Job>, job: Job, steps: &mut Steps<L>)
-    requires order { IsEarliestLast come.old.items }
-    requires place { length come.old.items < vec_capacity come.old }
-    ensures jobs { HaveSameItems come.new.items (come.old.items ++ job ∷ []) }
-    ensures order { IsEarliestLast come.new.items }
-    ensures places { vec_capacity come.old ≤ vec_capacity come.new }
+/// The place of the job of this key among these, where it may start by `now`. One step a job looked
+/// at.
+fn place_beside<L: Ledger>(jobs: &[Job], now: u64, key: Key, steps: &mut Steps<L>) -> Option<usize>
+    ensures place { IsReadyPlace now key jobs.now result }
     ensures steps { steps.old ≤ steps.new }
+    ensures few_steps { steps.new ≤ steps.old + length jobs.now }
 {
-    let place = place_in_order(come, &job, steps);
-    // There is a place for it.
-    let _ = come.insert(place, job);
+    for place in 0..jobs.len() {
+        let job = &jobs[place];
+        steps.tick();
+        if is_ready(job, now, key) {
+            return Some(place);
+        }
+    }
+    None
 }
 
-/// The place of the job among these: it goes before the one that stands there then, and not before
-/// the next. One step a job looked at.
+/// The same among those that have come, counted from the last. None is looked at where none has the
+/// mark of the key.
+fn place_come<L: Ledger>(
+    come: &MarkedJobs,
+    now: u64,
+    key: Key,
+    steps: &mut Steps<L>,
+) -> Option<usize>
+    ensures place { IsReadyPlace now key (reverse come.now.items) result }
+    ensures steps { steps.old ≤ steps.new }
+    ensures few_steps { steps.new ≤ steps.old + length come.now.items }
+{
+    if come.may_have(key) {
+        place_from_end(come.jobs(), now, key, steps)
+    } else {
+        None
+    }
+}
+
+/// The same among these, counted from the last.
+fn place_from_end<L: Ledger>(
+    jobs: &[Job],
+    now: u64,
+    key: Key,
+    steps: &mut Steps<L>,
+) -> Option<usize>
+    ensures place { IsReadyPlace now key (reverse jobs.now) result }
+    ensures steps { steps.old ≤ steps.new }
+    ensures few_steps { steps.new ≤ steps.old + length jobs.now }
+{
+    for place in 0..jobs.len() {
+        let job = from_end(jobs, place);
+        steps.tick();
+        if is_ready(job, now, key) {
+            return Some(place);
+        }
+    }
+    None
+}
+
+/// The same among these, which stand in order of start: they are looked at up to the first that
+/// starts later.
+fn place_listed<L: Ledger>(
+    listed: &VecDeque<Job>,
+    now: u64,
+    key: Key,
+    steps: &mut Steps<L>,
+) -> Option<usize>
+    requires { IsNonDecreasingBy (λ j. j.est) listed.now.items }
+    ensures place { IsReadyPlace now key listed.now.items result }
+    ensures steps { steps.old ≤ steps.new }
+    ensures few_steps { steps.new ≤ steps.old + length listed.now.items }
+{
+    for place in 0..listed.len() {
+        let job = &listed[place];
+        steps.tick();
+        if now < job.est {
+            return None;
+        }
+        if is_same_key(job.key, key) {
+            return Some(place);
+        }
+    }
+    None
+}
+
+/// Whether the job has this key, and may start by `now`.
+fn is_ready(job: &Job, now: u64, key: Key) -> bool
+    ensures { result ≡ (same_key job.now.key key && nat_le job.now.est now) }
+{
+    is_same_key(job.key, key) && job.est <= now
+}
+
+/// Puts the job among these, of which the one that earliest deadline first takes first stands last.
+/// One step a job looked at.
+fn put_in_order<L: Ledger>(come: &mut MarkedJobs, job: Job, steps: &mut Steps<L>)
+    requires order { IsEarliestLast come.old.items }
+    requires place { length come.old.items < come.old.places }
+    ensures jobs { HaveSameItems come.new.items (come.old.items ++ job ∷ []) }
+    ensures order { IsEarliestLast come.new.items }
+    ensures places { come.old.places ≤ come.new.places }
+    ensures steps { steps.old ≤ steps.new }
+{
+    let place = place_in_order(come.jobs(), &job, steps);
+    come.insert(place, job);
+}
+
+/// The place of the job among these, of which the one that earliest deadline first takes first
+/// stands last: it goes before the one that stands there then, and not before the next. The search
+/// halves them. One step a job looked at.
 fn place_in_order<L: Ledger>(come: &[Job], job: &Job, steps: &mut Steps<L>) -> usize
+    requires order { IsEarliestLast come.now }
     ensures within { result ≤ length come.now }
     ensures behind { (i : ℕ) (d : Job) → result ≤ i → i < length come.now
         → is_earlier (slice_index_or come.now i d) job.now ≡ true }
@@ -389,14 +478,18 @@ fn place_in_order<L: Ledger>(come: &[Job], job: &Job, steps: &mut Steps<L>) -> u
         → is_earlier (slice_index_or come.now (result - 1) d) job.now ≡ false }
     ensures steps { steps.old ≤ steps.new }
 {
-    for behind in 0..come.len() {
-        let place = come.len() - behind;
+    let mut low = 0;
+    let mut high = come.len();
+    while low < high {
+        let middle = low + (high - low) / 2;
         steps.tick();
-        if !is_earlier(&come[place - 1], job) {
-            return place;
+        if is_earlier(&come[middle], job) {
+            high = middle;
+        } else {
+            low = middle + 1;
         }
     }
-    0
+    low
 }
 
 /// The one of this job and these, of which the one that earliest deadline first takes first stands

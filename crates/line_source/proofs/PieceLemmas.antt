@@ -1,10 +1,10 @@
 -- What is heard of an input by its bytes before a line feed.
-use Rattle.std.proofs.Common.{◌≡◌, ◌≢◌, ◌<◌, ◌≤◌, ◌+◌, ◌-◌, ℕ, false, List, [], ◌∷◌, ◌++◌, All, length, length-append, take, take_all, nat_le, nat_lt, Option, Some, None, refl, sym, ap, ◌∙◌, inl, inr, arith, ne_eqb}
+use Rattle.std.proofs.Common.{◌≡◌, ◌≢◌, ◌<◌, ◌≤◌, ◌+◌, ◌-◌, ℕ, false, List, [], ◌∷◌, ◌++◌, length, length-append, take, take_all, nat_le, nat_lt, Option, Some, None, refl, sym, ap, ◌∙◌, inl, inr, arith, ne_eqb}
 use Rattle.std.specs.Prelude.{if◌then◌else◌}
 use Rattle.std.specs.Io.BufRead.{drop_through, first_piece, strip_last, take_through}
-use Rattle.std.specs.Io.KnownBytes.{Consumes}
+use Rattle.std.specs.Io.KnownBytes.{Consumes, Keeps}
 use Rattle.std.proofs.BufReadLemmas.{drop_through-append, take_through-append}
-use Rattle.std.proofs.KnownBytes.{Consumes-nil, Consumes-trans}
+use Rattle.std.proofs.KnownBytes.{Consumes-kept, Consumes-nil, Consumes-trans}
 use Rattle.std.proofs.Math.Seq.{get_or-append_seam, take-append_seam}
 use Rattle.std.proofs.lemmas.Bool.{cases_Bool, cases_lt, le-leb, lt-ltb, ltb-true, leb-true}
 use Rattle.std.proofs.lemmas.List.{take-append-le, append-nil}
@@ -12,11 +12,7 @@ use Rattle.std.proofs.lemmas.List.Elements.{All-nil, All-push}
 use Rattle.line_source.specs.declared.TheConstants.{LINE_LIMIT}
 use Rattle.line_source.specs.declared.source.Given.{Given}
 use Rattle.line_source.specs.declared.source.Given.TheVariants.{Line, TooLong, NoMore}
-use Rattle.line_source.specs.Lines.{line, too_long, ended, extended, extended_line, heard, heard_first, within_limit, GivesByte, GivesOne}
-
--- no byte is a line feed
-abbrev pub IsPlain : List ℕ → Type 0
-IsPlain bytes = All (λ b. b ≢ 10) bytes
+use Rattle.line_source.specs.Lines.{line, too_long, ended, extended, extended_line, heard, heard_first, within_limit, GivesByte, GivesOne, IsPlain, LosesFront}
 
 -- a byte at the end is taken away
 strip_last-byte : (front : List ℕ) → strip_last 10 (front ++ 10 ∷ []) ≡ front
@@ -177,6 +173,12 @@ HasFront-byte before now after given kept byte h other lost = record {
   is = rw (h.is, h.most) (pushed h.front byte).0;
   most = rw (h.is, h.most) (pushed h.front byte).1;
 }
+
+-- where nothing more is read
+pub LosesFront-kept : (before now after : Option (List ℕ)) (given : Given) (kept : List ℕ)
+    → HasFront before now given kept → Keeps now after → LosesFront before after
+LosesFront-kept before now after given kept h same =
+    (h.front, Consumes-kept before now after h.front h.lost same, h.plain)
 
 -- at the end of the bytes
 pub GivesOne-at_end : (before now after : Option (List ℕ)) (given : Given) (kept : List ℕ)

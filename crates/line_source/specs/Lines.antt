@@ -1,5 +1,5 @@
 -- The lines of an input.
-use Rattle.std.specs.Prelude.{◌≡◌, ℕ, List, [], ◌∷◌, ◌++◌, length, nat_le, nat_lt, if◌then◌else◌, Option, None, Some, IfSome}
+use Rattle.std.specs.Prelude.{◌≡◌, ◌≢◌, ℕ, List, [], ◌∷◌, ◌++◌, All, length, nat_le, nat_lt, if◌then◌else◌, Option, None, Some, IfSome}
 use Rattle.std.specs.Io.BufRead.{first_piece, drop_through}
 use Rattle.std.specs.Io.KnownBytes.{Consumes, IsAtEnd}
 use Rattle.line_source.specs.declared.TheConstants.{LINE_LIMIT}
@@ -43,6 +43,14 @@ Gives before after (h ∷ hs) =
 abbrev pub GivesByte : Option (List ℕ) → Option ℕ → Option (List ℕ) → Type 0
 GivesByte before None after = IsAtEnd before × Consumes before after []
 GivesByte before (Some byte) after = Consumes before after (byte ∷ [])
+
+-- no byte is a line feed
+abbrev pub IsPlain : List ℕ → Type 0
+IsPlain bytes = All (λ b. b ≢ 10) bytes
+
+-- known bytes lose a front part in which no line ends
+abbrev pub LosesFront : Option (List ℕ) → Option (List ℕ) → Type 0
+LosesFront before after = (front : List ℕ) × Consumes before after front × IsPlain front
 
 -- what a line that has ended is, where it was this before its line feed
 abbrev pub ended : Given → Given

@@ -1,7 +1,8 @@
 //! The lines of a reader.
 
 ghost use Rattle.std.specs.Prelude.{◌≡◌, ℕ, ◌≤◌, [], OnErr, IfOk, IfSome, Option, List};
-ghost use Rattle.line_source.specs.Lines.{ended, extended, extended_line, heard, GivesByte, GivesOne};
+ghost use Rattle.std.specs.Io.KnownBytes.{Keeps};
+ghost use Rattle.line_source.specs.Lines.{ended, extended, extended_line, heard, GivesByte, GivesOne, LosesFront};
 
 use crate::LINE_LIMIT;
 use crate::source::{Given, LineSource};
@@ -34,11 +35,14 @@ impl<R> InputLines<R> {
 
 impl<R: Read> LineSource for InputLines<R> {
     ghost use Rattle.std.specs.Prelude.{refl};
-    ghost use Rattle.line_source.specs.Lines.{Gives};
+    ghost use Rattle.line_source.specs.Lines.{Gives, LosesFront};
     ghost use Rattle.line_source.specs.LineLaws.{gives-more};
 
     // The bytes that the reader has left, where they are known, lose those of the lines.
     ghost gave = { λ a b hs. Gives (R.remaining a.reader) (R.remaining b.reader) hs };
+
+    // They lose a front part of the line at hand where a read fails.
+    ghost broke = { λ a b. LosesFront (R.remaining a.reader) (R.remaining b.reader) };
 
     ghost last = { λ s. s.line.items };
 
@@ -73,10 +77,11 @@ impl<R: Read> LineSource for InputLines<R> {
 /// Reads the next line into this one, up to its line feed or the end. A line that is too long is
 /// read to its end, too.
 fn read_line<R: Read>(reader: &mut R, line: &mut ArrayVec<u8, LINE_LIMIT>) -> Result<Given, Failed>
-    ensures { IfOk result (λ given. GivesOne
+    ensures gives { IfOk result (λ given. GivesOne
         (R.remaining reader.old)
         (R.remaining reader.new)
         (heard given line.new.items)) }
+    ensures broken { OnErr result (LosesFront (R.remaining reader.old) (R.remaining reader.new)) }
 {
     line.clear();
     let mut given = Given::NoMore;
@@ -93,8 +98,9 @@ fn read_line<R: Read>(reader: &mut R, line: &mut ArrayVec<u8, LINE_LIMIT>) -> Re
 /// The next byte, or None at the end. As the standard library's own loops do, it tries again where
 /// a signal interrupts the read.
 fn next_byte<R: Read>(reader: &mut R) -> Result<Option<u8>, Failed>
-    ensures { IfOk result
+    ensures gives { IfOk result
         (λ byte. GivesByte (R.remaining reader.old) byte (R.remaining reader.new)) }
+    ensures kept { OnErr result (Keeps (R.remaining reader.old) (R.remaining reader.new)) }
 {
     let mut one = [0; 1];
     for _turn in 0..u64::MAX {

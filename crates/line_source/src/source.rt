@@ -29,11 +29,16 @@ pub trait LineSource {
     /// How many reads failed, up to the last value of a `u64`.
     ghost faults: { Self → ℕ };
 
+    /// The second value is what the first becomes where a read fails: no line is given, and none is
+    /// lost but the next one.
+    ghost broke: { Self → Self → Type 0 };
+
     /// Gives what comes next: a line, or that there are no more. After Failed nothing is told of
-    /// what was read.
+    /// what was read of that line.
     fn next(&mut self) -> Result<Given, Failed>
         ensures gives { IfOk result
             (λ next. gave self.old self.new (heard next (last self.new) ∷ [])) }
+        ensures broken { OnErr result (broke self.old self.new) }
         ensures counted { faults self.old ≤ faults self.new }
         ensures failed { OnErr result (Rose (faults self.old) (faults self.new)) };
 

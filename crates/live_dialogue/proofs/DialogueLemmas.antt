@@ -153,13 +153,13 @@ turn-history set cycle heards heard a is =
     ∙ sym (history_heard-append set cycle started heards (heard ∷ []))
 
 -- a dialogue that is cut off by a put that failed is broken so: in its first line
-pub IsBroken-at_start : {S : Type 0} (Gave : S → S → List Heard → Type 0) (misread : S → ℕ) (set : TaskSet) (cycle : ℕ) (fault : DialogueFault) (from to : S) (before after : Seen) → IsCutAtStart set cycle (Gave from to) fault before after → IsBroken Gave misread set cycle fault from to before after
-IsBroken-at_start Gave misread set cycle Input from to before after cut = absurd cut.part.breaks
-IsBroken-at_start Gave misread set cycle RecordFault from to before after cut = inl cut
-IsBroken-at_start Gave misread set cycle Output from to before after cut = inl cut
+pub IsBroken-at_start : {S : Type 0} (Gave : S → S → List Heard → Type 0) (Broke : S → S → Type 0) (misread : S → ℕ) (set : TaskSet) (cycle : ℕ) (fault : DialogueFault) (from to : S) (before after : Seen) → IsCutAtStart set cycle (Gave from to) fault before after → IsBroken Gave Broke misread set cycle fault from to before after
+IsBroken-at_start Gave Broke misread set cycle Input from to before after cut = absurd cut.part.breaks
+IsBroken-at_start Gave Broke misread set cycle RecordFault from to before after cut = inl cut
+IsBroken-at_start Gave Broke misread set cycle Output from to before after cut = inl cut
 
 -- or in an answer
-pub IsBroken-in_answer : {S : Type 0} (Gave : S → S → List Heard → Type 0) (misread : S → ℕ) (set : TaskSet) (cycle : ℕ) (fault : DialogueFault) (from to : S) (before after : Seen) → IsCutInAnswer set cycle (Gave from to) fault before after → IsBroken Gave misread set cycle fault from to before after
-IsBroken-in_answer Gave misread set cycle Input from to before after cut = absurd cut.part.breaks
-IsBroken-in_answer Gave misread set cycle RecordFault from to before after cut = inr cut
-IsBroken-in_answer Gave misread set cycle Output from to before after cut = inr cut
+pub IsBroken-in_answer : {S : Type 0} (Gave : S → S → List Heard → Type 0) (Broke : S → S → Type 0) (misread : S → ℕ) (set : TaskSet) (cycle : ℕ) (fault : DialogueFault) (from to : S) (before after : Seen) → IsCutInAnswer set cycle (Gave from to) fault before after → IsBroken Gave Broke misread set cycle fault from to before after
+IsBroken-in_answer Gave Broke misread set cycle Input from to before after cut = absurd cut.part.breaks
+IsBroken-in_answer Gave Broke misread set cycle RecordFault from to before after cut = inr cut
+IsBroken-in_answer Gave Broke misread set cycle Output from to before after cut = inr cut

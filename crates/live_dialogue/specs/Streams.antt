@@ -123,7 +123,7 @@ pub record IsDialogue (set : TaskSet) (cycle : ℕ) (Gave : List Heard → Type 
   pub over : IsOver set heards
   pub put : ArePut before after (dialogue_texts set cycle heards)
 
--- a dialogue is left: all that was heard is answered, and the end was not asked for
+-- a dialogue is left: all that the source gave is answered, and the end was not asked for
 pub record IsLeft (set : TaskSet) (cycle : ℕ) (Gave : List Heard → Type 0) (before after : Seen)
     : Type 0 where
   pub heards : List Heard
@@ -155,13 +155,27 @@ pub record IsCutInAnswer (set : TaskSet) (cycle : ℕ) (Gave : List Heard → Ty
   pub put : ArePut before between (dialogue_texts set cycle first)
   pub part : ArePutInPart fault between after (last_texts set cycle first last)
 
+-- a read failed after the last that was heard, which is counted
+pub record IsMisread {S : Type 0} (Broke : S → S → Type 0) (misread : S → ℕ) (from between to : S)
+    : Type 0 where
+  pub broke : Broke between to
+  pub failed : Rose (misread from) (misread to)
+
+-- why a dialogue is left: a read failed after what was heard, or as many lines came as can be
+-- counted
+abbrev pub IsCauseToLeave : {S : Type 0} → (S → S → Type 0) → (S → ℕ) → S → S → S → List Heard
+    → Type 0
+IsCauseToLeave Broke misread from between to heards =
+    IsMisread Broke misread from between to
+    ⊎ ((length heards ≡ 2 ^ 64 - 1) × (to ≡ between))
+
 -- how a dialogue ends before the end is asked for: it is left where a read failed, or where as many
 -- lines came as can be counted, and cut off where a put failed
-abbrev pub IsBroken : {S : Type 0} → (S → S → List Heard → Type 0) → (S → ℕ) → TaskSet → ℕ
-    → DialogueFault → S → S → Seen → Seen → Type 0
-IsBroken {S} Gave misread set cycle Input from to before after =
+abbrev pub IsBroken : {S : Type 0} → (S → S → List Heard → Type 0) → (S → S → Type 0) → (S → ℕ)
+    → TaskSet → ℕ → DialogueFault → S → S → Seen → Seen → Type 0
+IsBroken {S} Gave Broke misread set cycle Input from to before after =
     (between : S) × (left : IsLeft set cycle (Gave from between) before after)
-    × (Rose (misread from) (misread to) ⊎ (length left.heards ≡ 2 ^ 64 - 1))
-IsBroken {S} Gave misread set cycle fault from to before after =
+    × IsCauseToLeave Broke misread from between to left.heards
+IsBroken {S} Gave Broke misread set cycle fault from to before after =
     IsCutAtStart set cycle (Gave from to) fault before after
     ⊎ IsCutInAnswer set cycle (Gave from to) fault before after

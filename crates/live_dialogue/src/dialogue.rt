@@ -36,6 +36,7 @@ pub fn converse<T: SpareTable, S: LineSource, K: Sink, R: Sink, E: Sink>(
         (seen K.written K.faults R.written R.faults E.written E.faults streams.new)) }
     ensures broken { IfErr result (λ fault. IsBroken
         S.gave
+        S.broke
         S.faults
         exec.old.plan.tasks
         exec.old.plan.cycle
@@ -67,6 +68,7 @@ fn converse_counted<T: SpareTable, S: LineSource, K: Sink, R: Sink, E: Sink, L: 
         (seen K.written K.faults R.written R.faults E.written E.faults streams.new)) }
     ensures broken { IfErr result (λ fault. IsBroken
         S.gave
+        S.broke
         S.faults
         exec.old.plan.tasks
         exec.old.plan.cycle
@@ -93,6 +95,7 @@ fn converse_counted<T: SpareTable, S: LineSource, K: Sink, R: Sink, E: Sink, L: 
 fn hear<S: LineSource>(source: &mut S) -> Result<Given, DialogueFault>
     ensures gives { IfOk result
         (λ next. S.gave source.old source.new (heard next (S.last source.new) ∷ [])) }
+    ensures broken { OnErr result (S.broke source.old source.new) }
     ensures counted { S.faults source.old ≤ S.faults source.new }
     ensures failed { OnErr result (Rose (S.faults source.old) (S.faults source.new)) }
     ensures fault { IfErr result (λ fault. fault ≡ DialogueFault.Input) }

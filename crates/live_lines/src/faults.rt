@@ -1,6 +1,8 @@
 //! Why a line is refused.
 
 ghost use Rattle.std.specs.Prelude.{◌≡◌, ◌≤◌, ◌+◌, ◌++◌, length};
+ghost use Rattle.trace_text.specs.declared.TheConstants.{LINE_LIMIT};
+ghost use Rattle.live_lines.specs.declared.TheConstants.{FAULT_TEXT_LIMIT};
 ghost use Rattle.live_lines.specs.FaultTexts.{fault_line, line_fault, line_fault_text};
 
 use arrival_csv::ArrivalFault;
@@ -80,9 +82,9 @@ pub fn fault_line(number: u64, fault: LineFault) -> Line
 
 /// Appends the text of the fault.
 fn push_fault(line: &mut Line, fault: LineFault)
-    requires { length line.old + 40 ≤ 1024 }
+    requires { length line.old + FAULT_TEXT_LIMIT ≤ LINE_LIMIT }
     ensures text { line.new ≡ line.old ++ line_fault_text fault }
-    ensures short { length line.new ≤ length line.old + 40 }
+    ensures short { length line.new ≤ length line.old + FAULT_TEXT_LIMIT }
 {
     match fault {
         LineFault::NoCommand => line.push(b"no command"),

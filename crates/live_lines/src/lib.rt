@@ -9,3 +9,16 @@ pub mod rows;
 pub use commands::{LiveCommand, live_command_of};
 pub use faults::{LineFault, fault_line};
 pub use rows::record_row;
+use trace_text::{DECIMAL_LIMIT, KEY_LIMIT};
+
+/// Most bytes of the text of a fault: `bad number `, of 11 bytes, and a number.
+const FAULT_TEXT_LIMIT: usize = 11 + DECIMAL_LIMIT;
+
+/// Most bytes of what stands before a number: `withdraw` and the comma before it.
+const WORD_LIMIT: usize = 9;
+
+/// Most bytes of a word, a comma and a number.
+const WORDED_LIMIT: usize = WORD_LIMIT + 1 + DECIMAL_LIMIT;
+
+/// Most bytes of an event: `done`, the commas around it, and a key.
+const EVENT_LIMIT: usize = 6 + KEY_LIMIT;

@@ -3,6 +3,9 @@
 ghost use Rattle.std.specs.Prelude.{◌≡◌, ◌≤◌, ◌+◌, ◌++◌, ◌∷◌, decimal, length, nat_lt, true};
 ghost use Rattle.slot_core.specs.Output.Texts.{sporadic_name};
 ghost use Rattle.slot_core.specs.Runs.Arrivals.{event_fits};
+ghost use Rattle.slot_core.specs.declared.TheConstants.{NAME_LIMIT};
+ghost use Rattle.trace_text.specs.declared.TheConstants.{LINE_LIMIT};
+ghost use Rattle.live_lines.specs.declared.TheConstants.{EVENT_LIMIT, WORDED_LIMIT, WORD_LIMIT};
 ghost use Rattle.live_lines.specs.Rows.{event_text, record_row};
 
 use slot_core::{Arrival, Event, TaskSet};
@@ -24,9 +27,9 @@ pub fn record_row(tasks: &TaskSet, arrival: Arrival) -> Line
 /// Appends the kind of the event and its fields, each after a comma.
 fn push_event(line: &mut Line, tasks: &TaskSet, event: Event)
     requires fits { event_fits tasks.now event ≡ true }
-    requires room { length line.old + 100 ≤ 1024 }
+    requires room { length line.old + EVENT_LIMIT ≤ LINE_LIMIT }
     ensures text { line.new ≡ line.old ++ event_text tasks.now event }
-    ensures short { length line.new ≤ length line.old + 100 }
+    ensures short { length line.new ≤ length line.old + EVENT_LIMIT }
 {
     match event {
         Event::Soft(slots) => push_worded(line, b",soft", slots),
@@ -48,10 +51,10 @@ fn push_event(line: &mut Line, tasks: &TaskSet, event: Event)
 
 /// Appends the word, a comma and the number.
 fn push_worded(line: &mut Line, word: &[u8], number: u32)
-    requires word { length word.now ≤ 9 }
-    requires room { length line.old + 30 ≤ 1024 }
+    requires word { length word.now ≤ WORD_LIMIT }
+    requires room { length line.old + WORDED_LIMIT ≤ LINE_LIMIT }
     ensures text { line.new ≡ line.old ++ word.now ++ 44 ∷ decimal number }
-    ensures short { length line.new ≤ length line.old + 30 }
+    ensures short { length line.new ≤ length line.old + WORDED_LIMIT }
 {
     line.push(word);
     line.push(b",");
@@ -61,9 +64,9 @@ fn push_worded(line: &mut Line, word: &[u8], number: u32)
 /// Appends the name of the sporadic task of this index.
 fn push_sporadic(line: &mut Line, tasks: &TaskSet, index: u8)
     requires named { nat_lt index (length tasks.now.sporadics) ≡ true }
-    requires room { length line.old + 24 ≤ 1024 }
+    requires room { length line.old + NAME_LIMIT ≤ LINE_LIMIT }
     ensures text { line.new ≡ line.old ++ sporadic_name tasks.now index }
-    ensures short { length line.new ≤ length line.old + 24 }
+    ensures short { length line.new ≤ length line.old + NAME_LIMIT }
 {
     line.push(tasks.sporadics.items()[usize::from(index)].name.bytes());
 }

@@ -27,40 +27,42 @@ pub record IsUnmade (before after : Seen) : Type 0 where
   pub lost : Rose before.rows_lost after.rows_lost
 
 -- how the answering of lines by the executive of a plan ends, over a source of which contracts see
--- what it gave and how many reads failed: with a dialogue that is over, or one that is broken as
--- the refusal says; or before the first line, where the record could not be made or memory ran out
-abbrev pub IsTalk : {S X : Type 0} → (S → S → List Heard → Type 0) → (S → ℕ) → PlanParts → Bool
-    → S → S → Seen → Seen → LiveOutcome X → Type 0
-IsTalk Gave misread plan recorded from to before after (Ok done) =
+-- what it gave, where a read failed and how many did: with a dialogue that is over, or one that is
+-- broken as the refusal says; or before the first line, where the record could not be made or
+-- memory ran out
+abbrev pub IsTalk : {S X : Type 0} → (S → S → List Heard → Type 0) → (S → S → Type 0) → (S → ℕ)
+    → PlanParts → Bool → S → S → Seen → Seen → LiveOutcome X → Type 0
+IsTalk Gave Broke misread plan recorded from to before after (Ok done) =
     (ready : Seen) × IsReady recorded before ready
     × IsDialogue plan.tasks plan.cycle (Gave from to) ready after
-IsTalk Gave misread plan recorded from to before after (Err Unheard) =
+IsTalk Gave Broke misread plan recorded from to before after (Err Unheard) =
     (ready : Seen) × IsReady recorded before ready
-    × IsBroken Gave misread plan.tasks plan.cycle Input from to ready after
-IsTalk Gave misread plan recorded from to before after (Err Unrecorded) =
+    × IsBroken Gave Broke misread plan.tasks plan.cycle Input from to ready after
+IsTalk Gave Broke misread plan recorded from to before after (Err Unrecorded) =
     (ready : Seen) × IsReady recorded before ready
-    × IsBroken Gave misread plan.tasks plan.cycle Record from to ready after
-IsTalk Gave misread plan recorded from to before after (Err (Run WriteFault)) =
+    × IsBroken Gave Broke misread plan.tasks plan.cycle Record from to ready after
+IsTalk Gave Broke misread plan recorded from to before after (Err (Run WriteFault)) =
     (ready : Seen) × IsReady recorded before ready
-    × IsBroken Gave misread plan.tasks plan.cycle Output from to ready after
-IsTalk Gave misread plan recorded from to before after (Err Unmade) =
+    × IsBroken Gave Broke misread plan.tasks plan.cycle Output from to ready after
+IsTalk Gave Broke misread plan recorded from to before after (Err Unmade) =
     (recorded ≡ true) × (to ≡ from) × IsUnmade before after
-IsTalk Gave misread plan recorded from to before after (Err (Run Memory)) =
+IsTalk Gave Broke misread plan recorded from to before after (Err (Run Memory)) =
     (to ≡ from) × (after ≡ before)
-IsTalk Gave misread plan recorded from to before after (Err refusal) = ⊥
+IsTalk Gave Broke misread plan recorded from to before after (Err refusal) = ⊥
 
 -- what follows where a plan is made: lines are answered by it; where it is refused nothing is read
 -- and nothing is put
-abbrev pub IsTalkAfter : {S X : Type 0} → (S → S → List Heard → Type 0) → (S → ℕ) → Bool
-    → S → S → Seen → Seen → LiveOutcome X → Outcome PlanParts → Type 0
-IsTalkAfter Gave misread recorded from to before after result (Ok plan) =
-    IsPlan plan × IsTalk Gave misread plan recorded from to before after result
-IsTalkAfter Gave misread recorded from to before after result (Err refusal) =
+abbrev pub IsTalkAfter : {S X : Type 0} → (S → S → List Heard → Type 0) → (S → S → Type 0)
+    → (S → ℕ) → Bool → S → S → Seen → Seen → LiveOutcome X → Outcome PlanParts → Type 0
+IsTalkAfter Gave Broke misread recorded from to before after result (Ok plan) =
+    IsPlan plan × IsTalk Gave Broke misread plan recorded from to before after result
+IsTalkAfter Gave Broke misread recorded from to before after result (Err refusal) =
     (result ≡ Err (Run refusal)) × (to ≡ from) × (after ≡ before)
 
 -- the work of a call, over files of which contracts see `held`, `faults` and `blamed`
 pub record IsLiveWork {D S X : Type 0} (held : D → Option Held) (faults : D → ℕ)
-    (blamed : D → Option (List ℕ)) (Gave : S → S → List Heard → Type 0) (misread : S → ℕ)
+    (blamed : D → Option (List ℕ)) (Gave : S → S → List Heard → Type 0) (Broke : S → S → Type 0)
+    (misread : S → ℕ)
     (files_before files_after : D) (names : List (List ℕ)) (call : LiveCall) (from to : S)
     (before after : Seen) (result : LiveOutcome X) : Type 0 where
   -- the plan, or why there is none
@@ -69,7 +71,7 @@ pub record IsLiveWork {D S X : Type 0} (held : D → Option Held) (faults : D �
   pub reading : IsReading held faults blamed files_before files_after names (is_file_of call.source)
       (λ files. plan_from files names call.source) made (λ plan. plan)
   -- what follows it
-  pub talk : IsTalkAfter Gave misread call.is_recorded from to before after result made
+  pub talk : IsTalkAfter Gave Broke misread call.is_recorded from to before after result made
 
 -- how a refusal is told: it stays, or is want of memory for a line with values, and its line is put
 pub record IsLiveReport (words names : List (List ℕ)) (refusal reported : LiveRefusal)
@@ -106,27 +108,29 @@ IsEnd words names before after status (Err refusal) =
 
 -- the work of the words: none where they write no call; and memory may run out before it
 abbrev pub IsWorkOf : {D S X : Type 0} → (D → Option Held) → (D → ℕ) → (D → Option (List ℕ))
-    → (S → S → List Heard → Type 0) → (S → ℕ) → D → D → List (List ℕ) → Option LiveCall → S → S
-    → Seen → Seen → LiveOutcome X → Type 0
-IsWorkOf held faults blamed Gave misread files files_after words None from to before after result =
-    (result ≡ Err Usage) × (files_after ≡ files) × (to ≡ from) × (after ≡ before)
-IsWorkOf held faults blamed Gave misread files files_after words (Some call) from to before after
+    → (S → S → List Heard → Type 0) → (S → S → Type 0) → (S → ℕ) → D → D → List (List ℕ)
+    → Option LiveCall → S → S → Seen → Seen → LiveOutcome X → Type 0
+IsWorkOf held faults blamed Gave Broke misread files files_after words None from to before after
     result =
-    IsLiveWork held faults blamed Gave misread files files_after (plan_words words call) call from
-    to before after result
+    (result ≡ Err Usage) × (files_after ≡ files) × (to ≡ from) × (after ≡ before)
+IsWorkOf held faults blamed Gave Broke misread files files_after words (Some call) from to before
+    after result =
+    IsLiveWork held faults blamed Gave Broke misread files files_after (plan_words words call) call
+    from to before after result
     ⊎ ((result ≡ Err (Run Memory)) × (files_after ≡ files) × (to ≡ from) × (after ≡ before))
 
 -- the run of a call, with the words by which its plan is read and blamed
 pub record IsRunOf {D S : Type 0} (held : D → Option Held) (faults : D → ℕ)
-    (blamed : D → Option (List ℕ)) (Gave : S → S → List Heard → Type 0) (misread : S → ℕ)
+    (blamed : D → Option (List ℕ)) (Gave : S → S → List Heard → Type 0) (Broke : S → S → Type 0)
+    (misread : S → ℕ)
     (files_before files_after : D) (words : List (List ℕ)) (call : Option LiveCall)
     (names : List (List ℕ)) (from to : S) (before after : Seen) (status : Status) : Type 0 where
   -- how the work comes out, and what the streams are then
   pub outcome : LiveOutcome (Unit {0})
   pub ended : Seen
   -- the work of the call
-  pub works : IsWorkOf held faults blamed Gave misread files_before files_after words call from to
-      before ended outcome
+  pub works : IsWorkOf held faults blamed Gave Broke misread files_before files_after words call
+      from to before ended outcome
   -- what is told of it
   pub ends : IsEnd words names ended after status outcome
 
@@ -136,8 +140,9 @@ names_of words = option_map_or (plan_words words) (live_call_of words) []
 
 -- a run as a whole: that of the call that the words write
 abbrev pub IsLiveRun : {D S : Type 0} → (D → Option Held) → (D → ℕ) → (D → Option (List ℕ))
-    → (S → S → List Heard → Type 0) → (S → ℕ) → D → D → List (List ℕ) → S → S → Seen → Seen
-    → Status → Type 0
-IsLiveRun held faults blamed Gave misread files files_after words from to before after status =
-    IsRunOf held faults blamed Gave misread files files_after words (live_call_of words)
+    → (S → S → List Heard → Type 0) → (S → S → Type 0) → (S → ℕ) → D → D → List (List ℕ) → S → S
+    → Seen → Seen → Status → Type 0
+IsLiveRun held faults blamed Gave Broke misread files files_after words from to before after
+    status =
+    IsRunOf held faults blamed Gave Broke misread files files_after words (live_call_of words)
     (names_of words) from to before after status

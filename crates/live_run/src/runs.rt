@@ -27,8 +27,8 @@ pub fn run<F: Files, S: LineSource, K: Sink, R: RecordFile, E: Sink>(
     source: &mut S,
     streams: &mut Streams<K, R, E>,
 ) -> Status
-    ensures whole { IsLiveRun F.held F.faults F.blamed S.gave S.faults files.old files.new words.now
-        source.old source.new
+    ensures whole { IsLiveRun F.held F.faults F.blamed S.gave S.broke S.faults files.old files.new
+        words.now source.old source.new
         (seen K.written K.faults R.written R.faults E.written E.faults streams.old)
         (seen K.written K.faults R.written R.faults E.written E.faults streams.new) result }
     ensures usage { (result ≡ Status.Usage) ↔ (live_call_of words.now ≡ None) }
@@ -49,7 +49,7 @@ fn run_call<F: Files, S: LineSource, K: Sink, R: RecordFile, E: Sink>(
     streams: &mut Streams<K, R, E>,
 ) -> Status
     requires { HasPlan call }
-    ensures { IsRunOf F.held F.faults F.blamed S.gave S.faults files.old files.new words.now
+    ensures { IsRunOf F.held F.faults F.blamed S.gave S.broke S.faults files.old files.new words.now
         (Some call) (plan_words words.now call) source.old source.new
         (seen K.written K.faults R.written R.faults E.written E.faults streams.old)
         (seen K.written K.faults R.written R.faults E.written E.faults streams.new) result }
@@ -72,7 +72,7 @@ fn run_named<F: Files, S: LineSource, K: Sink, R: RecordFile, E: Sink>(
 ) -> Status
     requires plan { HasPlan call }
     requires names { names.now ≡ plan_words words.now call }
-    ensures { IsRunOf F.held F.faults F.blamed S.gave S.faults files.old files.new words.now
+    ensures { IsRunOf F.held F.faults F.blamed S.gave S.broke S.faults files.old files.new words.now
         (Some call) (plan_words words.now call) source.old source.new
         (seen K.written K.faults R.written R.faults E.written E.faults streams.old)
         (seen K.written K.faults R.written R.faults E.written E.faults streams.new) result }

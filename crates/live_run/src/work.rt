@@ -34,7 +34,7 @@ pub(crate) fn work<F: Files, S: LineSource, K: Sink, R: RecordFile, E: Sink>(
     streams: &mut Streams<K, R, E>,
 ) -> Result<(), LiveRefusal>
     requires plan { HasPlan call }
-    ensures { IsLiveWork F.held F.faults F.blamed S.gave S.faults files.old files.new
+    ensures { IsLiveWork F.held F.faults F.blamed S.gave S.broke S.faults files.old files.new
         names.now call source.old source.new
         (seen K.written K.faults R.written R.faults E.written E.faults streams.old)
         (seen K.written K.faults R.written R.faults E.written E.faults streams.new) result }
@@ -52,7 +52,7 @@ fn talk<S: LineSource, K: Sink, R: RecordFile, E: Sink>(
     source: &mut S,
     streams: &mut Streams<K, R, E>,
 ) -> Result<(), LiveRefusal>
-    ensures { IsTalk S.gave S.faults plan call.is_recorded source.old source.new
+    ensures { IsTalk S.gave S.broke S.faults plan call.is_recorded source.old source.new
         (seen K.written K.faults R.written R.faults E.written E.faults streams.old)
         (seen K.written K.faults R.written R.faults E.written E.faults streams.new) result }
 {
@@ -69,7 +69,7 @@ fn talk_with<S: LineSource, K: Sink, R: RecordFile, E: Sink>(
     streams: &mut Streams<K, R, E>,
 ) -> Result<(), LiveRefusal>
     requires { StandsFor exec.old started }
-    ensures { IsTalk S.gave S.faults exec.old.plan call.is_recorded source.old source.new
+    ensures { IsTalk S.gave S.broke S.faults exec.old.plan call.is_recorded source.old source.new
         (seen K.written K.faults R.written R.faults E.written E.faults streams.old)
         (seen K.written K.faults R.written R.faults E.written E.faults streams.new) result }
 {

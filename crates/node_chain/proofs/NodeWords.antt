@@ -1,13 +1,13 @@
 -- What the nodes of a block are after words are put.
-use Rattle.std.proofs.Common.{◌≡◌, ℕ, zero, suc, ◌+◌, ◌*◌, ◌/◌, ◌%◌, ◌≤◌, ◌<◌, ◌^◌, List, length, replicate, slice_set, pos, refl, sym, ap, inl, inr, ◌∙◌, arith, add-zero, w64, SFits}
+use Rattle.std.proofs.Common.{◌≡◌, ℕ, zero, suc, ◌+◌, ◌*◌, ◌/◌, ◌%◌, ◌≤◌, ◌<◌, ◌^◌, ℤ, List, length, replicate, slice_set, pos, refl, sym, ap, inl, inr, ◌∙◌, arith, add-zero, w64, SFits}
 use Rattle.std.proofs.lemmas.Int.{to_z-of_z}
 use Rattle.std.specs.Int.{cast_signed, cast_unsigned}
-use Rattle.std.proofs.lemmas.List.{get_or-set_same, get_or-set_other, length-replicate, length-set}
+use Rattle.std.proofs.lemmas.List.{get_or-set_same, get_or-set_other, length-replicate, length-set, set-get_or}
 use Rattle.std.proofs.lemmas.List.FromFn.{fill_by_all, get_or-map-range_with_len, length-map-range_with_len}
 use Rattle.slot_core.specs.declared.jobs.Span.{Span}
 use Rattle.node_chain.specs.declared.block.Node.{Node}
 use Rattle.node_chain.specs.Nodes.{node_at, unused, unused_node}
-use Rattle.node_chain.specs.Links.{with_span}
+use Rattle.node_chain.specs.Links.{span_of, with_span}
 use Rattle.node_chain.specs.Words.{word_at, links_word, span_place, span_in, with_span_words, node_in, node_words, nodes_of}
 use Rattle.node_chain.proofs.Counts.{same_or_not}
 use Rattle.node_chain.proofs.Fresh.{length-unused, unused-at}
@@ -225,6 +225,29 @@ module _ (words : List ℕ) (count place : ℕ) (s : Span) (all : length words �
 
   pub span-put : nodes_of spanned_there count ≡ with_span place s (nodes_of words count)
   span-put = nodes-set words spanned_there count place own lt here_now others_stay
+
+-- a capacity is put alone
+module _ (words : List ℕ) (i : ℕ) (spare : ℤ) where
+  -- the other words of the span are those that stand there
+  put-own : with_span_words i (record (span_in words i) { spare = spare }) words ≡ slice_set words (i + 3) (cast_unsigned w64 spare)
+  put-own =
+      let start = set-get_or words i 0 in
+      let end = set-get_or words (i + 1) 0 in
+      let work = set-get_or words (i + 2) 0 in
+      ap (λ (ws : List ℕ). slice_set (slice_set (slice_set ws (i + 1) (word_at words (i + 1))) (i + 2) (word_at words (i + 2))) (i + 3) (cast_unsigned w64 spare)) start
+      ∙ ap (λ (ws : List ℕ). slice_set (slice_set ws (i + 2) (word_at words (i + 2))) (i + 3) (cast_unsigned w64 spare)) end
+      ∙ ap (λ (ws : List ℕ). slice_set ws (i + 3) (cast_unsigned w64 spare)) work
+
+pub spare-put : (words : List ℕ) (count place : ℕ) (spare : ℤ) → length words ≡ node_words * count → place < count → SFits w64 spare
+    → nodes_of (slice_set words (span_place count place + 3) (cast_unsigned w64 spare)) count
+    ≡ with_span place (record (span_of (nodes_of words count) place) { spare = spare }) (nodes_of words count)
+spare-put words count place spare all lt whole =
+    let nodes = nodes_of words count in
+    let spot = span_place count place in
+    let own = ap (λ (n : Node). record n.span { spare = spare }) (node-at words count place lt) in
+    ap (λ ws. nodes_of ws count) (sym (put-own words spot spare))
+    ∙ ap (λ (s : Span). nodes_of (with_span_words spot s words) count) (sym own)
+    ∙ span-put words count place (record (span_of nodes place) { spare = spare }) all lt whole
 
 -- the words of a new block, of which so many nodes have their links
 pub record AreFresh (words : List ℕ) (count n : ℕ) : Type 0 where

@@ -13,6 +13,9 @@ use std::marker::Model;
 /// How many words a span takes: its start, its end, its work, and its spare capacity.
 const SPAN_WORDS: usize = 4;
 
+/// Which word of a span is its spare capacity.
+const SPARE_WORD: usize = 3;
+
 /// How many words a node takes: one for its links, and those of its span.
 const NODE_WORDS: usize = 1 + SPAN_WORDS;
 
@@ -100,6 +103,16 @@ impl Block {
         ensures { self.new ≡ with_span place span self.old }
     {
         put_span(&mut self.words, span_place(self.count, place), span);
+    }
+
+    /// Gives the span at a place another capacity. No other word is written.
+    pub(crate) fn set_spare(&mut self, place: u32, spare: i64)
+        requires { place < length self.old }
+        ensures { self.new
+            ≡ with_span place (record (span_of self.old place) { spare = spare }) self.old }
+    {
+        let first = span_place(self.count, place);
+        self.words.put(first + SPARE_WORD, spare.cast_unsigned());
     }
 }
 

@@ -1,11 +1,13 @@
 //! The chain.
 
-ghost use Rattle.std.specs.Prelude.{◌≡◌, ℕ, ◌+◌, ◌≤◌, ◌<◌, ◌^◌, [], ◌∷◌, ◌++◌, drop, insert, length, Some, None, IfOk, slice_get, slice_set};
+ghost use Rattle.std.specs.Prelude.{◌≡◌, ℕ, ◌+◌, ◌≤◌, ◌<◌, ◌^◌, [], ◌∷◌, ◌++◌, drop, insert, length, replicate, Some, None, IfOk, slice_get, slice_set};
 ghost use Rattle.slot_core.specs.declared.jobs.Span.{Span};
-ghost use Rattle.node_chain.specs.Chains.{id_at, id_of, span_at, IsChain, IsListed};
+ghost use Rattle.node_chain.specs.declared.marks.TheConstants.{LAP};
+ghost use Rattle.node_chain.specs.Chains.{blank_mark, id_at, id_of, span_at, IsChain, IsListed};
 
 use crate::block::Block;
 use crate::links::{ENDS, join, part, set_next};
+use crate::marks::{Mark, Marks};
 use crate::order::Order;
 use slot_core::{Memory, Span, Steps};
 use std::alloc::Global;
@@ -24,6 +26,8 @@ pub struct NodeId(pub u32);
 /// before it by one place of 4 bytes, or those behind it where none is free in front, and looks
 /// through those before it where it is told an id. An append moves all of them to the front of
 /// their places where none is free behind.
+///
+/// It also keeps a lap of marks, which no call on spans changes.
 #[derive(Drop)]
 pub struct Chain {
     block: Block,
@@ -31,6 +35,7 @@ pub struct Chain {
     /// The first unused place, where there is one.
     free: u32,
     len: u32,
+    marks: Marks,
 }
 
 impl Model for Chain {
@@ -44,6 +49,7 @@ impl Model for Chain {
     ghost view = { λ c. record {
       pairs = pairs_of c.block (order c.block c.len);
       capacity = length c.block - 1;
+      marks = c.marks;
     } };
 
     ghost invariant = { λ c. IsLinked c.block c.free c.len
@@ -51,12 +57,14 @@ impl Model for Chain {
 }
 
 impl Chain {
-    /// An empty chain with room for `n` spans, of about 44 bytes each.
+    /// An empty chain with room for `n` spans, of about 44 bytes each, and 6 KB of marks without
+    /// numbers.
     pub fn with_capacity(alloc: Global, n: u32) -> Result<Chain, Memory>
         requires some { 1 ≤ n }
         requires small { n ≤ 2 ^ 20 }
         ensures empty { IfOk result (λ made. made.pairs ≡ []) }
         ensures capacity { IfOk result (λ made. made.capacity ≡ n) }
+        ensures marks { IfOk result (λ made. made.marks ≡ replicate LAP blank_mark) }
     {
         let mut block = Block::new(alloc, n + 1)?;
         set_next(&mut block, ENDS, ENDS);
@@ -65,6 +73,7 @@ impl Chain {
             ids: Order::with_capacity(alloc, n)?,
             free: 1,
             len: 0,
+            marks: Marks::new(alloc)?,
         })
     }
 
@@ -152,11 +161,27 @@ impl Chain {
         ensures span { (i : ℕ) → id_at self.old.pairs i ≡ Some id
             → self.new.pairs ≡ slice_set self.old.pairs i (id, span) }
         ensures capacity { self.new.capacity ≡ self.old.capacity }
+        ensures marks { self.new.marks ≡ self.old.marks }
         ensures one_step { steps.new ≡ steps.old + 1 }
     {
         let NodeId(place) = id;
         steps.tick();
         self.block.set_span(place, span);
+    }
+
+    /// Gives the span under this id another capacity. One step.
+    pub fn set_spare<L: Ledger>(&mut self, id: NodeId, spare: i64, steps: &mut Steps<L>)
+        requires { IsListed self.old.pairs id }
+        ensures span { (i : ℕ) → (s : Span) → id_at self.old.pairs i ≡ Some id
+            → span_at self.old.pairs i ≡ Some s
+            → self.new.pairs ≡ slice_set self.old.pairs i (id, record s { spare = spare }) }
+        ensures capacity { self.new.capacity ≡ self.old.capacity }
+        ensures marks { self.new.marks ≡ self.old.marks }
+        ensures one_step { steps.new ≡ steps.old + 1 }
+    {
+        let NodeId(place) = id;
+        steps.tick();
+        self.block.set_spare(place, spare);
     }
 
     /// Inserts a span before the one of this id, and returns its id, which no span in the chain
@@ -173,6 +198,7 @@ impl Chain {
             → self.new.pairs ≡ insert self.old.pairs i (result, span) }
         ensures fresh { IsListed self.old.pairs result → ⊥ }
         ensures capacity { self.new.capacity ≡ self.old.capacity }
+        ensures marks { self.new.marks ≡ self.old.marks }
         ensures three_steps { steps.new ≡ steps.old + 3 }
     {
         let index = self.ids.index_of(id);
@@ -187,6 +213,7 @@ impl Chain {
         ensures span { self.new.pairs ≡ insert self.old.pairs index (result, span) }
         ensures fresh { IsListed self.old.pairs result → ⊥ }
         ensures capacity { self.new.capacity ≡ self.old.capacity }
+        ensures marks { self.new.marks ≡ self.old.marks }
         ensures three_steps { steps.new ≡ steps.old + 3 }
     {
         let NodeId(after) = self.at(index);
@@ -204,6 +231,7 @@ impl Chain {
         ensures span { self.new.pairs ≡ self.old.pairs ++ (result, span) ∷ [] }
         ensures fresh { IsListed self.old.pairs result → ⊥ }
         ensures capacity { self.new.capacity ≡ self.old.capacity }
+        ensures marks { self.new.marks ≡ self.old.marks }
         ensures two_steps { steps.new ≡ steps.old + 2 }
     {
         let place = self.free;
@@ -219,6 +247,7 @@ impl Chain {
         ensures span { span_at self.old.pairs 0 ≡ Some result }
         ensures rest { self.new.pairs ≡ drop 1 self.old.pairs }
         ensures capacity { self.new.capacity ≡ self.old.capacity }
+        ensures marks { self.new.marks ≡ self.old.marks }
         ensures two_steps { steps.new ≡ steps.old + 2 }
     {
         let place = self.block.node(ENDS).next;
@@ -227,6 +256,24 @@ impl Chain {
         self.free = place;
         self.len -= 1;
         node.span
+    }
+
+    /// The mark at an index.
+    pub fn mark(&self, index: u32) -> Mark
+        requires { index < LAP }
+        ensures { slice_get self.now.marks index ≡ Some result }
+    {
+        self.marks.at(index)
+    }
+
+    /// Puts another mark at an index.
+    pub fn set_mark(&mut self, index: u32, mark: Mark)
+        requires { index < LAP }
+        ensures pairs { self.new.pairs ≡ self.old.pairs }
+        ensures capacity { self.new.capacity ≡ self.old.capacity }
+        ensures marks { self.new.marks ≡ slice_set self.old.marks index mark }
+    {
+        self.marks.set(index, mark);
     }
 }
 

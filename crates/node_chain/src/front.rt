@@ -7,7 +7,12 @@ ghost use Rattle.std.specs.Prelude.{◌≡◌, ◌+◌, ◌≤◌, ◌<◌, [], 
 /// afterwards. It asks for a free place, before `head` or reserved behind them. Where there is one
 /// before, the items before the index move one place to the front, else the others move one place
 /// back.
-pub fn insert<T: Copy + Drop>(items: &mut Vec<T>, head: usize, index: usize, item: T) -> usize
+pub(crate) fn insert<T: Copy + Drop>(
+    items: &mut Vec<T>,
+    head: usize,
+    index: usize,
+    item: T,
+) -> usize
     requires within { head + index ≤ vec_len items.old }
     requires free { vec_len items.old < head + vec_capacity items.old }
     ensures items { drop result items.new.items ≡ insert (drop head items.old.items) index item }
@@ -33,7 +38,7 @@ fn shift<T: Copy>(items: &mut [T], item: T)
 }
 
 /// Drops the items before `head`.
-pub fn drop_front<T: Copy + Drop>(items: &mut Vec<T>, head: usize)
+pub(crate) fn drop_front<T: Copy + Drop>(items: &mut Vec<T>, head: usize)
     requires { head ≤ vec_len items.old }
     ensures items { items.new.items ≡ drop head items.old.items }
     ensures room { vec_capacity items.old ≤ vec_capacity items.new }

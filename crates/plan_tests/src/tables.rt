@@ -174,6 +174,10 @@ const SECOND_FAULTS: [(usize, usize, u8, &str); 16] = [
     (137, 0, 0x53, "trailing 136"),
 ];
 
+/// A byte of the first table, the same in the second, and another under which both spell one plan:
+/// the soft limit, the name of the graph and that of its first task.
+const SPELLED: [(usize, usize, u8); 3] = [(6, 6, 0x41), (11, 13, 0x68), (21, 29, 0x63)];
+
 /// So many bytes of a table and of a 0 after it, with the byte at this place.
 fn changed(
     alloc: Global,
@@ -255,6 +259,25 @@ fn writes_the_second_version_of_both(rt: HostRuntime) -> Result<(), Fail> {
     assert!(rt; is_written_of(alloc, &FIRST, &SECOND)?);
     assert!(rt; is_written_of(alloc, &SECOND, &SECOND)?);
     Ok(())
+}
+
+#[test]
+fn writes_changed_bytes_that_are_read(rt: HostRuntime) -> Result<(), Fail> {
+    for (first, second, byte) in SPELLED {
+        let is_written = is_change_written(rt.alloc(), first, second, byte)?;
+        assert!(rt; is_written, "at {first}");
+    }
+    Ok(())
+}
+
+/// Whether of each table with one byte changed the second is written with that change.
+fn is_change_written(alloc: Global, first: usize, second: usize, byte: u8) -> Result<bool, Fail> {
+    let want = changed(alloc, &SECOND, SECOND.len(), second, byte)?;
+    let old = changed(alloc, &FIRST, FIRST.len(), first, byte)?;
+    Ok(
+        is_written_of(alloc, old.as_slice(), want.as_slice())?
+            && is_written_of(alloc, want.as_slice(), want.as_slice())?,
+    )
 }
 
 #[test]

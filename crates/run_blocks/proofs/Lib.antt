@@ -1,3 +1,5 @@
 pub mod BlockLemmas
 pub mod DistinctRows
 pub mod RowLemmas
+pub mod RowCounts
+pub mod FirmCounts

@@ -1,11 +1,12 @@
 -- Rows of a trace, and the jobs that they hold.
-use Rattle.std.specs.Prelude.{ℕ, ◌≡◌, ◌≤◌, Bool, true, false, ◌&&◌, ◌==◌, List, ◌∷◌, length, position, slice_get, count_by}
+use Rattle.std.specs.Prelude.{ℕ, ◌≡◌, ◌≤◌, Bool, true, false, ◌&&◌, ◌==◌, List, [], ◌∷◌, ◌++◌, if◌then◌else◌, length, nat_le, position, slice_get, count_by}
 use Rattle.std.specs.List.{list_all, list_any}
 use Rattle.std.specs.List.Sorted.{IsPermutation}
 use Rattle.std.specs.Option.{option_map_or, unwrap_or}
 use Rattle.std.specs.Str.{bytes_eq}
 use Rattle.trace_lines.specs.declared.line.KeyName.{KeyName}
 use Rattle.trace_lines.specs.declared.line.KeyName.TheVariants.{Offline, Sporadic as SporadicKey, Firm as FirmKey, Soft as SoftKey}
+use Rattle.run_blocks.specs.declared.TheConstants.{FIRM_ROW_LIMIT}
 use Rattle.run_blocks.specs.declared.rows.Row.{Row}
 use Rattle.run_blocks.specs.declared.rows.Row.TheVariants.{Task, Sporadic, FirmJob, Firm, Soft}
 
@@ -77,3 +78,21 @@ abbrev pub IsOneRowMore : Bool → KeyName → List Row → List Row → Type 0
 IsOneRowMore apart key before after =
     (has_row before key ≡ true → before ≡ after)
     × (has_row before key ≡ false → IsPermutation (row_of apart key ∷ before) after)
+
+-- the firm jobs that were seen, by their rows, with this one, each once
+abbrev pub with_firm : List ℕ → ℕ → List ℕ
+with_firm firms row = if list_any (λ firm. firm == row) firms then firms else firms ++ row ∷ []
+
+-- with the job of this key, where it is firm
+abbrev pub with_key : List ℕ → KeyName → List ℕ
+with_key firms (FirmKey row) = with_firm firms row
+with_key firms key = firms
+
+-- with those of runs
+abbrev pub firms_from : List ℕ → List (ℕ × KeyName) → List ℕ
+firms_from firms [] = firms
+firms_from firms (run ∷ runs) = firms_from (with_key firms run.1) runs
+
+-- the firm jobs of runs are few enough for a row each
+abbrev pub have_few_firms : List (ℕ × KeyName) → Bool
+have_few_firms runs = nat_le (length (firms_from [] runs)) FIRM_ROW_LIMIT

@@ -1,9 +1,10 @@
 //! The rows of a trace: a task of a graph, a sporadic task, firm jobs, and soft work.
 
-ghost use Rattle.std.specs.Prelude.{◌≡◌, ◌<◌, ◌≤◌, ℕ, List, [], ◌∷◌, ◌++◌, true, IfOk, OnOk, length, position};
+ghost use Rattle.std.specs.Prelude.{◌≡◌, ◌<◌, ◌≤◌, ◌==◌, ℕ, List, [], ◌∷◌, ◌++◌, true, IfOk, OnOk, length, position};
+ghost use Rattle.std.specs.List.{list_any};
 ghost use Rattle.trace_lines.specs.Traces.{run_at, runs_of};
 ghost use Rattle.trace_lines.specs.declared.line.KeyName.{KeyName};
-ghost use Rattle.run_blocks.specs.Rows.{are_run, AreDistinct, AreRowsOf, AreRowsSoFar, has_row, have_rows, IsOneRowMore, row_at, row_holds, row_of};
+ghost use Rattle.run_blocks.specs.Rows.{are_run, AreDistinct, AreRowsSoFar, firms_from, has_row, have_few_firms, have_rows, IsOneRowMore, may_all_stand, row_at, row_holds, row_of, with_firm, with_key};
 
 use crate::FIRM_ROW_LIMIT;
 use slot_core::{Memory, Name};
@@ -68,6 +69,10 @@ pub fn rows_of(alloc: Global, lines: &[TraceLine]) -> Result<Vec<Row>, Memory>
     ensures held { IfOk result (λ rows. have_rows rows.items (runs_of lines.now) ≡ true) }
     ensures run { IfOk result (λ rows. are_run rows.items (runs_of lines.now) ≡ true) }
     ensures distinct { IfOk result (λ rows. AreDistinct rows.items) }
+
+    // A firm job has a row of its own where few run, and else none has.
+    ensures apart { IfOk result
+        (λ rows. may_all_stand (have_few_firms (runs_of lines.now)) rows.items ≡ true) }
 {
     let apart = has_few_firm_jobs(alloc, lines)?;
     let mut rows = Vec::new(alloc);
@@ -78,7 +83,7 @@ pub fn rows_of(alloc: Global, lines: &[TraceLine]) -> Result<Vec<Row>, Memory>
 /// Sees that each job that runs in the lines has a row.
 fn push_rows(rows: &mut Vec<Row>, lines: &[TraceLine], apart: bool) -> Result<(), Memory>
     requires { rows.old.items ≡ [] }
-    ensures { OnOk result (AreRowsOf rows.new.items (runs_of lines.now)) }
+    ensures { OnOk result (AreRowsSoFar apart rows.new.items (runs_of lines.now)) }
 {
     for line in lines {
         push_row_of(rows, line, apart)?;
@@ -175,14 +180,54 @@ fn place_for(rows: &[Row], row: &Row) -> usize
 }
 
 /// Whether at most `FIRM_ROW_LIMIT` firm jobs run in the lines.
-fn has_few_firm_jobs(alloc: Global, lines: &[TraceLine]) -> Result<bool, Memory> {
-    let mut firms: Vec<u32> = Vec::new(alloc);
+fn has_few_firm_jobs(alloc: Global, lines: &[TraceLine]) -> Result<bool, Memory>
+    ensures { IfOk result (λ few. few ≡ have_few_firms (runs_of lines.now)) }
+{
+    let mut firms = Vec::new(alloc);
     for line in lines {
-        if let Words::Run(KeyName::Firm(row)) = &line.words {
-            if firms.len() <= FIRM_ROW_LIMIT && !firms.contains(row) {
-                firms.push(*row)?;
-            }
+        push_firm_of(&mut firms, line)?;
+        if firms.len() > FIRM_ROW_LIMIT {
+            return Ok(false);
         }
     }
-    Ok(firms.len() <= FIRM_ROW_LIMIT)
+    Ok(true)
+}
+
+/// Sees that the firm job that the line runs, if it runs one, is among these.
+fn push_firm_of(firms: &mut Vec<u32>, line: &TraceLine) -> Result<(), Memory>
+    ensures { OnOk result (firms.new.items
+        ≡ firms_from firms.old.items (run_at line.now.time line.now.words)) }
+{
+    match &line.words {
+        Words::Run(key) => push_firm(firms, key),
+        _ => Ok(()),
+    }
+}
+
+/// Sees that the job of the key, if it is firm, is among these.
+fn push_firm(firms: &mut Vec<u32>, key: &KeyName) -> Result<(), Memory>
+    ensures { OnOk result (firms.new.items ≡ with_key firms.old.items key.now) }
+{
+    match key {
+        KeyName::Firm(row) => push_once(firms, *row),
+        _ => Ok(()),
+    }
+}
+
+/// Appends the row of a firm job that is not among these.
+fn push_once(firms: &mut Vec<u32>, row: u32) -> Result<(), Memory>
+    ensures { OnOk result (firms.new.items ≡ with_firm firms.old.items row) }
+{
+    if has_firm(firms, row) {
+        return Ok(());
+    }
+    firms.push(row)?;
+    Ok(())
+}
+
+/// Whether the row of a firm job is among these.
+fn has_firm(firms: &[u32], row: u32) -> bool
+    ensures { result ≡ list_any (λ firm. firm == row) firms.now }
+{
+    firms.iter().any(|firm| *firm == row)
 }

@@ -4,6 +4,7 @@ ghost use Rattle.std.specs.Prelude.{◌≡◌, ◌<◌, [], ◌∷◌, IsTrue};
 ghost use Rattle.spare_capacity.specs.Recurrence.{FollowOn};
 ghost use Rattle.interval_row.specs.Tables.{IsLive};
 
+use crate::fronts::expect_fronts;
 use interval_row::{ChainTable, RowTable, SpareTable, Spot};
 use slot_core::{Memory, Span, Steps};
 use spare_capacity::fill;
@@ -42,6 +43,8 @@ fn drawn_calls<R: Abort, L: Ledger>(rt: &R, alloc: Global, blank: Blank) -> Resu
         plain_call(&mut list, word >> 32)?;
         expect_alike(rt, alloc, &table, &chain, &mut steps)?;
         expect_listed(rt, alloc, &table, list.as_slice(), &mut steps)?;
+        expect_fronts(rt, &table, list.as_slice(), word >> 35, &mut steps);
+        expect_fronts(rt, &chain, list.as_slice(), word >> 35, &mut steps);
     }
     Ok(())
 }

@@ -8,6 +8,8 @@ mod drawn_calls;
 #[cfg(test)]
 mod executives;
 #[cfg(test)]
+mod fronts;
+#[cfg(test)]
 mod offers;
 #[cfg(test)]
 mod queues;

@@ -57,9 +57,19 @@ fn open_boxed(alloc: Global, table: &[u8], fault: &mut Told) -> Result<Box<Exec<
     ensures refused { IfErr result (IsRefused table.now fault.old fault.new) }
 {
     match open(alloc, table, fault) {
-        Ok(exec) => Box::new(alloc, exec).map_err(|_| MEMORY),
+        Ok(exec) => boxed(alloc, exec),
         Err(status) => Err(status),
     }
+}
+
+/// The executive in a box.
+fn boxed(alloc: Global, exec: Exec<ChainTable>) -> Result<Box<Exec<ChainTable>>, u32>
+    ensures value { IfOk result (λ it. it.value ≡ exec) }
+    ensures plan { (plan : PlanParts) → exec.plan ≡ plan
+        → MatchResult result (λ it. it.value.plan ≡ plan) (λ status. status ≡ MEMORY) }
+    ensures refused { IfErr result (λ status. status ≡ MEMORY) }
+{
+    Box::new(alloc, exec).map_err(|_| MEMORY)
 }
 
 /// Gives all memory back.

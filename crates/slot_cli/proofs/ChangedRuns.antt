@@ -32,7 +32,7 @@ use Rattle.mode_switch.specs.Texts.{change_text}
 use Rattle.mode_switch.proofs.GrantRefusals.{refusals_are_exact}
 use Rattle.mode_switch.proofs.Openings.{carried-may}
 use Rattle.mode_switch.proofs.ServedChanges.{changes_are_served}
-use Rattle.slot_cli.specs.Changed.{carried_after, change_due, changed, history_to, IsChangeExact, IsGranted, IsRefused}
+use Rattle.slot_cli.specs.Changed.{carried_after, change_due, changed, history_to, IsChangeExact, IsGranted, IsDenied}
 
 -- a change with no evidence against it has its text, and one with an evidence that evidence
 due-told : (plan second : PlanParts) (c : ℕ) (carried : List Job) (n : ℕ) (o : Option Evidence) → refusal_of second.tasks c carried ≡ o → change_due plan second c carried n ≡ option_map_or (λ e. let r : Result (List ℕ) Evidence = Err e in r) o (Ok (change_text plan.tasks second.tasks c carried n))

@@ -1,6 +1,7 @@
 pub mod ChangedRuns
 pub mod CheckedCommands
 pub mod InfeasibleRuns
+pub mod NamedFiles
 pub mod PrintedRuns
 pub mod RunPlans
 pub mod ServedRuns

@@ -32,21 +32,9 @@ use Rattle.run_steps.specs.Readings.{limited_bytes, bytes_of, spelled_plan, fitt
 use Rattle.slot_cli.specs.Due.{writing_of, due_of, expected}
 use Rattle.slot_cli.specs.Tables.{AWrittenTableReplaysTheSame, EachSpellingReplaysTheSame}
 use Rattle.run_steps.proofs.SourcePlans.{IsPlan-from}
+use Rattle.slot_cli.proofs.NamedFiles.{words_of_table, words_of_replay, words_of_replay_table, read-whole, arrivals_read}
 use Rattle.slot_cli.proofs.TextStages.{writing_after, writing_with}
 use Rattle.run_steps.proofs.StepLemmas.{bind_Ok}
-
-abbrev words_of_table : List ℕ → List (List ℕ)
-words_of_table t = codes "table" ∷ t ∷ []
-
--- a word and three more
-abbrev words_of : List ℕ → List ℕ → List ℕ → List ℕ → List (List ℕ)
-words_of word file arrivals n = word ∷ file ∷ arrivals ∷ n ∷ []
-
-abbrev words_of_replay : List ℕ → List ℕ → List ℕ → List (List ℕ)
-words_of_replay = words_of (codes "replay")
-
-abbrev words_of_replay_table : List ℕ → List ℕ → List ℕ → List (List ℕ)
-words_of_replay_table = words_of (codes "replay-table")
 
 -- the command that writes the trace of so many slots with recorded arrivals
 abbrev trace_of : Source → ℕ → Command
@@ -61,29 +49,17 @@ written-of (Err refusal) bytes is = cc
 table-written : (before : Held) (t bytes : List ℕ) → expected before (words_of_table t) ≡ Ok bytes → (plan : PlanParts) × (plan_from before (words_of_table t) Tasks ≡ Ok plan) × (bytes ≡ spelling plan)
 table-written before t bytes is = written-of (plan_from before (words_of_table t) Tasks) bytes is
 
-within_limit : (bytes : List ℕ) (b : Bool) → b ≡ false → (let o : Outcome (List ℕ) = if b then Err (TooLarge TableFile) else Ok bytes in o) ≡ Ok bytes
-within_limit bytes true is = cc
-within_limit bytes false is = refl
-
--- a short file is read whole
-read-whole : (bytes : List ℕ) (o : Option (List ℕ)) → o ≡ Some bytes → length bytes ≤ TABLE_FILE_LIMIT → option_map_or (limited_bytes TableFile) (option_map (take (TABLE_FILE_LIMIT + 1)) o) (Err (Unreadable TableFile)) ≡ Ok bytes
-read-whole bytes o is short =
-    let all : take (TABLE_FILE_LIMIT + 1) bytes ≡ bytes = take_all (TABLE_FILE_LIMIT + 1) bytes (omega (arith, short)) in
-    ap (λ p. option_map_or (limited_bytes TableFile) (option_map (take (TABLE_FILE_LIMIT + 1)) p) (Err (Unreadable TableFile))) is
-    ∙ ap (limited_bytes TableFile) all
-    ∙ within_limit bytes (nat_lt TABLE_FILE_LIMIT (length bytes)) (le-ltb TABLE_FILE_LIMIT (length bytes) short)
-
 -- the plan that is read of the table
 plan-spelled : (after : Held) (b a n bytes : List ℕ) (plan : PlanParts) → get after b ≡ Some bytes → IsPlan plan → Spells bytes plan → plan_from after (words_of_replay_table b a n) Spelled ≡ Ok plan
 plan-spelled after b a n bytes plan held is_plan spells =
     let short = length-spelled bytes plan is_plan spells in
-    bind_Ok (bytes_of after (words_of_replay_table b a n) TableFile) spelled_plan bytes (read-whole bytes (get after b) held short)
+    bind_Ok (bytes_of after (words_of_replay_table b a n) TableFile) spelled_plan bytes (read-whole TableFile bytes (get after b) held short)
     ∙ ap (λ r. result_map_both (λ (p : PlanParts). p) BadTable r) (reading-from_spelled bytes plan is_plan spells)
 
 -- the same arrivals are read
 arrivals-same : (before after : Held) (t b a n : List ℕ) (slots : ℕ) (set : TaskSet) → get after a ≡ get before a → recorded_arrivals after (words_of_replay_table b a n) slots set ≡ recorded_arrivals before (words_of_replay t a n) slots set
 arrivals-same before after t b a n slots set same =
-    ap (λ (o : Option (List ℕ)). option_map_or (limited_bytes ArrivalsFile) (option_map (take (limit_of ArrivalsFile + 1)) o) (Err (Unreadable ArrivalsFile)) >>= (λ bytes. fitting_arrivals bytes slots set)) same
+    ap (λ (o : Option (List ℕ)). arrivals_read o slots set) same
 
 -- what a replay writes is the same where its plan and its arrivals are
 writing-same : (before after : Held) (t b a n : List ℕ) (plan : PlanParts) (slots : ℕ) → plan_from before (words_of_replay t a n) Tasks ≡ Ok plan → plan_from after (words_of_replay_table b a n) Spelled ≡ Ok plan → get after a ≡ get before a → writing_of after (words_of_replay_table b a n) (trace_of Spelled slots) ≡ writing_of before (words_of_replay t a n) (trace_of Tasks slots)

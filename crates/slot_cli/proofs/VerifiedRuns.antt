@@ -45,6 +45,7 @@ use Rattle.run_steps.specs.Readings.{arrivals_from, bytes_of, check_from, fittin
 use Rattle.run_steps.proofs.StepLemmas.{bind_Ok}
 use Rattle.slot_cli.specs.Due.{arrivals_for, check_for, due_of, expected, writing_for, writing_of}
 use Rattle.slot_cli.specs.Recordings.{AReplayedTraceIsVerified, CallsForVerified, IsVerified}
+use Rattle.slot_cli.proofs.NamedFiles.{words_of_replay, words_of_verify, read_of, read-whole, arrivals_read}
 use Rattle.slot_cli.proofs.PrintedRuns.{first-step, plan_of_run-asked}
 use Rattle.slot_cli.proofs.RunPlans.{fitting-run}
 use Rattle.slot_cli.proofs.TextStages.{writing_after, writing_beside, writing_when, writing_with}
@@ -104,12 +105,6 @@ IsVerified-due words held command text asked check due =
 
 -- ---- what is replayed is verified
 
-abbrev words_of_replay : List ℕ → List ℕ → List ℕ → List (List ℕ)
-words_of_replay t a n = codes "replay" ∷ t ∷ a ∷ n ∷ []
-
-abbrev words_of_verify : List ℕ → List ℕ → List ℕ → List ℕ → List (List ℕ)
-words_of_verify t a x n = codes "verify" ∷ t ∷ a ∷ x ∷ n ∷ []
-
 -- the command that replays so many slots, and the one that verifies their trace
 abbrev replay_of : ℕ → Command
 replay_of slots =
@@ -147,23 +142,15 @@ replayed-due held words slots text due =
 -- the same plan and the same arrivals are read
 plan-same : (before after : Held) (t a x n : List ℕ) → get after t ≡ get before t → plan_from after (words_of_verify t a x n) Tasks ≡ plan_from before (words_of_replay t a n) Tasks
 plan-same before after t a x n same =
-    ap (λ (o : Option (List ℕ)). option_map_or (limited_bytes TaskFile) (option_map (take (limit_of TaskFile + 1)) o) (Err (Unreadable TaskFile)) >>= planned_plan) same
+    ap (λ (o : Option (List ℕ)). read_of TaskFile o >>= planned_plan) same
 
 arrivals-same : (before after : Held) (t a x n : List ℕ) (slots : ℕ) (set : TaskSet) → get after a ≡ get before a → arrivals_from after (words_of_verify t a x n) (Recorded slots) set ≡ arrivals_from before (words_of_replay t a n) (Recorded slots) set
 arrivals-same before after t a x n slots set same =
-    ap (λ (o : Option (List ℕ)). option_map_or (limited_bytes ArrivalsFile) (option_map (take (limit_of ArrivalsFile + 1)) o) (Err (Unreadable ArrivalsFile)) >>= (λ bytes. fitting_arrivals bytes slots set)) same
-
-within_limit : (bytes : List ℕ) (b : Bool) → b ≡ false → (let o : Outcome (List ℕ) = if b then Err (TooLarge TraceFile) else Ok bytes in o) ≡ Ok bytes
-within_limit bytes true is = cc
-within_limit bytes false is = refl
+    ap (λ (o : Option (List ℕ)). arrivals_read o slots set) same
 
 -- a short trace file is read whole
 trace-read : (held : Held) (t a x n text : List ℕ) → get held x ≡ Some text → length text ≤ READ_LIMIT → bytes_of held (words_of_verify t a x n) TraceFile ≡ Ok text
-trace-read held t a x n text is short =
-    let all : take (READ_LIMIT + 1) text ≡ text = take_all (READ_LIMIT + 1) text (omega (arith, short)) in
-    ap (λ (o : Option (List ℕ)). option_map_or (limited_bytes TraceFile) (option_map (take (READ_LIMIT + 1)) o) (Err (Unreadable TraceFile))) is
-    ∙ ap (limited_bytes TraceFile) all
-    ∙ within_limit text (nat_lt READ_LIMIT (length text)) (le-ltb READ_LIMIT (length text) short)
+trace-read held t a x n text is short = read-whole TraceFile text (get held x) is short
 
 -- the trace of a plan is lawful, and its text is verified
 lawful-own : (plan : PlanParts) (arrivals : List Arrival) (slots : ℕ) → IsPlan plan → are_fitting plan.tasks slots arrivals ≡ true → IsLawfulTrace plan.tasks arrivals slots (trace plan.tasks arrivals slots)

@@ -54,7 +54,7 @@ pub record IsGranted (plan second : PlanParts) (h : History) (c : ℕ) : Type 0 
       (after_change second.tasks c (carried_after plan h) n)
 
 -- one that is refused with this evidence cannot be served, and the evidence shows it
-pub record IsRefused (plan second : PlanParts) (h : History) (c : ℕ) (e : Evidence) : Type 0 where
+pub record IsDenied (plan second : PlanParts) (h : History) (c : ℕ) (e : Evidence) : Type 0 where
   pub cannot : ¬ (CanChange second.tasks c (carried_after plan h) (last_row h + 1))
   pub shown : ShowsNoRoom second.tasks c (carried_after plan h) e
 
@@ -64,4 +64,4 @@ pub record IsChangeExact (plan second : PlanParts) (h : History) (c : ℕ) : Typ
       refusal_of second.tasks c (carried_after plan h) ≡ None → IsGranted plan second h c
   pub refused :
       (e : Evidence) → refusal_of second.tasks c (carried_after plan h) ≡ Some e
-      → IsRefused plan second h c e
+      → IsDenied plan second h c e

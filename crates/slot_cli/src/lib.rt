@@ -91,8 +91,8 @@ pub fn run<F: Files, K: Sink, E: Sink>(
     ensures done_reads_well { result ≡ Status.Done → F.faults files.new ≡ F.faults files.old }
     ensures usage_touches_nothing { result ≡ Status.Usage
         → (files.new ≡ files.old) × (out.new ≡ out.old) }
-    ensures refusal_writes_nothing { leaves_output_at (in_parts (command_of words.now)) result ≡ true
-        → out.new ≡ out.old }
+    ensures refusal_writes_nothing { leaves_output_at (in_parts (command_of words.now)) result
+        ≡ true → out.new ≡ out.old }
     ensures refusal_before_writing { IfSome (F.held files.old) (λ held.
         (e : Refusal) → writing_due held words.now ≡ Err e → out.new ≡ out.old) }
     ensures refusal_writes_front { result ≢ Status.Done → result ≢ Status.WriteFault

@@ -59,7 +59,8 @@ impl<T: Drop> List<T> {
     /// The item at this place, to be changed.
     pub fn item_mut(&mut self, index: usize) -> &mut T
         requires { index < length self.old }
-        ensures* lends { sem 𝓛 (Lends (the_row T.row) T.row self.entry result (slice_set self.old index)) }
+        ensures* lends { sem 𝓛
+            (Lends (the_row T.row) T.row self.entry result (slice_set self.old index)) }
         ensures item { slice_get self.old index ≡ Some result.now }
     {
         &mut self.items[index]

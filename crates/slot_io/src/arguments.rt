@@ -11,7 +11,8 @@ use std::io::{self, ErrorKind};
 use std::rt::Env;
 
 /// The words of the command line, without the program's name. Where one is not UTF-8 there are
-/// none, which is a faulty command line.
+/// none, which is a faulty command line. Contracts see nothing of the host's arguments, so that no
+/// clause tells which words these are: `words_from` tells it of any arguments.
 pub fn words_of<R: Env + AllocGlobal>(rt: &R) -> Result<Words, Memory> {
     words_from(rt.alloc(), env::args(rt))
 }
@@ -38,7 +39,8 @@ fn words_from(alloc: Global, args: io::Result<Args>) -> Result<Words, Memory>
 
 /// Appends the texts of the arguments but the first.
 fn push_words(args: Args, words: &mut Words) -> Result<(), Memory>
-    ensures { OnOk result (words.new ≡ words.old ++ map string_bytes (drop 1 (into_iter_items args))) }
+    ensures { OnOk result
+        (words.new ≡ words.old ++ map string_bytes (drop 1 (into_iter_items args))) }
 {
     for arg in args.skip(1) {
         words.push(arg.as_str())?;

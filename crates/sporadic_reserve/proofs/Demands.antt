@@ -8,7 +8,7 @@ use Rattle.slot_core.specs.declared.tasks.Sporadic.{Sporadic}
 use Rattle.slot_core.specs.Feasibility.Sporadics.{arrivals_due, sporadic_demand}
 use Rattle.sporadic_reserve.specs.declared.rows.Row.{Row}
 use Rattle.sporadic_reserve.specs.Reserves.{without_name, IsNextRise}
-use Rattle.sporadic_reserve.specs.Rows.{reserved, task_of, AreRows, IsRow}
+use Rattle.sporadic_reserve.specs.Rows.{reserved, task_of, AreSporadicRows, IsRow}
 use Rattle.sporadic_reserve.proofs.Counts.{arrivals_due-grows}
 use Rattle.sporadic_reserve.proofs.Rises.{Grows, IsNextRise-same, IsNextRise-sum, IsNextRise-times}
 
@@ -44,7 +44,7 @@ no_row = record {
   next = 0;
 }
 
-pub IsRow-at : (rows : List Row) (i : ℕ) → AreRows rows → i < length rows → IsRow (get_or rows i no_row)
+pub IsRow-at : (rows : List Row) (i : ℕ) → AreSporadicRows rows → i < length rows → IsRow (get_or rows i no_row)
 IsRow-at [] i are within = absurd (omega arith)
 IsRow-at (row ∷ rows) zero are within = are.0
 IsRow-at (row ∷ rows) (suc i) are within = IsRow-at rows i are.1 (omega arith)
@@ -54,7 +54,7 @@ pub row_demand-grows : (row : Row) (r : ℕ) → IsRow row → Grows (λ z. row_
 row_demand-grows row r is x y le =
     mul-le-mul_left row.wcet (arrivals_due-grows (task_of row) row.next r x y is.apart le)
 
-pub row_demands-grow : (rows : List Row) (i r : ℕ) → AreRows rows → Grows (λ z. sum_by (row_demand r z) (take i rows))
+pub row_demands-grow : (rows : List Row) (i r : ℕ) → AreSporadicRows rows → Grows (λ z. sum_by (row_demand r z) (take i rows))
 row_demands-grow [] zero r are x y le = omega arith
 row_demands-grow [] (suc i) r are x y le = omega arith
 row_demands-grow (row ∷ rows) zero r are x y le = omega arith
@@ -72,7 +72,7 @@ abbrev pub RisesAt : List Row → ℕ → ℕ → ℕ → ℕ → Type 0
 RisesAt rows i r x y = IsNextRise (λ z. sum_by (row_demand r z) (take i rows)) x y
 
 -- with one row more: where that of the rows before does, or that of the row
-pub RisesAt-more : (rows : List Row) (i r x due : ℕ) (first : Option ℕ) (y : ℕ) → AreRows rows → i < length rows → MatchOption first (i ≡ 0) (λ z. RisesAt rows i r x z) → IsNextRise (λ z. arrivals_due (task_of (get_or rows i no_row)) (get_or rows i no_row).next r z) x due → MatchOption first (y ≡ due) (λ z. y ≡ min z due) → RisesAt rows (i + 1) r x y
+pub RisesAt-more : (rows : List Row) (i r x due : ℕ) (first : Option ℕ) (y : ℕ) → AreSporadicRows rows → i < length rows → MatchOption first (i ≡ 0) (λ z. RisesAt rows i r x z) → IsNextRise (λ z. arrivals_due (task_of (get_or rows i no_row)) (get_or rows i no_row).next r z) x due → MatchOption first (y ≡ due) (λ z. y ≡ min z due) → RisesAt rows (i + 1) r x y
 RisesAt-more rows i r x due None y are within so_far counted is =
     let row = get_or rows i no_row in
     let here = IsNextRise-times (λ z. arrivals_due (task_of row) row.next r z) row.wcet x due (IsRow-at rows i are within).some counted in
@@ -96,7 +96,7 @@ RisesAt-all rows i r x (Some y) all most so_far =
     IsNextRise-same (λ z. sum_by (row_demand r z) (take i rows)) (λ z. sporadic_demand (reserved rows).sporadics (reserved rows).nexts r z) x y same so_far
 
 -- the sporadic demand never falls
-pub sporadic_demand-grows : (rows : List Row) (r : ℕ) → AreRows rows → Grows (λ z. sporadic_demand (reserved rows).sporadics (reserved rows).nexts r z)
+pub sporadic_demand-grows : (rows : List Row) (r : ℕ) → AreSporadicRows rows → Grows (λ z. sporadic_demand (reserved rows).sporadics (reserved rows).nexts r z)
 sporadic_demand-grows rows r are x y le =
     let whole : take (length rows) rows ≡ rows = take_all (length rows) rows (omega arith) in
     let grows : sum_by (row_demand r x) rows ≤ sum_by (row_demand r y) rows = rw whole at (row_demands-grow rows (length rows) r are x y le) in

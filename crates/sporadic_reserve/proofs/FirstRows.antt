@@ -8,7 +8,7 @@ use Rattle.slot_core.specs.Sets.Ranges.{sporadic_in_range}
 use Rattle.slot_facts.proofs.Sets.Ranges.{bounds, SporadicRanges-from_test}
 use Rattle.sporadic_reserve.specs.declared.rows.Row.{Row}
 use Rattle.sporadic_reserve.specs.Reserves.{without_name}
-use Rattle.sporadic_reserve.specs.Rows.{first_row, reserved, task_of, AreRows, IsRow}
+use Rattle.sporadic_reserve.specs.Rows.{first_row, reserved, task_of, AreSporadicRows, IsRow}
 
 tasks_of-first : (ss : List Sporadic) → map task_of (map first_row ss) ≡ map without_name ss
 tasks_of-first [] = refl
@@ -41,8 +41,8 @@ IsRow-first s h =
     }
 
 -- and their numbers are in range where those of the tasks are
-pub AreRows-first : (ss : List Sporadic) → list_all sporadic_in_range ss ≡ true → AreRows (map first_row ss)
-AreRows-first [] h = tt
-AreRows-first (s ∷ ss) h =
+pub AreSporadicRows-first : (ss : List Sporadic) → list_all sporadic_in_range ss ≡ true → AreSporadicRows (map first_row ss)
+AreSporadicRows-first [] h = tt
+AreSporadicRows-first (s ∷ ss) h =
     let (here, later) = and_parts (sporadic_in_range s) (list_all sporadic_in_range ss) h in
-    (IsRow-first s here, AreRows-first ss later)
+    (IsRow-first s here, AreSporadicRows-first ss later)

@@ -45,5 +45,5 @@ pub record IsRow (row : Row) : Type 0 where
   pub inverse : row.inverse ≡ div_ceil INVERSE_SCALE row.separation
 
 -- so are those of each row
-abbrev pub AreRows : List Row → Type 0
-AreRows rows = AllByRecursion IsRow rows
+abbrev pub AreSporadicRows : List Row → Type 0
+AreSporadicRows rows = AllByRecursion IsRow rows

@@ -23,13 +23,13 @@ pub struct Reserve {
 
 impl Model for Reserve {
     ghost use Rattle.sporadic_reserve.specs.Reserves.{Reserved};
-    ghost use Rattle.sporadic_reserve.specs.Rows.{reserved, AreRows};
+    ghost use Rattle.sporadic_reserve.specs.Rows.{reserved, AreSporadicRows};
 
     ghost Value = { Reserved };
 
     ghost view = { λ r. reserved r.rows.items };
 
-    ghost invariant = { λ r. AreRows r.rows.items };
+    ghost invariant = { λ r. AreSporadicRows r.rows.items };
 }
 
 impl Reserve {

@@ -6,7 +6,7 @@ ghost use Rattle.slot_core.specs.declared.TheConstants.{SPORADIC_LIMIT};
 ghost use Rattle.slot_core.specs.Feasibility.Sporadics.{arrivals_due, sporadic_demand};
 ghost use Rattle.sporadic_reserve.specs.declared.rows.TheConstants.{INVERSE_SCALE};
 ghost use Rattle.sporadic_reserve.specs.Reserves.{demand_limit, IsNextRise};
-ghost use Rattle.sporadic_reserve.specs.Rows.{reserved, task_of, AreRows, IsRow};
+ghost use Rattle.sporadic_reserve.specs.Rows.{reserved, task_of, AreSporadicRows, IsRow};
 
 /// By how much the inverse of a separation is scaled.
 pub const INVERSE_SCALE: u64 = 1 << 32;
@@ -85,7 +85,7 @@ fn due_after(row: Row, r: u64, x: u64, count: u64) -> u64
 
 /// The slots that the densest arrivals from `r` on need by `x`.
 pub(crate) fn demand_of(rows: &[Row], r: u64, x: u64) -> u64
-    requires rows { AreRows rows.now }
+    requires rows { AreSporadicRows rows.now }
     requires few { length rows.now ≤ SPORADIC_LIMIT }
     requires near { r < 2 ^ 41 }
     requires soon { x < 2 ^ 41 }
@@ -104,7 +104,7 @@ pub(crate) fn demand_of(rows: &[Row], r: u64, x: u64) -> u64
 
 /// The first time after `x` at which that demand rises, or none without rows.
 pub(crate) fn next_rise(rows: &[Row], r: u64, x: u64) -> Option<u64>
-    requires rows { AreRows rows.now }
+    requires rows { AreSporadicRows rows.now }
     requires near { r < 2 ^ 41 }
     requires soon { x < 2 ^ 41 }
     ensures { let reserve = reserved rows.now in
@@ -122,7 +122,7 @@ pub(crate) fn next_rise(rows: &[Row], r: u64, x: u64) -> Option<u64>
 
 /// What rows need by a time, and the first time after it at which that rises, in one pass.
 pub(crate) fn demand_and_rise(rows: &[Row], r: u64, x: u64) -> (u64, Option<u64>)
-    requires rows { AreRows rows.now }
+    requires rows { AreSporadicRows rows.now }
     requires few { length rows.now ≤ SPORADIC_LIMIT }
     requires near { r < 2 ^ 41 }
     requires soon { x < 2 ^ 41 }
@@ -153,10 +153,10 @@ fn earlier(first: Option<u64>, due: u64) -> u64
 
 /// From now on the next legal arrival of the row at this place is `next`.
 pub(crate) fn move_next(rows: &mut [Row], at: usize, next: u64)
-    requires rows { AreRows rows.old }
+    requires rows { AreSporadicRows rows.old }
     requires within { at < length rows.old }
     requires near { next ≤ 2 ^ 41 }
-    ensures rows { AreRows rows.new }
+    ensures rows { AreSporadicRows rows.new }
     ensures tasks { (reserved rows.new).sporadics ≡ (reserved rows.old).sporadics }
     ensures nexts { (reserved rows.new).nexts ≡ slice_set (reserved rows.old).nexts at next }
 {

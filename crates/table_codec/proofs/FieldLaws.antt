@@ -21,7 +21,7 @@ use Rattle.table_codec.specs.declared.layout.SpareWidth.TheVariants.{Four as Fou
 use Rattle.table_codec.specs.Readers.{Unread, settled, bytes_at}
 use Rattle.table_codec.specs.Forms.{tested, byte_form, number_form, signed_form, up_to, one_up_to, same_count, bad_name, text_form, name_form}
 use Rattle.table_codec.specs.Grammar.{number_width, spare_width, slots_form, range_form, index_form, spare_form}
-use Rattle.table_codec.specs.Sizes.{room, Fits}
+use Rattle.table_codec.specs.Sizes.{number_bound, Fits}
 use Rattle.table_codec.proofs.FormLaws.{IsBytes, Takes, Takes-then, step, settles, value_same, ReadsWhole, ReadsBack, tested_whole, tested_back, bytes_takes, bytes_whole, bytes_back}
 
 -- ---- numbers
@@ -58,15 +58,15 @@ wide64 = record {
 }
 
 -- the field of a length or time is one
-wide_number : (w : NumberWidth) → IsWide (number_width w) (room w)
+wide_number : (w : NumberWidth) → IsWide (number_width w) (number_bound w)
 wide_number Two = wide16
 wide_number Four = wide32
 
 -- it has room for the numbers of two bytes
-pub room-least : (layout : Layout) (n : ℕ) → n < 2 ^ 16 → Fits layout n
-room-least layout n lt = by_width layout.number
+pub Fits-small : (layout : Layout) (n : ℕ) → n < 2 ^ 16 → Fits layout n
+Fits-small layout n lt = by_width layout.number
   where
-    by_width : (w : NumberWidth) → n < room w
+    by_width : (w : NumberWidth) → n < number_bound w
     by_width Two = lt
     by_width Four = omega (arith, lt)
 
@@ -102,10 +102,10 @@ pub index_back : (n : ℕ) → n < 2 ^ 16 → ReadsBack index_form n
 index_back = number_back w16 (2 ^ 16) wide16
 
 pub slots_whole : (layout : Layout) → ReadsWhole (slots_form layout) (λ _. ⊤)
-slots_whole layout = number_whole (number_width layout.number) (room layout.number) (wide_number layout.number)
+slots_whole layout = number_whole (number_width layout.number) (number_bound layout.number) (wide_number layout.number)
 
 pub slots_back : (layout : Layout) (n : ℕ) → Fits layout n → ReadsBack (slots_form layout) n
-slots_back layout = number_back (number_width layout.number) (room layout.number) (wide_number layout.number)
+slots_back layout = number_back (number_width layout.number) (number_bound layout.number) (wide_number layout.number)
 
 -- of the set
 pub range_whole : (layout : Layout) (place : Part) (field : Field) (low high : ℕ) → ReadsWhole (range_form layout place field low high) (λ n. (is_between low high n ≡ true) × ⊤)
@@ -113,7 +113,7 @@ range_whole layout place field low high = tested_whole _ _ (slots_whole layout)
 
 pub range_back : (layout : Layout) (place : Part) (field : Field) (low high n : ℕ) → high < 2 ^ 16 → is_between low high n ≡ true → ReadsBack (range_form layout place field low high) n
 range_back layout place field low high n small inside =
-    tested_back _ _ (slots_back layout n (room-least layout n (omega (arith, bounds low high n inside)))) inside
+    tested_back _ _ (slots_back layout n (Fits-small layout n (omega (arith, bounds low high n inside)))) inside
 
 -- counts
 pub up_to_whole : (place : Part) (field : Field) (limit : ℕ) → ReadsWhole (up_to place field limit) (λ n. (nat_le n limit ≡ true) × ⊤)

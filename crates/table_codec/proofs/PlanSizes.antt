@@ -34,7 +34,7 @@ use Rattle.table_codec.specs.declared.layout.SpareWidth.{SpareWidth}
 use Rattle.table_codec.specs.declared.layout.SpareWidth.TheVariants.{Four as FourSpare, Eight}
 use Rattle.table_codec.specs.Grammar.{spare_width}
 use Rattle.table_codec.specs.Sizes.{FitsKey, FitsJob, FitsSpan}
-use Rattle.table_codec.proofs.FieldLaws.{room-least}
+use Rattle.table_codec.proofs.FieldLaws.{Fits-small}
 use Rattle.table_codec.proofs.StoredLaws.{IsStoredJob}
 
 -- the jobs that have slots left are no more than those slots
@@ -76,10 +76,10 @@ FitsJob-from_first layout set jobs job these listed =
     let k : o.k < 2 ^ 16 = omega (arith, instance, near.2) in
     let most = cycle-at_most set these.sound in
     record {
-      key = subst (λ (j : Job). FitsKey layout j.key) (sym o.instance_of.derived) (g, t, room-least layout o.k k);
-      est = room-least layout job.est (omega (arith, near.0));
-      dl = room-least layout job.dl (omega (arith, near.1));
-      declared = room-least layout job.declared (omega (arith, fits.room, fits.within, most));
+      key = subst (λ (j : Job). FitsKey layout j.key) (sym o.instance_of.derived) (g, t, Fits-small layout o.k k);
+      est = Fits-small layout job.est (omega (arith, near.0));
+      dl = Fits-small layout job.dl (omega (arith, near.1));
+      declared = Fits-small layout job.declared (omega (arith, fits.room, fits.within, most));
     }
 
 -- so do those of each job of a plan
@@ -112,9 +112,9 @@ FitsSpan-at layout jobs last s e rise within most small =
     let least = IsLeast-least (slack jobs s) e last within in
     let x = least.reached.0 in
     record {
-      start = room-least layout s (omega arith);
-      end = room-least layout e (omega arith);
-      work = room-least layout (span_at jobs last s e).work (omega (arith, work_between-le jobs s e));
+      start = Fits-small layout s (omega arith);
+      end = Fits-small layout e (omega arith);
+      work = Fits-small layout (span_at jobs last s e).work (omega (arith, work_between-le jobs s e));
       spare = fits-from_bounds layout.spare (span_at jobs last s e).spare (omega (arith, ints, least.reached.3, work_between-le jobs s x)) (omega (arith, ints, least.bound e (omega arith) within));
     }
 

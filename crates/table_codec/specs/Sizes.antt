@@ -10,13 +10,13 @@ use Rattle.table_codec.specs.declared.layout.NumberWidth.TheVariants.{Two, Four}
 use Rattle.table_codec.specs.Grammar.{spare_width}
 
 -- the first number that has no room in the field of a length or time
-abbrev pub room : NumberWidth → ℕ
-room Two = 2 ^ 16
-room Four = 2 ^ 32
+abbrev pub number_bound : NumberWidth → ℕ
+number_bound Two = 2 ^ 16
+number_bound Four = 2 ^ 32
 
 -- the number has room in the field of a length or time
 abbrev pub Fits : Layout → ℕ → Type 0
-Fits layout n = n < room layout.number
+Fits layout n = n < number_bound layout.number
 
 -- an offline key, whose numbers have room
 abbrev pub FitsKey : Layout → Key → Type 0

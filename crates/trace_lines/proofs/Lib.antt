@@ -8,3 +8,4 @@ pub mod SpanReads
 pub mod LineReads
 pub mod TraceReads
 pub mod NamedLines
+pub mod LineMoves

@@ -1,6 +1,7 @@
 -- Lines that follow one another as those of a trace.
-use Rattle.std.specs.Prelude.{◌≡◌, ◌≤◌, ◌≢◌, ℕ, ◌+◌, Bool, true, false, ◌&&◌, ◌==◌, List, [], ◌∷◌, ◌++◌, length, flat_map, if◌then◌else◌, Option, Some, None, ⊤, is_none}
+use Rattle.std.specs.Prelude.{◌≡◌, ◌≤◌, ◌≢◌, ℕ, ◌+◌, ◌-◌, Bool, true, false, ◌&&◌, ◌==◌, List, [], ◌∷◌, ◌++◌, length, flat_map, slice_get, if◌then◌else◌, Option, Some, None, ⊤, is_none}
 use Rattle.std.specs.List.{list_all}
+use Rattle.std.specs.Option.{option_map_or}
 use Rattle.trace_lines.specs.declared.TheConstants.{LINE_LIMIT}
 use Rattle.trace_lines.specs.declared.line.KeyName.{KeyName}
 use Rattle.trace_lines.specs.declared.line.Words.{Words}
@@ -83,3 +84,8 @@ run_at time words = []
 -- the runs of lines: at which time which job ran
 abbrev pub runs_of : List TraceLine → List (ℕ × KeyName)
 runs_of lines = flat_map (λ (l : TraceLine). run_at l.time l.words) lines
+
+-- the time of the last line, or 0 where there is none: a whole trace has so many slots
+abbrev pub time_of_last : List TraceLine → ℕ
+time_of_last lines =
+    option_map_or (λ (line : TraceLine). line.time) (slice_get lines (length lines - 1)) 0

@@ -14,7 +14,7 @@ pub use keys::{KeyText, key_named, key_text};
 pub use laws::entries_are_lines;
 pub use line::{KeyName, ShownSpan, SpanList, TraceLine, Words};
 pub use reading::line_of;
-pub use trace::{Reached, TraceFault, read_trace};
+pub use trace::{Reached, TraceFault, read_trace, time_of_last};
 
 /// Most bytes of a line of a trace, without its line feed.
 pub const LINE_LIMIT: usize = 1024;

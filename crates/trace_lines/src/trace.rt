@@ -6,7 +6,7 @@ ghost use Rattle.trace_lines.specs.declared.line.TraceLine.{TraceLine};
 ghost use Rattle.trace_lines.specs.declared.trace.TraceFault.TheVariants.{Memory as MemoryFault};
 ghost use Rattle.trace_lines.specs.Readings.{short_line};
 ghost use Rattle.trace_lines.specs.Texts.{lines_text};
-ghost use Rattle.trace_lines.specs.Traces.{AreTrace, Breaks, follows, IsRead, reached_after, reached_by, reached_by_start};
+ghost use Rattle.trace_lines.specs.Traces.{AreTrace, Breaks, follows, IsRead, reached_after, reached_by, reached_by_start, time_of_last};
 
 use crate::LINE_LIMIT;
 use crate::line::{TraceLine, Words};
@@ -160,6 +160,16 @@ fn push_line(
     };
     lines.push(line)?;
     Ok(next)
+}
+
+/// The time of the last line, or 0 where there is none: a whole trace has so many slots.
+pub fn time_of_last(lines: &[TraceLine]) -> u32
+    ensures { result ≡ time_of_last lines.now }
+{
+    match lines.last() {
+        Some(line) => line.time,
+        None => 0,
+    }
 }
 
 /// The line that the bytes write, where they are not too many.

@@ -57,8 +57,8 @@ impl Line {
         self.len = start + bytes.len();
     }
 
-    /// Appends the first `count` bytes of one block and then the first `more` of another, for all of
-    /// which there is room. The length is written once.
+    /// Appends the first `count` bytes of one block and then the first `more` of another, for all
+    /// of which there is room. The length is written once.
     #[inline]
     pub(crate) fn push_blocks<const N: usize, const M: usize>(
         &mut self,

@@ -1,19 +1,18 @@
 -- The times at which a trace runs a job rise, and are few.
-use Rattle.std.proofs.Common.{◌≡◌, ℕ, ◌+◌, ◌≤◌, ◌==◌, ◌&&◌, ◌++◌, List, [], ◌∷◌, length, map, Some, refl, sym, ap, subst, ◌∙◌, inl, inr, arith}
+use Rattle.std.proofs.Common.{◌≡◌, ℕ, ◌+◌, ◌≤◌, ◌&&◌, ◌++◌, List, [], ◌∷◌, length, map, sym, ap, subst, ◌∙◌, inl, inr, arith}
 use Rattle.std.specs.Prelude.{⊤, filter}
-use Rattle.std.proofs.lemmas.Bool.{and_parts, cases_Bool, eqb-true, leb-true}
+use Rattle.std.proofs.lemmas.Bool.{and_parts, cases_Bool, leb-true}
 use Rattle.slot_core.specs.declared.TheConstants.{NUMBER_LIMIT}
 use Rattle.slot_core.specs.declared.jobs.Key.{Key}
 use Rattle.slot_core.specs.declared.tasks.TaskSet.{TaskSet}
 use Rattle.slot_core.specs.Runs.Rising.{AreRising}
 use Rattle.trace_lines.specs.declared.line.KeyName.{KeyName}
-use Rattle.trace_lines.specs.declared.line.Words.{Words}
-use Rattle.trace_lines.specs.declared.line.Words.TheVariants.{Start, Soft, Firm, Sporadic, Done, Withdraw, Run, Idle, End}
 use Rattle.trace_lines.specs.declared.line.TraceLine.{TraceLine}
 use Rattle.trace_lines.specs.declared.trace.Reached.{Reached}
 use Rattle.trace_lines.specs.declared.trace.Reached.TheVariants.{Nothing, Slot as AtSlot, End as AtEnd}
 use Rattle.trace_lines.specs.Ranges.{number_fits, spans_fit, words_fit}
-use Rattle.trace_lines.specs.Traces.{Leads, MayStand, reached_after, reached_by, reached_by_start, run_at}
+use Rattle.trace_lines.specs.Traces.{Leads, MayStand, run_at}
+use Rattle.trace_lines.proofs.LineMoves.{Ends, end-stays, moves-of, Runs, starts-by, Waits}
 use Rattle.view_jobs.specs.JobTimes.{is_name_of, times_run}
 use Rattle.view_jobs.specs.Laws.{Rise}
 use Rattle.view_jobs.proofs.ToldTimes.{times-line}
@@ -41,35 +40,6 @@ pub few-from : (from : ℕ) (times : List ℕ) → from ≤ NUMBER_LIMIT + 1 →
 few-from from [] low rise = omega (arith, low)
 few-from from (time ∷ times) low (after, within, rest) =
     omega (arith, after, few-from (time + 1) times (omega (arith, within)) rest)
-
--- a line runs a job, and then its slot is over; or it runs none, and time does not go back
-pub data Moves (slot time : ℕ) (words : Words) (next : Reached) : Type 0 where
-  Runs : (name : KeyName) → run_at time words ≡ (time, name) ∷ [] → next ≡ AtSlot (slot + 1) → Moves slot time words next
-  Waits : (later : ℕ) → run_at time words ≡ [] → next ≡ AtSlot later → slot ≤ later → Moves slot time words next
-  Ends : run_at time words ≡ [] → next ≡ AtEnd → Moves slot time words next
-
-moves-by : (slot time : ℕ) (words : Words) (next : Reached) → reached_by slot words ≡ Some next → Moves slot time words next
-moves-by slot time Start next is = absurd (cc is)
-moves-by slot time (Soft row slots a) next is = Waits slot refl (cc is) (omega arith)
-moves-by slot time (Firm row slots within a) next is = Waits slot refl (cc is) (omega arith)
-moves-by slot time (Sporadic row name a) next is = Waits slot refl (cc is) (omega arith)
-moves-by slot time (Done row key a) next is = Waits slot refl (cc is) (omega arith)
-moves-by slot time (Withdraw row firm a) next is = Waits slot refl (cc is) (omega arith)
-moves-by slot time (Run name) next is = Runs name refl (cc is)
-moves-by slot time Idle next is = Waits (slot + 1) refl (cc is) (omega arith)
-moves-by slot time End next is = Ends refl (cc is)
-
-moves-of : (slot : ℕ) (line : TraceLine) (next : Reached) → reached_after (AtSlot slot) line ≡ Some next → (line.time ≡ slot) × Moves slot line.time line.words next
-moves-of slot line next is =
-    elim (cases_Bool (line.time == slot)) [
-      | inl now ↦ (eqb-true line.time slot now, moves-by slot line.time line.words next (rw now at is))
-      | inr other ↦ absurd (let none = rw other at is in cc)
-    ]
-
--- after the end no line follows
-none-after : (lines : List TraceLine) (to : Reached) → Leads AtEnd lines to → lines ≡ []
-none-after [] to leads = refl
-none-after (line ∷ lines) to (may, (next, is, leads)) = absurd (cc is)
 
 -- the time of a line is within the limit
 time-fits : (line : TraceLine) → MayStand line → line.time ≤ NUMBER_LIMIT
@@ -108,23 +78,8 @@ module _ (set : TaskSet) (key : Key) where
         | Waits later none at after ↦
             subst (RiseFrom slot) (sym (quiet line lines none)) (from-earlier slot later (times_run set lines key) after (rise-along later lines to (there (AtSlot later) at)))
         | Ends none at ↦
-            subst (RiseFrom slot) (sym (quiet line lines none ∙ ap (λ ls. times_run set ls key) (none-after lines to (there AtEnd at)))) tt
+            subst (RiseFrom slot) (sym (quiet line lines none ∙ ap (λ ls. times_run set ls key) (end-stays lines to (there AtEnd at)).0)) tt
       ]
-
-  starts-by : (time : ℕ) (words : Words) (next : Reached) → reached_by_start time words ≡ Some next → (run_at time words ≡ []) × (next ≡ AtSlot 0)
-  starts-by time Start next is =
-      elim (cases_Bool (time == 0)) [
-        | inl now ↦ (refl, (let there = rw now at is in cc there))
-        | inr other ↦ absurd (let none = rw other at is in cc)
-      ]
-  starts-by time (Soft row slots a) next is = absurd (cc is)
-  starts-by time (Firm row slots within a) next is = absurd (cc is)
-  starts-by time (Sporadic row name a) next is = absurd (cc is)
-  starts-by time (Done row key a) next is = absurd (cc is)
-  starts-by time (Withdraw row firm a) next is = absurd (cc is)
-  starts-by time (Run name) next is = absurd (cc is)
-  starts-by time Idle next is = absurd (cc is)
-  starts-by time End next is = absurd (cc is)
 
   pub rise-in : (lines : List TraceLine) (to : Reached) → Leads Nothing lines to → RiseFrom 0 (times_run set lines key)
   rise-in [] to leads = tt

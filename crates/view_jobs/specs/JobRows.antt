@@ -17,11 +17,11 @@ job_names =
     ∷ codes "first" ∷ codes "end" ∷ codes "response" ∷ codes "slack" ∷ codes "preemptions" ∷ []
 
 -- the kind of a job
-abbrev pub kind_word : Key → List ℕ
-kind_word (Offline graph task instance) = codes "offline"
-kind_word (Sporadic index row) = codes "sporadic"
-kind_word (Firm row) = codes "firm"
-kind_word (Soft row) = codes "soft"
+abbrev pub job_kind : Key → List ℕ
+job_kind (Offline graph task instance) = codes "offline"
+job_kind (Sporadic index row) = codes "sporadic"
+job_kind (Firm row) = codes "firm"
+job_kind (Soft row) = codes "soft"
 
 -- the graph of an offline job
 abbrev pub graph_of : TaskSet → Key → List ℕ
@@ -70,7 +70,7 @@ less_text _ _ = []
 abbrev pub job_row : TaskSet → Listed → Tally → List (List ℕ)
 job_row set job tally =
     key_text set job.key
-    ∷ kind_word job.key
+    ∷ job_kind job.key
     ∷ graph_of set job.key
     ∷ task_of set job.key
     ∷ decimal (number_of job.key)

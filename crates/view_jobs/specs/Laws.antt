@@ -10,11 +10,11 @@ use Rattle.trace_lines.specs.Traces.{AreTrace}
 use Rattle.view_jobs.specs.declared.tallies.Tally.{Tally}
 use Rattle.view_jobs.specs.Deeds.{deeds_of, key_in}
 use Rattle.view_jobs.specs.JobTimes.{ends_of, is_name_of, stretches, times_run}
-use Rattle.view_jobs.specs.Tallies.{told_of}
+use Rattle.view_jobs.specs.Tallies.{tally_of}
 
 -- what lines tell of a job
 abbrev pub told_by : TaskSet → List TraceLine → Key → Tally
-told_by set lines key = told_of (deeds_of set lines) key
+told_by set lines key = tally_of (deeds_of set lines) key
 
 -- each time is later than the one before it
 abbrev pub Rise : List ℕ → Type 0

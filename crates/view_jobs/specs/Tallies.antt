@@ -52,8 +52,8 @@ told_from key tally [] = tally
 told_from key tally (deed ∷ deeds) = told_from key (after_does key tally deed.time deed.does) deeds
 
 -- what deeds tell of a job
-abbrev pub told_of : List Deed → Key → Tally
-told_of deeds key = told_from key untold deeds
+abbrev pub tally_of : List Deed → Key → Tally
+tally_of deeds key = told_from key untold deeds
 
 -- the tally of a key in a map of tallies
 abbrev pub tally_in : BTreeMap Key Tally → Key → Tally

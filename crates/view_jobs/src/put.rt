@@ -1,12 +1,11 @@
 //! The table of jobs.
 
-ghost use Rattle.std.specs.Prelude.{◌≡◌, ℕ, ◌≤◌, ◌<◌, ◌+◌, ◌++◌, ◌∷◌, List, [], length, Some, Err, OnOk, OnErr};
+ghost use Rattle.std.specs.Prelude.{◌≡◌, ℕ, ◌≤◌, ◌+◌, ◌++◌, List, Some, Err, IfOk, OnOk, OnErr};
 ghost use Rattle.std.specs.Io.KnownBytes.{Appends};
 ghost use Rattle.slot_core.specs.Calls.Counts.{Rose};
 ghost use Rattle.slot_io.specs.Sinks.{AppendsPart};
 ghost use Rattle.csv_table.specs.Tables.{rows_text};
-ghost use Rattle.view_jobs.specs.JobRows.{job_names};
-ghost use Rattle.view_jobs.specs.Tables.{first_unknown, jobs_text, rows_with, table_text, time_of_last};
+ghost use Rattle.view_jobs.specs.Tables.{first_unknown, jobs_text, listed_text, rows_with};
 ghost use Rattle.view_jobs.specs.Tallies.{tally_in};
 
 use crate::deeds::{deeds_of, first_unknown};
@@ -19,16 +18,13 @@ use cycle_plan::Plan;
 use slot_core::{Memory, TaskSet};
 use slot_io::Sink;
 use std::alloc::Global;
-use trace_lines::TraceLine;
+use trace_lines::{TraceLine, time_of_last};
 use trace_text::Line;
 
-/// How many jobs are written by one put.
-const JOBS_A_PUT: usize = 256;
-
-/// Writes a header and a row for each job of the trace: the offline jobs of the plan that are
-/// released before its end, and the jobs that arrive and are taken. Where a line names a task that
-/// the plan's set does not have, nothing is written. After another error a part of the text is
-/// written, from its front.
+/// Writes a header and a row for each job of the trace, by one put of the whole text: the offline
+/// jobs of the plan that are released before its end, and the jobs that arrive and are taken. Where
+/// a line names a task that the plan's set does not have, and where memory runs out, nothing is
+/// written. Where the sink failed, a part of the text is written, from its front.
 pub fn put_jobs<K: Sink>(
     alloc: Global,
     plan: &Plan,
@@ -39,6 +35,7 @@ pub fn put_jobs<K: Sink>(
         (Appends (K.written out.old) (K.written out.new) (jobs_text plan.now lines.now)) }
     ensures part { OnErr result
         (AppendsPart (K.written out.old) (K.written out.new) (jobs_text plan.now lines.now)) }
+    ensures memory { result ≡ Err (JobsFault.Memory) → out.new ≡ out.old }
     ensures counted { K.faults out.old ≤ K.faults out.new }
     ensures failed { result ≡ Err (JobsFault.Failed)
         → Rose (K.faults out.old) (K.faults out.new) }
@@ -72,105 +69,39 @@ fn put_known<K: Sink>(
         (Appends (K.written out.old) (K.written out.new) (jobs_text plan.now lines.now)) }
     ensures part { OnErr result
         (AppendsPart (K.written out.old) (K.written out.new) (jobs_text plan.now lines.now)) }
+    ensures memory { result ≡ Err (TableFault.Memory) → out.new ≡ out.old }
     ensures counted { K.faults out.old ≤ K.faults out.new }
     ensures failed { result ≡ Err (TableFault.Failed)
         → Rose (K.faults out.old) (K.faults out.new) }
+{
+    let rows = jobs_table(alloc, plan, lines)?;
+    rows.put(out)
+}
+
+/// The table of lines that name no unknown task.
+fn jobs_table(alloc: Global, plan: &Plan, lines: &[TraceLine]) -> Result<Rows, Memory>
+    ensures { IfOk result (λ rows. rows ≡ Some (jobs_text plan.now lines.now)) }
 {
     let deeds = deeds_of(alloc, plan.tasks(), lines)?;
     let jobs = listed_jobs(alloc, plan, time_of_last(lines), &deeds)?;
     let tallies = tallies_of(alloc, &deeds)?;
-    put_all(alloc, plan.tasks(), &jobs, &tallies, out)
+    listed_table(alloc, plan.tasks(), &jobs, &tallies)
 }
 
-/// The time of the last line.
-fn time_of_last(lines: &[TraceLine]) -> u32
-    ensures { result ≡ time_of_last lines.now }
-{
-    match lines.last() {
-        Some(line) => line.time,
-        None => 0,
-    }
-}
-
-/// Writes the header and the rows of the jobs.
-fn put_all<K: Sink>(
+/// The header and the rows of the jobs.
+fn listed_table(
     alloc: Global,
     tasks: &TaskSet,
     jobs: &[Listed],
     tallies: &Tallies,
-    out: &mut K,
-) -> Result<(), TableFault>
-    ensures text { OnOk result (Appends (K.written out.old) (K.written out.new)
-        (table_text tasks.now (tally_in tallies.now) jobs.now)) }
-    ensures part { OnErr result (AppendsPart (K.written out.old) (K.written out.new)
-        (table_text tasks.now (tally_in tallies.now) jobs.now)) }
-    ensures counted { K.faults out.old ≤ K.faults out.new }
-    ensures failed { result ≡ Err (TableFault.Failed)
-        → Rose (K.faults out.old) (K.faults out.new) }
-{
-    put_header(alloc, out)?;
-    put_rows(alloc, tasks, jobs, tallies, out)
-}
-
-/// Writes the header.
-fn put_header<K: Sink>(alloc: Global, out: &mut K) -> Result<(), TableFault>
-    ensures text { OnOk result
-        (Appends (K.written out.old) (K.written out.new) (rows_text (job_names ∷ []))) }
-    ensures part { OnErr result
-        (AppendsPart (K.written out.old) (K.written out.new) (rows_text (job_names ∷ []))) }
-    ensures counted { K.faults out.old ≤ K.faults out.new }
-    ensures failed { result ≡ Err (TableFault.Failed)
-        → Rose (K.faults out.old) (K.faults out.new) }
+) -> Result<Rows, Memory>
+    ensures { IfOk result (λ rows.
+        rows ≡ Some (listed_text tasks.now (tally_in tallies.now) jobs.now)) }
 {
     let mut rows = Rows::new(alloc);
     rows.push(&job_names())?;
-    rows.put(out)
-}
-
-/// Writes the rows of the jobs, by a put for each `JOBS_A_PUT` of them.
-fn put_rows<K: Sink>(
-    alloc: Global,
-    tasks: &TaskSet,
-    jobs: &[Listed],
-    tallies: &Tallies,
-    out: &mut K,
-) -> Result<(), TableFault>
-    ensures text { OnOk result (Appends (K.written out.old) (K.written out.new)
-        (rows_text (rows_with tasks.now (tally_in tallies.now) jobs.now))) }
-    ensures part { OnErr result (AppendsPart (K.written out.old) (K.written out.new)
-        (rows_text (rows_with tasks.now (tally_in tallies.now) jobs.now))) }
-    ensures counted { K.faults out.old ≤ K.faults out.new }
-    ensures failed { result ≡ Err (TableFault.Failed)
-        → Rose (K.faults out.old) (K.faults out.new) }
-{
-    let mut rest = jobs;
-    while !rest.is_empty() {
-        let (part, later) = rest.split_at(rest.len().min(JOBS_A_PUT));
-        put_part(alloc, tasks, part, tallies, out)?;
-        rest = later;
-    }
-    Ok(())
-}
-
-/// Writes the rows of these jobs by one put.
-fn put_part<K: Sink>(
-    alloc: Global,
-    tasks: &TaskSet,
-    jobs: &[Listed],
-    tallies: &Tallies,
-    out: &mut K,
-) -> Result<(), TableFault>
-    ensures text { OnOk result (Appends (K.written out.old) (K.written out.new)
-        (rows_text (rows_with tasks.now (tally_in tallies.now) jobs.now))) }
-    ensures part { OnErr result (AppendsPart (K.written out.old) (K.written out.new)
-        (rows_text (rows_with tasks.now (tally_in tallies.now) jobs.now))) }
-    ensures counted { K.faults out.old ≤ K.faults out.new }
-    ensures failed { result ≡ Err (TableFault.Failed)
-        → Rose (K.faults out.old) (K.faults out.new) }
-{
-    let mut rows = Rows::new(alloc);
     push_jobs(&mut rows, tasks, jobs, tallies)?;
-    rows.put(out)
+    Ok(rows)
 }
 
 /// Appends the rows of these jobs.

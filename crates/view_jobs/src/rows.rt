@@ -6,7 +6,7 @@ ghost use Rattle.slot_core.specs.declared.tasks.Task.{Task};
 ghost use Rattle.slot_core.specs.declared.TheConstants.{NAME_LIMIT};
 ghost use Rattle.slot_core.specs.Output.Texts.{graph_name, key_text, sporadic_name, task_name};
 ghost use Rattle.csv_table.specs.Tables.{row_line};
-ghost use Rattle.view_jobs.specs.JobRows.{end_after, end_of, end_with, freed_by, graph_of, job_names, job_row, kind_word, less_text, number_of, task_of};
+ghost use Rattle.view_jobs.specs.JobRows.{end_after, end_of, end_with, freed_by, graph_of, job_names, job_row, job_kind, less_text, number_of, task_of};
 
 use crate::jobs::Listed;
 use crate::tallies::Tally;
@@ -62,7 +62,7 @@ fn job_cells<'a>(tasks: &'a TaskSet, job: &Listed, tally: Tally, key: &'a [u8]) 
     let end = end_of(job, tally);
     [
         Cell::text(key),
-        Cell::text(kind_word(job.key)),
+        Cell::text(job_kind(job.key)),
         Cell::text(graph_of(tasks, job.key)),
         Cell::text(task_of(tasks, job.key)),
         Cell::number(number_of(job.key)),
@@ -121,8 +121,8 @@ fn freed_of(tally: Tally) -> u64
 }
 
 /// The kind of the job.
-fn kind_word(key: Key) -> &'static [u8]
-    ensures { result.now ≡ kind_word key }
+fn job_kind(key: Key) -> &'static [u8]
+    ensures { result.now ≡ job_kind key }
 {
     match key {
         Key::Offline(_, _, _) => b"offline",

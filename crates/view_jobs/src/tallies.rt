@@ -2,7 +2,7 @@
 
 ghost use Rattle.std.specs.Prelude.{◌≡◌, ℕ, OnOk, IfOk};
 ghost use Rattle.slot_core.specs.declared.jobs.Key.{Key};
-ghost use Rattle.view_jobs.specs.Tallies.{after_does, after_end, after_run, gaps_at, tally_in, told_from, told_of};
+ghost use Rattle.view_jobs.specs.Tallies.{after_does, after_end, after_run, gaps_at, tally_in, told_from, tally_of};
 
 use crate::deeds::{Deed, Does};
 use slot_core::{Key, Memory};
@@ -38,7 +38,7 @@ pub(crate) type Tallies = BTreeMap<Key, Tally>;
 
 /// The tallies of these deeds.
 pub(crate) fn tallies_of(alloc: Global, deeds: &[Deed]) -> Result<Tallies, Memory>
-    ensures { IfOk result (λ tallies. (key : Key) → tally_in tallies key ≡ told_of deeds.now key) }
+    ensures { IfOk result (λ tallies. (key : Key) → tally_in tallies key ≡ tally_of deeds.now key) }
 {
     let mut tallies = BTreeMap::new(alloc);
     add_all(&mut tallies, deeds)?;

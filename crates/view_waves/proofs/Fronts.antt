@@ -15,7 +15,8 @@ use Rattle.view_waves.specs.declared.steps.Wave.{Wave}
 use Rattle.view_waves.specs.Levels.{changed, steps_by}
 use Rattle.view_waves.specs.Steps.{next_on, step_at, steps_from, wave_after, wave_along, wave_at}
 use Rattle.view_waves.proofs.Folds.{changed-at}
-use Rattle.view_waves.proofs.LineKinds.{along-none, along-step, end-stays, Ends, kind-of, start-of, steps-none, steps-step, Tells, Waits}
+use Rattle.trace_lines.proofs.LineMoves.{end-stays}
+use Rattle.view_waves.proofs.LineKinds.{along-none, along-step, Ends, kind-of, start-of, steps-none, steps-step, Tells, Waits}
 
 -- a step at or before a slot is one of those up to it, and a later one is not
 by-now : (slot : ℕ) (step : Step) (steps : List Step) → step.time ≤ slot → steps_by slot (step ∷ steps) ≡ step ∷ steps_by slot steps

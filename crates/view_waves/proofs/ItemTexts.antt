@@ -1,15 +1,10 @@
 -- The texts of items, one item more.
 use Rattle.std.proofs.Common.{◌≡◌, ℕ, zero, suc, ◌+◌, ◌<◌, List, [], ◌∷◌, ◌++◌, append-nil, append_assoc, length, take, drop, get_or, Option, add-one, refl, sym, ap, subst, ◌∙◌, arith}
-use Rattle.std.specs.Prelude.{flat_map, Result, Ok, Err, OnErr}
+use Rattle.std.specs.Prelude.{flat_map}
 use Rattle.std.specs.Io.KnownBytes.{Appends}
 use Rattle.std.proofs.KnownBytes.{Appends-nil, Appends-trans}
 use Rattle.slot_io.specs.Sinks.{AppendsPart}
 use Rattle.slot_io.proofs.SinkParts.{AppendsPart-more, AppendsPart-on}
-
--- what holds, holds where a call fails
-pub failing : {T E P : Type 0} (r : Result T E) → P → OnErr r P
-failing (Ok x) p = tt
-failing (Err e) p = p
 
 -- the texts of a list: those before an item, its own, and those after it
 flat_map-split : {X : Type 0} (f : X → List ℕ) (xs : List X) (i : ℕ) (d : X) → i < length xs → flat_map f xs ≡ flat_map f (take i xs) ++ (f (get_or xs i d) ++ flat_map f (drop (suc i) xs))

@@ -1,5 +1,5 @@
 -- What a line of a trace does to its waves.
-use Rattle.std.proofs.Common.{◌≡◌, ℕ, ◌+◌, ◌==◌, List, [], ◌∷◌, ◌++◌, Some, None, refl, sym, ap, inl, inr}
+use Rattle.std.proofs.Common.{◌≡◌, ℕ, ◌+◌, ◌==◌, List, ◌∷◌, ◌++◌, Some, None, refl, ap, inl, inr}
 use Rattle.std.specs.Prelude.{option_map}
 use Rattle.std.specs.Option.{option_map_or}
 use Rattle.std.proofs.lemmas.Bool.{cases_Bool, eqb-true}
@@ -8,7 +8,7 @@ use Rattle.trace_lines.specs.declared.line.Words.TheVariants.{Start, Soft, Firm,
 use Rattle.trace_lines.specs.declared.line.TraceLine.{TraceLine}
 use Rattle.trace_lines.specs.declared.trace.Reached.{Reached}
 use Rattle.trace_lines.specs.declared.trace.Reached.TheVariants.{Nothing, Slot as AtSlot, End as AtEnd}
-use Rattle.trace_lines.specs.Traces.{Leads, reached_after, reached_by, reached_by_start}
+use Rattle.trace_lines.specs.Traces.{reached_after, reached_by, reached_by_start}
 use Rattle.run_blocks.specs.declared.rows.Row.{Row}
 use Rattle.view_waves.specs.declared.steps.Wave.{Wave}
 use Rattle.view_waves.specs.Steps.{next_on, step_at, step_if_any, steps_from, wave_along, wave_at}
@@ -56,11 +56,6 @@ start-by rows time End next is = absurd (cc is)
 
 pub start-of : (rows : List Row) (line : TraceLine) (next : Reached) → reached_after Nothing line ≡ Some next → ((on : ℕ) → next_on rows on line.words ≡ None) × (next ≡ AtSlot 0)
 start-of rows line next is = start-by rows line.time line.words next is
-
--- after the end no line follows
-pub end-stays : (lines : List TraceLine) (to : Reached) → Leads AtEnd lines to → (lines ≡ []) × (to ≡ AtEnd)
-end-stays [] to leads = (refl, sym leads)
-end-stays (line ∷ lines) to (may, (next, is, leads)) = absurd (cc is)
 
 -- a line that makes a step, before others
 pub steps-step : (rows : List Row) (wave : Wave) (line : TraceLine) (lines : List TraceLine) (on : ℕ) → next_on rows wave.on line.words ≡ Some on → steps_from rows wave (line ∷ lines) ≡ step_at wave line on ∷ steps_from rows (wave_at wave line on) lines

@@ -47,5 +47,7 @@ pub idle_on : map (is_on rows lines 2) (range_with_len 0 4) ≡ false ∷ false 
 idle_on = refl
 
 -- the capacities: that after the slot before
-pub shown : map (shown_at (first_shown lines) (steps_of rows lines)) (range_with_len 0 4) ≡ 5 ∷ 5 ∷ 4 ∷ 3 ∷ []
+pub shown :
+    map (shown_at (first_shown lines) (steps_of rows lines)) (range_with_len 0 4)
+    ≡ 5 ∷ 5 ∷ 4 ∷ 3 ∷ []
 shown = refl

@@ -26,19 +26,22 @@ abbrev pub row_text : ℕ × Row → List ℕ
 row_text (wire, row) = wire_text wire (row_label row)
 
 -- what stands before the wires: a unit of time is a slot
-abbrev pub opening : List ℕ
-opening =
-    codes "$comment One unit of time is one slot. $end\n$timescale 1 us $end\n$scope module trace $end\n"
+abbrev pub before_wires : List ℕ
+before_wires =
+    codes "$comment One unit of time is one slot. $end\n"
+    ++ codes "$timescale 1 us $end\n$scope module trace $end\n"
 
 -- what stands after them: the wire of idle slots, and the capacity
-abbrev pub closing : ℕ → List ℕ
-closing idle =
+abbrev pub after_wires : ℕ → List ℕ
+after_wires idle =
     wire_text idle (codes "idle")
     ++ codes "$var integer 64 c capacity $end\n$upscope $end\n$enddefinitions $end\n"
 
 -- the declarations: a wire for each row, one for idle slots, and the capacity
 abbrev pub head_text : List Row → List ℕ
-head_text rows = opening ++ flat_map row_text (enumerate_from 0 rows) ++ closing (length rows)
+head_text rows =
+    before_wires
+    ++ flat_map row_text (enumerate_from 0 rows) ++ after_wires (length rows)
 
 -- the value of a wire
 abbrev pub level_text : ℕ → Bool → List ℕ

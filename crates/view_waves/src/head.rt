@@ -5,9 +5,9 @@ ghost use Rattle.std.specs.List.{enumerate_from, range_with_len};
 ghost use Rattle.std.specs.Io.KnownBytes.{Appends};
 ghost use Rattle.slot_core.specs.Calls.Counts.{Rose};
 ghost use Rattle.slot_io.specs.Sinks.{AppendsPart};
-ghost use Rattle.view_waves.specs.WaveTexts.{closing, first_text, head_text, levels_text, opening, row_text, shown_text};
+ghost use Rattle.view_waves.specs.WaveTexts.{after_wires, first_text, head_text, levels_text, before_wires, row_text, shown_text};
 
-use crate::lines::{push_capacity, push_closing, push_level, push_row};
+use crate::lines::{push_after_wires, push_capacity, push_level, push_row};
 use crate::steps::Wave;
 use run_blocks::Row;
 use slot_core::Failed;
@@ -15,8 +15,8 @@ use slot_io::Sink;
 use trace_text::Line;
 
 /// What stands before the wires.
-const OPENING: &[u8] =
-    b"$comment One unit of time is one slot. $end\n$timescale 1 us $end\n$scope module trace $end\n";
+const BEFORE_WIRES: &[u8] = b"$comment One unit of time is one slot. $end\n$timescale 1 us $end\n\
+      $scope module trace $end\n";
 
 /// Writes the declarations: a wire for each row, one for idle slots, and the capacity.
 pub(crate) fn put_head<K: Sink>(rows: &[Row], out: &mut K) -> Result<(), Failed>
@@ -27,21 +27,21 @@ pub(crate) fn put_head<K: Sink>(rows: &[Row], out: &mut K) -> Result<(), Failed>
     ensures counted { K.faults out.old ≤ K.faults out.new }
     ensures failed { OnErr result (Rose (K.faults out.old) (K.faults out.new)) }
 {
-    put_opening(out)?;
+    put_before_wires(out)?;
     put_row_wires(rows, out)?;
-    put_closing(rows.len(), out)
+    put_after_wires(rows.len(), out)
 }
 
 /// Writes what stands before the wires.
-fn put_opening<K: Sink>(out: &mut K) -> Result<(), Failed>
+fn put_before_wires<K: Sink>(out: &mut K) -> Result<(), Failed>
     ensures text { OnOk result
-        (Appends (K.written out.old) (K.written out.new) (opening)) }
+        (Appends (K.written out.old) (K.written out.new) (before_wires)) }
     ensures part { OnErr result
-        (AppendsPart (K.written out.old) (K.written out.new) (opening)) }
+        (AppendsPart (K.written out.old) (K.written out.new) (before_wires)) }
     ensures counted { K.faults out.old ≤ K.faults out.new }
     ensures failed { OnErr result (Rose (K.faults out.old) (K.faults out.new)) }
 {
-    out.put(OPENING)
+    out.put(BEFORE_WIRES)
 }
 
 /// Writes the wires of the rows.
@@ -65,16 +65,16 @@ fn put_row_wires<K: Sink>(rows: &[Row], out: &mut K) -> Result<(), Failed>
 }
 
 /// Writes what stands after the wires of the rows.
-fn put_closing<K: Sink>(idle: usize, out: &mut K) -> Result<(), Failed>
+fn put_after_wires<K: Sink>(idle: usize, out: &mut K) -> Result<(), Failed>
     ensures text { OnOk result
-        (Appends (K.written out.old) (K.written out.new) (closing idle)) }
+        (Appends (K.written out.old) (K.written out.new) (after_wires idle)) }
     ensures part { OnErr result
-        (AppendsPart (K.written out.old) (K.written out.new) (closing idle)) }
+        (AppendsPart (K.written out.old) (K.written out.new) (after_wires idle)) }
     ensures counted { K.faults out.old ≤ K.faults out.new }
     ensures failed { OnErr result (Rose (K.faults out.old) (K.faults out.new)) }
 {
     let mut line = Line::new();
-    push_closing(&mut line, idle);
+    push_after_wires(&mut line, idle);
     out.put(line.bytes())
 }
 

@@ -2,11 +2,29 @@
 
 ghost use Rattle.std.specs.Prelude.{◌≡◌, ℕ, ◌≤◌, ◌+◌, ◌-◌, ◌++◌, List, [], length, map, codes};
 ghost use Rattle.std.specs.List.{range_with_len};
-ghost use Rattle.view_waves.specs.WaveTexts.{bit_digit, change_text, closing, level_text, row_label, row_text, capacity_text, step_text, turn_text};
+ghost use Rattle.trace_text.specs.declared.TheConstants.{LINE_LIMIT};
+ghost use Rattle.view_waves.specs.declared.lines.TheConstants.{BITS, CAPACITY_SIZE, LABEL_LIMIT, LEVEL_LIMIT, TURN_LIMIT};
+ghost use Rattle.view_waves.specs.WaveTexts.{bit_digit, change_text, after_wires, level_text, row_label, row_text, capacity_text, step_text, turn_text};
 
 use crate::steps::Step;
 use run_blocks::Row;
-use trace_text::Line;
+use slot_core::NAME_LIMIT;
+use trace_text::{DECIMAL_LIMIT, Line};
+
+/// Most bytes of the name of a row: two names and a point.
+const LABEL_LIMIT: usize = 2 * NAME_LIMIT + 1;
+
+/// The bits of a capacity.
+const BITS: usize = 64;
+
+/// Most bytes of the value of a wire: two letters, a number and a line feed.
+const LEVEL_LIMIT: usize = 2 + DECIMAL_LIMIT + 1;
+
+/// Most bytes of a wire that falls and one that rises.
+const TURN_LIMIT: usize = 2 * LEVEL_LIMIT;
+
+/// The bytes of the value of a capacity: a letter, its bits, a space, its name and a line feed.
+const CAPACITY_SIZE: usize = 1 + BITS + 3;
 
 /// Writes the declaration of the wire of a row into an empty line.
 pub(crate) fn push_row(line: &mut Line, wire: usize, row: &Row)
@@ -21,9 +39,9 @@ pub(crate) fn push_row(line: &mut Line, wire: usize, row: &Row)
 }
 
 /// Writes the declarations of the idle wire and of the capacity into an empty line.
-pub(crate) fn push_closing(line: &mut Line, idle: usize)
+pub(crate) fn push_after_wires(line: &mut Line, idle: usize)
     requires { line.old ≡ [] }
-    ensures { line.new ≡ closing idle }
+    ensures { line.new ≡ after_wires idle }
 {
     line.push(b"$var wire 1 w");
     line.number(idle as u64);
@@ -33,9 +51,9 @@ pub(crate) fn push_closing(line: &mut Line, idle: usize)
 
 /// Appends the name of a row.
 fn push_label(line: &mut Line, row: &Row)
-    requires { length line.old + 49 ≤ 1024 }
+    requires { length line.old + LABEL_LIMIT ≤ LINE_LIMIT }
     ensures text { line.new ≡ line.old ++ row_label row.now }
-    ensures short { length line.new ≤ length line.old + 49 }
+    ensures short { length line.new ≤ length line.old + LABEL_LIMIT }
 {
     match row {
         Row::Task(graph, task) => {
@@ -55,9 +73,9 @@ fn push_label(line: &mut Line, row: &Row)
 
 /// Appends the value of a wire.
 pub(crate) fn push_level(line: &mut Line, wire: usize, is_on: bool)
-    requires { length line.old + 23 ≤ 1024 }
+    requires { length line.old + LEVEL_LIMIT ≤ LINE_LIMIT }
     ensures text { line.new ≡ line.old ++ level_text wire is_on }
-    ensures short { length line.new ≤ length line.old + 23 }
+    ensures short { length line.new ≤ length line.old + LEVEL_LIMIT }
 {
     if is_on {
         line.push(b"1w");
@@ -70,9 +88,9 @@ pub(crate) fn push_level(line: &mut Line, wire: usize, is_on: bool)
 
 /// Appends the value of a capacity of these bits.
 pub(crate) fn push_capacity(line: &mut Line, bits: u64)
-    requires { length line.old + 68 ≤ 1024 }
+    requires { length line.old + CAPACITY_SIZE ≤ LINE_LIMIT }
     ensures text { line.new ≡ line.old ++ capacity_text bits }
-    ensures short { length line.new ≤ length line.old + 68 }
+    ensures short { length line.new ≤ length line.old + CAPACITY_SIZE }
 {
     line.push(b"b");
     push_bits(line, bits);
@@ -81,9 +99,9 @@ pub(crate) fn push_capacity(line: &mut Line, bits: u64)
 
 /// Appends the bits of the number, the highest first.
 fn push_bits(line: &mut Line, n: u64)
-    requires { length line.old + 64 ≤ 1024 }
+    requires { length line.old + BITS ≤ LINE_LIMIT }
     ensures text { line.new ≡ line.old ++ map (λ i. bit_digit n (63 - i)) (range_with_len 0 64) }
-    ensures short { length line.new ≤ length line.old + 64 }
+    ensures short { length line.new ≤ length line.old + BITS }
 {
     for i in 0..64 {
         line.push(&[bit_digit(n, 63 - i)]);
@@ -112,9 +130,9 @@ pub(crate) fn push_step(line: &mut Line, step: Step)
 
 /// Appends a wire that falls, and one that rises.
 fn push_turn(line: &mut Line, turn: Option<(usize, usize)>)
-    requires { length line.old + 46 ≤ 1024 }
+    requires { length line.old + TURN_LIMIT ≤ LINE_LIMIT }
     ensures text { line.new ≡ line.old ++ turn_text turn }
-    ensures short { length line.new ≤ length line.old + 46 }
+    ensures short { length line.new ≤ length line.old + TURN_LIMIT }
 {
     if let Some((from, to)) = turn {
         push_level(line, from, false);
@@ -124,7 +142,7 @@ fn push_turn(line: &mut Line, turn: Option<(usize, usize)>)
 
 /// Appends another capacity.
 fn push_change(line: &mut Line, change: Option<u64>)
-    requires { length line.old + 68 ≤ 1024 }
+    requires { length line.old + CAPACITY_SIZE ≤ LINE_LIMIT }
     ensures { line.new ≡ line.old ++ change_text change }
 {
     if let Some(bits) = change {

@@ -3,7 +3,7 @@
 ghost use Rattle.std.specs.Prelude.{◌≡◌, ◌<◌};
 
 use crate::span_table::ChainTable;
-use crate::table::SpareTable;
+use crate::table::{Front, SpareTable};
 use node_chain::Chain;
 use slot_core::{Span, Steps};
 use std::alloc::Global;
@@ -27,6 +27,18 @@ fn fields_are_whole(rt: HostRuntime) -> Result<(), Fail> {
         (fields.0.len(), *fields.1, *fields.2, *fields.3),
         (1, 0, 4, 0)
     );
+    Ok(())
+}
+
+// Where there are more spans than pages, all that end in the pages before are told at once.
+#[test]
+fn pages_before_are_told(rt: HostRuntime) -> Result<(), Fail> {
+    let table = ChainTable::with_room(rt.alloc(), &[span(0, 2, 1, 1)], 200, 200)?;
+    let mut near = Front { count: 0, works: 0 };
+    if table.time() < 300 && 300 <= table.last_end() {
+        near = table.near(300);
+    }
+    assert_eq!(rt; (near.count, near.works), (127, 127));
     Ok(())
 }
 

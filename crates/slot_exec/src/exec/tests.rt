@@ -8,7 +8,7 @@ use crate::exec::test_sets::{alarm_set, flight_set, row_set};
 use circular_buffer::HeapCircularBuffer;
 use cycle_plan::{Plan, make_plan};
 use guarantee::{Answer, test};
-use interval_row::{ChainTable, RowTable, SpareTable, Spot};
+use interval_row::{ChainTable, Front, RowTable, SpareTable, Spot};
 use job_queue::JobQueue;
 use slot_core::{Firm, Key, Memory, Ran, Soft, SoftJob, Span, Steps, TaskSet};
 use sporadic_reserve::Reserve;
@@ -243,6 +243,18 @@ impl<T: SpareTable> SpareTable for ReadTable<T> {
 
     fn next(&self, at: Spot) -> Option<Spot> {
         self.table.next(at)
+    }
+
+    fn spot(&self, index: u32) -> Spot {
+        self.table.spot(index)
+    }
+
+    fn near(&self, x: u64) -> Front {
+        self.table.near(x)
+    }
+
+    fn skip(&self, front: Front, place: Span, until: u64, asked: u64) -> Front {
+        self.table.skip(front, place, until, asked)
     }
 
     fn read<L: Ledger>(&self, at: Spot, steps: &mut Steps<L>) -> Span {

@@ -1,13 +1,15 @@
-use Rattle.std.proofs.Common.{◌≡◌, ℕ, ◌+◌, ◌≤◌, [], max, take, refl, sym, ap, ◌∙◌, arith}
+use Rattle.std.proofs.Common.{◌≡◌, ℕ, ◌+◌, ◌-◌, ◌≤◌, pos, ◌+ℤ◌, ◌≤ℤ◌, [], max, min, take, refl, sym, ap, ◌∙◌, arith}
 use Rattle.std.specs.Option.{option_map}
+use Rattle.std.proofs.lemmas.Bool.{false≢true}
+use Rattle.std.proofs.lemmas.Int.{ints}
 use Rattle.spare_capacity.specs.Recurrence.{last_end}
-use Rattle.interval_row.specs.Tables.{spans_of_pairs}
+use Rattle.interval_row.specs.Tables.{spans_of_pairs, works}
 use Rattle.guarantee.specs.Offers.{evidence_at, first_short, need_until}
-use Rattle.guarantee.specs.Places.{works}
 use Rattle.guarantee.specs.Stretches.{NeedsNone}
-use Rattle.guarantee.proofs.Segments.{covered, covered-leaves, leaves-end, IsLevelFrom-later, Leaves-join, Leaves-part, Looks-end, Looks-inside, Looks-found, Looks-last, Looks-later, Looks-leaves}
-use Rattle.guarantee.proofs.Tables.{last-ends, last-works, later-start, IsSeen-place}
+use Rattle.guarantee.proofs.Segments.{covered, covered-leaves, leaves-end, IsLevelFrom-later, Leaves-all, Leaves-join, Leaves-part, LeavesAll-later, Looks-end, Looks-inside, Looks-found, Looks-last, Looks-later, Looks-leaves, Looks-most, most-end}
+use Rattle.guarantee.proofs.Tables.{last-ends, last-works, later-after, IsSeen-place}
 use Rattle.guarantee.proofs.search.first_short_on.Goals as goal
+use Rattle.guarantee.proofs.search.first_short_on.Goals.{else-most-eq0-via-then-most-eq0+else-not-covers, else-most-eq0-via-else-most-eq0}
 
 pub untried-tried-requires : goal.untried-tried-requires
 untried-tried-requires g c =
@@ -67,8 +69,8 @@ returns-in-Some-clause-first g c =
     Looks-found spans a.reserve.now t a.ask.arrivals a.ask.slots a.ask.now needed c.max-first.result place.span.end c.in-Some.evidence looks c.in-Some.ensures.short
     ∙ sym (ap (option_map (evidence_at spans a.reserve.now t a.ask.arrivals a.ask.slots)) same)
 
-pub overflow_add-ask : goal.overflow_add-ask
-overflow_add-ask g c =
+pub overflow_add-due : goal.overflow_add-due
+overflow_add-due g c =
     let a = c.args in
     let t = g.T.SpareTable.time a.table.now in
     let pairs = g.T.SpareTable.pairs a.table.now in
@@ -78,8 +80,8 @@ overflow_add-ask g c =
     let seen = IsSeen-place t (g.T.SpareTable.limit a.table.now) pairs place table inv.place in
     omega (arith, seen.small, c.requires.few)
 
-pub overflow_add-ask-in-loop-evidence : goal.overflow_add-ask-in-loop-evidence
-overflow_add-ask-in-loop-evidence g c =
+pub overflow_add-due-in-loop-evidence : goal.overflow_add-due-in-loop-evidence
+overflow_add-due-in-loop-evidence g c =
     let a = c.args in
     let t = g.T.SpareTable.time a.table.now in
     let pairs = g.T.SpareTable.pairs a.table.now in
@@ -87,10 +89,21 @@ overflow_add-ask-in-loop-evidence g c =
     let inv = c.loop-evidence.invariant in
     let place = c.loop-evidence.place in
     let seen = IsSeen-place t (g.T.SpareTable.limit a.table.now) pairs place table inv.place in
-    omega (arith, seen.small, c.requires.few, c.demand-most.ensures.small)
+    omega (arith, seen.small, c.requires.few, c.demand-most.ensures.small, inv.small, c.short_between.ensures.least)
 
-pub left_after-requires-clause-after : goal.left_after-requires-clause-after
-left_after-requires-clause-after g c =
+pub overflow_add-due-in-loop-evidence-2 : goal.overflow_add-due-in-loop-evidence-2
+overflow_add-due-in-loop-evidence-2 g c =
+    let a = c.args in
+    let t = g.T.SpareTable.time a.table.now in
+    let pairs = g.T.SpareTable.pairs a.table.now in
+    let table = c.requires.table in
+    let inv = c.loop-evidence.invariant in
+    let place = c.loop-evidence.place in
+    let seen = IsSeen-place t (g.T.SpareTable.limit a.table.now) pairs place table inv.place in
+    omega (arith, seen.small, c.requires.few, c.demand-most.ensures.small, inv.small, c.short_between.ensures.least)
+
+pub covers-requires-clause-after : goal.covers-requires-clause-after
+covers-requires-clause-after g c =
     let a = c.args in
     let t = g.T.SpareTable.time a.table.now in
     let pairs = g.T.SpareTable.pairs a.table.now in
@@ -100,8 +113,8 @@ left_after-requires-clause-after g c =
     let seen = IsSeen-place t (g.T.SpareTable.limit a.table.now) pairs place table inv.place in
     omega (arith, seen.stands.after, c.requires.now)
 
-pub left_after-requires-clause-near : goal.left_after-requires-clause-near
-left_after-requires-clause-near g c =
+pub covers-requires-clause-near : goal.covers-requires-clause-near
+covers-requires-clause-near g c =
     let a = c.args in
     let t = g.T.SpareTable.time a.table.now in
     let pairs = g.T.SpareTable.pairs a.table.now in
@@ -111,8 +124,8 @@ left_after-requires-clause-near g c =
     let seen = IsSeen-place t (g.T.SpareTable.limit a.table.now) pairs place table inv.place in
     omega (arith, seen.stands.rising, seen.stands.within, c.requires.near)
 
-pub left_after-requires-clause-few : goal.left_after-requires-clause-few
-left_after-requires-clause-few g c =
+pub covers-requires-clause-few : goal.covers-requires-clause-few
+covers-requires-clause-few g c =
     let a = c.args in
     let t = g.T.SpareTable.time a.table.now in
     let pairs = g.T.SpareTable.pairs a.table.now in
@@ -120,10 +133,10 @@ left_after-requires-clause-few g c =
     let inv = c.loop-evidence.invariant in
     let place = c.loop-evidence.place in
     let seen = IsSeen-place t (g.T.SpareTable.limit a.table.now) pairs place table inv.place in
-    omega (arith, seen.small, c.requires.few, c.demand-most.ensures.small)
+    omega (arith, seen.small, c.requires.few, c.demand-most.ensures.small, inv.small, c.short_between.ensures.least)
 
-pub left_after-requires-clause-short : goal.left_after-requires-clause-short
-left_after-requires-clause-short g c =
+pub covers-requires-clause-short : goal.covers-requires-clause-short
+covers-requires-clause-short g c =
     let a = c.args in
     let t = g.T.SpareTable.time a.table.now in
     let pairs = g.T.SpareTable.pairs a.table.now in
@@ -133,8 +146,52 @@ left_after-requires-clause-short g c =
     let seen = IsSeen-place t (g.T.SpareTable.limit a.table.now) pairs place table inv.place in
     seen.short
 
-pub returns-in-Some-left_after-clause-first : goal.returns-in-Some-left_after-clause-first
-returns-in-Some-left_after-clause-first g c =
+pub covers-requires-then-most-eq0-clause-after : goal.covers-requires-then-most-eq0-clause-after
+covers-requires-then-most-eq0-clause-after g c =
+    let a = c.args in
+    let t = g.T.SpareTable.time a.table.now in
+    let pairs = g.T.SpareTable.pairs a.table.now in
+    let table = c.requires.table in
+    let inv = c.loop-evidence.invariant in
+    let place = c.loop-evidence.place in
+    let seen = IsSeen-place t (g.T.SpareTable.limit a.table.now) pairs place table inv.place in
+    omega (arith, seen.stands.after, c.requires.now)
+
+pub covers-requires-then-most-eq0-clause-near : goal.covers-requires-then-most-eq0-clause-near
+covers-requires-then-most-eq0-clause-near g c =
+    let a = c.args in
+    let t = g.T.SpareTable.time a.table.now in
+    let pairs = g.T.SpareTable.pairs a.table.now in
+    let table = c.requires.table in
+    let inv = c.loop-evidence.invariant in
+    let place = c.loop-evidence.place in
+    let seen = IsSeen-place t (g.T.SpareTable.limit a.table.now) pairs place table inv.place in
+    omega (arith, seen.stands.rising, seen.stands.within, c.requires.near)
+
+pub covers-requires-then-most-eq0-clause-few : goal.covers-requires-then-most-eq0-clause-few
+covers-requires-then-most-eq0-clause-few g c =
+    let a = c.args in
+    let t = g.T.SpareTable.time a.table.now in
+    let pairs = g.T.SpareTable.pairs a.table.now in
+    let table = c.requires.table in
+    let inv = c.loop-evidence.invariant in
+    let place = c.loop-evidence.place in
+    let seen = IsSeen-place t (g.T.SpareTable.limit a.table.now) pairs place table inv.place in
+    omega (arith, seen.small, c.requires.few)
+
+pub covers-requires-then-most-eq0-clause-short : goal.covers-requires-then-most-eq0-clause-short
+covers-requires-then-most-eq0-clause-short g c =
+    let a = c.args in
+    let t = g.T.SpareTable.time a.table.now in
+    let pairs = g.T.SpareTable.pairs a.table.now in
+    let table = c.requires.table in
+    let inv = c.loop-evidence.invariant in
+    let place = c.loop-evidence.place in
+    let seen = IsSeen-place t (g.T.SpareTable.limit a.table.now) pairs place table inv.place in
+    seen.short
+
+pub returns-then-covers-clause-first : goal.returns-then-covers-clause-first
+returns-then-covers-clause-first g c =
     let a = c.args in
     let t = g.T.SpareTable.time a.table.now in
     let pairs = g.T.SpareTable.pairs a.table.now in
@@ -150,11 +207,11 @@ returns-in-Some-left_after-clause-first g c =
     let same = inv.same ∙ ap (first_short spans a.reserve.now t a.ask.arrivals a.ask.slots) (sym c.max-first.ensures) in
     let told = sym c.in_default.is ∙ c.short_between.ensures.short in
     let onward = Looks-later spans a.reserve.now t a.ask.arrivals a.ask.slots a.ask.now needed c.max-first.result place.span.end (max c.max-first.result place.span.end) looks refl told in
-    let none = covered spans a.reserve.now t a.ask.arrivals a.ask.slots a.ask.now needed (max c.max-first.result place.span.end) c.demand-most.result c.in-Some-left_after.left place.index place.span table.consecutive table.filled seen.at c.requires.now due (omega arith) (λ z most. c.demand-most.ensures.most z (omega (arith, most, c.last_end-last.ensures))) c.in-Some-left_after.ensures in
+    let none = covered spans a.reserve.now t a.ask.arrivals a.ask.slots a.ask.now needed (max c.max-first.result place.span.end) c.demand-most.result c.short_between.new.tried.left place.index place.span table.consecutive table.filled seen.at c.requires.now due (omega arith) (λ z most. c.demand-most.ensures.most z (omega (arith, most, c.last_end-last.ensures))) (c.covers.ensures.0 c.if-covers.true) in
     sym (ap (option_map (evidence_at spans a.reserve.now t a.ask.arrivals a.ask.slots)) (same ∙ onward ∙ none))
 
-pub returns-in-Some-left_after-clause-left : goal.returns-in-Some-left_after-clause-left
-returns-in-Some-left_after-clause-left g c =
+pub returns-then-covers-clause-left : goal.returns-then-covers-clause-left
+returns-then-covers-clause-left g c =
     let a = c.args in
     let t = g.T.SpareTable.time a.table.now in
     let pairs = g.T.SpareTable.pairs a.table.now in
@@ -172,19 +229,30 @@ returns-in-Some-left_after-clause-left g c =
     let before = Leaves-part need t a.ask.slots c.loop-evidence.tried.left left a.from (max a.from place.span.start) a.from c.max-first.result c.short_between.ensures.least (omega arith) (omega (arith, c.max-first.ensures)) inv.left in
     let inside = Looks-leaves spans a.reserve.now a.ask t place.due left c.max-first.result place.span.end looks (c.short_between.ensures.left c.in_default.is) in
     let so_far = Leaves-join need t a.ask.slots left a.from c.max-first.result place.span.end before inside in
-    let rest = covered-leaves spans a.reserve.now t a.ask.arrivals a.ask.slots a.ask.now needed c.demand-most.result c.in-Some-left_after.left place.index place.span table.consecutive table.filled seen.at c.requires.now due (λ z most. c.demand-most.ensures.most z (omega (arith, most, c.last_end-last.ensures))) c.in-Some-left_after.ensures in
-    let least = c.min.result in
-    Leaves-join need t a.ask.slots least a.from place.span.end (last_end t spans + 1)
-    (Leaves-part need t a.ask.slots left least a.from place.span.end a.from place.span.end (omega (arith, c.min.ensures)) (omega arith) (omega arith) so_far)
-    (Leaves-part need t a.ask.slots c.in-Some-left_after.left least place.span.end (last_end t spans + 1) place.span.end (last_end t spans + 1) (omega (arith, c.min.ensures)) (omega arith) (omega arith) rest)
+    let rest = covered-leaves spans a.reserve.now t a.ask.arrivals a.ask.slots a.ask.now needed c.demand-most.result left place.index place.span table.consecutive table.filled seen.at c.requires.now due (λ z most. c.demand-most.ensures.most z (omega (arith, most, c.last_end-last.ensures))) (c.covers.ensures.0 c.if-covers.true) in
+    Leaves-join need t a.ask.slots left a.from place.span.end (last_end t spans + 1) so_far rest
 
-pub returns-in-Some-left_after-clause-none_soon : goal.returns-in-Some-left_after-clause-none_soon
-returns-in-Some-left_after-clause-none_soon g c none =
+pub returns-then-covers-clause-greatest : goal.returns-then-covers-clause-greatest
+returns-then-covers-clause-greatest g c =
+    let a = c.args in
+    let t = g.T.SpareTable.time a.table.now in
+    let pairs = g.T.SpareTable.pairs a.table.now in
+    let table = c.requires.table in
     let inv = c.loop-evidence.invariant in
-    omega (arith, inv.stays none, inv.steps)
+    let place = c.loop-evidence.place in
+    let seen = IsSeen-place t (g.T.SpareTable.limit a.table.now) pairs place table inv.place in
+    let spans = spans_of_pairs pairs in
+    let needed = a.ask.slots + place.due in
+    let due : needed ≡ a.ask.slots + works (take place.index spans) = omega (arith, seen.due) in
+    let low : place.span.start ≤ c.max-first.result = omega (arith, c.max-first.ensures) in
+    let looks = Looks-inside spans t a.ask.slots a.ask.now needed c.max-first.result place.index place.span table.consecutive seen.at c.requires.now due low in
+    let start : a.from ≤ c.max-first.result = omega (arith, c.max-first.ensures) in
+    let most = min a.told (last_end t spans - t - a.ask.slots) in
+    let greatest = Looks-most spans a.reserve.now a.ask t place.due most c.loop-evidence.tried.left c.short_between.new.tried.left a.from c.max-first.result place.span.end looks start inv.greatest (c.short_between.ensures.greatest c.in_default.is) in
+    greatest
 
-pub returns-then-most-eq0-clause-first : goal.returns-then-most-eq0-clause-first
-returns-then-most-eq0-clause-first g c =
+pub returns-then-not-covers-clause-first : goal.returns-then-not-covers-clause-first
+returns-then-not-covers-clause-first g c =
     let a = c.args in
     let t = g.T.SpareTable.time a.table.now in
     let pairs = g.T.SpareTable.pairs a.table.now in
@@ -227,23 +295,42 @@ loop-evidence-preserved g c =
     let before = Leaves-part need t a.ask.slots c.loop-evidence.tried.left left a.from (max a.from place.span.start) a.from c.max-first.result c.short_between.ensures.least (omega arith) (omega (arith, c.max-first.ensures)) inv.left in
     let inside = Looks-leaves spans a.reserve.now a.ask t place.due left c.max-first.result place.span.end looks (c.short_between.ensures.left c.in_default.is) in
     let so_far = Leaves-join need t a.ask.slots left a.from c.max-first.result place.span.end before inside in
-    let stays : a.reserve.now.sporadics ≡ [] → ⊥ = λ none.
+    let start : a.from ≤ c.max-first.result = omega (arith, c.max-first.ensures) in
+    let most = min a.told (last_end t spans - t - a.ask.slots) in
+    let greatest = Looks-most spans a.reserve.now a.ask t place.due most c.loop-evidence.tried.left c.short_between.new.tried.left a.from c.max-first.result place.span.end looks start inv.greatest (c.short_between.ensures.greatest c.in_default.is) in
+    let stays : a.told ≡ 0 → a.reserve.now.sporadics ≡ [] → ⊥ = λ untold none.
     let nothing : c.demand-most.result ≡ 0 = c.demand-most.ensures.demand ∙ rw none refl in
-    omega (arith, c.if-most-eq0.false) in
-    let next = c.in-Some-after.later in
-    let is = c.in-Some-after.ensures in
-    let start = later-start t pairs place next table.consecutive inv.place is.place is.last in
+    let least : c.short_between.new.tried.left ≡ 0 = omega (arith, untold, inv.told, c.short_between.ensures.least) in
+    elim c.else-most-eq0.branch [
+      | else-most-eq0-via-then-most-eq0+else-not-covers w ↦
+          let enough = w.covers-then-most-eq0.ensures.0 w.if-not-covers.false in
+          let all : pos (a.ask.slots + place.due + c.demand-most.result + c.short_between.new.tried.left) ≤ℤ (pos (place.span.start - a.ask.now) +ℤ place.span.spare) = omega (arith, ints, enough, nothing, least) in
+          false≢true (sym c.if-covers.false ∙ c.covers.ensures.1 all)
+      | else-most-eq0-via-else-most-eq0 w ↦ omega (arith, nothing, w.if-most-eq0.false)
+    ] in
+    let next = c.in-Some-onward.next in
+    let is = c.in-Some-onward.ensures in
+    let after = later-after t pairs place next table.consecutive inv.place is.place is.last in
     let there = IsSeen-place t (g.T.SpareTable.limit a.table.now) pairs next table is.place in
-    let first : max a.from next.span.start ≡ max c.max-first.result place.span.end = omega (arith, c.max-first.ensures, seen.stands.rising) in
+    let end : place.span.end ≡ max c.max-first.result place.span.end = omega (arith, inv.reached, seen.stands.rising, c.max-first.ensures) in
+    let here : next.span.start ≡ max a.from next.span.start = omega (arith, inv.reached, after) in
+    let passed = Leaves-join need t a.ask.slots left a.from place.span.end next.span.start so_far (Leaves-all need t a.ask.slots left place.span.end next.span.start is.left) in
     record {
       place = is.place;
       passed = omega (arith, inv.passed, is.last);
-      reached = omega (arith, there.stands.rising, inv.reached);
-      same = same ∙ Looks-later spans a.reserve.now t a.ask.arrivals a.ask.slots a.ask.now needed c.max-first.result place.span.end (max a.from next.span.start) looks first told;
-      level = IsLevelFrom-later a.reserve.now a.ask.arrivals (max c.max-first.result place.span.end) (max a.from next.span.start) _ (omega arith) c.short_between.ensures.level;
-      left = Leaves-part need t a.ask.slots left left a.from place.span.end a.from (max a.from next.span.start) (omega arith) (omega arith) (omega (arith, start, inv.reached)) so_far;
+      reached = omega (arith, there.stands.rising, inv.reached, after);
+      same =
+          same
+          ∙ Looks-later spans a.reserve.now t a.ask.arrivals a.ask.slots a.ask.now needed c.max-first.result place.span.end place.span.end looks end told
+          ∙ LeavesAll-later spans a.reserve.now t a.ask.arrivals a.ask.slots left place.span.end next.span.start after is.left
+          ∙ ap (first_short spans a.reserve.now t a.ask.arrivals a.ask.slots) here;
+      level = IsLevelFrom-later a.reserve.now a.ask.arrivals (max c.max-first.result place.span.end) (max a.from next.span.start) _ (omega (arith, after, c.max-first.ensures, seen.stands.rising)) c.short_between.ensures.level;
+      left = Leaves-part need t a.ask.slots left left a.from next.span.start a.from (max a.from next.span.start) (omega arith) (omega arith) (omega (arith, here)) passed;
       small = omega (arith, inv.small, c.short_between.ensures.least);
-      stays = λ none. absurd (stays none);
+      told = omega (arith, inv.told, c.short_between.ensures.least);
+      greatest = greatest;
+      stays = λ untold none. absurd (stays untold none);
+      rose = omega (arith, inv.rose, is.steps);
       steps = omega (arith, inv.steps, is.steps, is.last);
     }
 
@@ -291,8 +378,8 @@ left_between-requires-clause-level g c =
     let seen = IsSeen-place t (g.T.SpareTable.limit a.table.now) pairs place table inv.place in
     IsLevelFrom-later a.reserve.now a.ask.arrivals (max c.max-first.result place.span.end) c.max.result _ (omega (arith, seen.stands.rising, seen.stands.within, c.last_end-last.ensures, c.max.ensures, c.max-first.ensures)) c.short_between.ensures.level
 
-pub returns-in_default-after-clause-first : goal.returns-in_default-after-clause-first
-returns-in_default-after-clause-first g c =
+pub returns-in_default-onward-clause-first : goal.returns-in_default-onward-clause-first
+returns-in_default-onward-clause-first g c =
     let a = c.args in
     let t = g.T.SpareTable.time a.table.now in
     let pairs = g.T.SpareTable.pairs a.table.now in
@@ -307,7 +394,7 @@ returns-in_default-after-clause-first g c =
     let looks = Looks-inside spans t a.ask.slots a.ask.now needed c.max-first.result place.index place.span table.consecutive seen.at c.requires.now due low in
     let same = inv.same ∙ ap (first_short spans a.reserve.now t a.ask.arrivals a.ask.slots) (sym c.max-first.ensures) in
     let told = sym c.in_default.is ∙ c.short_between.ensures.short in
-    let over = c.in_default-after.ensures.last in
+    let over = c.in_default-onward.ensures.last in
     let end = last-ends t pairs place inv.place over in
     let first : c.max.result ≡ max c.max-first.result place.span.end = omega (arith, c.max.ensures, c.max-first.ensures, c.last_end-last.ensures, seen.stands.rising) in
     let all = place.due + place.span.work in
@@ -319,8 +406,8 @@ returns-in_default-after-clause-first g c =
     ∙ Looks-last spans a.reserve.now t a.ask.arrivals a.ask.slots a.ask.now (a.ask.slots + all) c.max.result (c.last_end-last.result + 1) whole until
     ∙ sym (ap (option_map (evidence_at spans a.reserve.now t a.ask.arrivals a.ask.slots)) (same ∙ onward))
 
-pub returns-in_default-after-clause-left : goal.returns-in_default-after-clause-left
-returns-in_default-after-clause-left g c =
+pub returns-in_default-onward-clause-left : goal.returns-in_default-onward-clause-left
+returns-in_default-onward-clause-left g c =
     let a = c.args in
     let t = g.T.SpareTable.time a.table.now in
     let pairs = g.T.SpareTable.pairs a.table.now in
@@ -338,7 +425,7 @@ returns-in_default-after-clause-left g c =
     let before = Leaves-part need t a.ask.slots c.loop-evidence.tried.left left a.from (max a.from place.span.start) a.from c.max-first.result c.short_between.ensures.least (omega arith) (omega (arith, c.max-first.ensures)) inv.left in
     let inside = Looks-leaves spans a.reserve.now a.ask t place.due left c.max-first.result place.span.end looks (c.short_between.ensures.left c.in_default.is) in
     let so_far = Leaves-join need t a.ask.slots left a.from c.max-first.result place.span.end before inside in
-    let over = c.in_default-after.ensures.last in
+    let over = c.in_default-onward.ensures.last in
     let end = last-ends t pairs place inv.place over in
     let first : c.max.result ≡ max c.max-first.result place.span.end = omega (arith, c.max.ensures, c.max-first.ensures, c.last_end-last.ensures, seen.stands.rising) in
     let all = place.due + place.span.work in
@@ -348,7 +435,44 @@ returns-in_default-after-clause-left g c =
     let up_to = Leaves-part need t a.ask.slots left left a.from place.span.end a.from c.max.result (omega arith) (omega arith) (omega (arith, end, inv.reached, c.max.ensures, c.last_end-last.ensures)) so_far in
     leaves-end spans a.reserve.now a.ask t all left a.from c.max.result (c.last_end-last.result + 1) c.left_between.result whole until up_to c.left_between.ensures.left c.left_between.ensures.least
 
-pub returns-in_default-after-clause-none_soon : goal.returns-in_default-after-clause-none_soon
-returns-in_default-after-clause-none_soon g c none =
+pub returns-in_default-onward-clause-none_soon : goal.returns-in_default-onward-clause-none_soon
+returns-in_default-onward-clause-none_soon g c untold none =
+    let a = c.args in
+    let inv = c.loop-evidence.invariant in
+    let place = c.loop-evidence.place in
+    let stays : a.told ≡ 0 → a.reserve.now.sporadics ≡ [] → ⊥ = λ untold none.
     let nothing : c.demand-most.result ≡ 0 = c.demand-most.ensures.demand ∙ rw none refl in
-    absurd (omega (arith, c.if-most-eq0.false))
+    let least : c.short_between.new.tried.left ≡ 0 = omega (arith, untold, inv.told, c.short_between.ensures.least) in
+    elim c.else-most-eq0.branch [
+      | else-most-eq0-via-then-most-eq0+else-not-covers w ↦
+          let enough = w.covers-then-most-eq0.ensures.0 w.if-not-covers.false in
+          let all : pos (a.ask.slots + place.due + c.demand-most.result + c.short_between.new.tried.left) ≤ℤ (pos (place.span.start - a.ask.now) +ℤ place.span.spare) = omega (arith, ints, enough, nothing, least) in
+          false≢true (sym c.if-covers.false ∙ c.covers.ensures.1 all)
+      | else-most-eq0-via-else-most-eq0 w ↦ omega (arith, nothing, w.if-most-eq0.false)
+    ] in
+    absurd (stays untold none)
+
+pub returns-in_default-onward-clause-greatest : goal.returns-in_default-onward-clause-greatest
+returns-in_default-onward-clause-greatest g c =
+    let a = c.args in
+    let t = g.T.SpareTable.time a.table.now in
+    let pairs = g.T.SpareTable.pairs a.table.now in
+    let table = c.requires.table in
+    let inv = c.loop-evidence.invariant in
+    let place = c.loop-evidence.place in
+    let seen = IsSeen-place t (g.T.SpareTable.limit a.table.now) pairs place table inv.place in
+    let spans = spans_of_pairs pairs in
+    let needed = a.ask.slots + place.due in
+    let due : needed ≡ a.ask.slots + works (take place.index spans) = omega (arith, seen.due) in
+    let low : place.span.start ≤ c.max-first.result = omega (arith, c.max-first.ensures) in
+    let looks = Looks-inside spans t a.ask.slots a.ask.now needed c.max-first.result place.index place.span table.consecutive seen.at c.requires.now due low in
+    let start : a.from ≤ c.max-first.result = omega (arith, c.max-first.ensures) in
+    let most = min a.told (last_end t spans - t - a.ask.slots) in
+    let greatest = Looks-most spans a.reserve.now a.ask t place.due most c.loop-evidence.tried.left c.short_between.new.tried.left a.from c.max-first.result place.span.end looks start inv.greatest (c.short_between.ensures.greatest c.in_default.is) in
+    let over = c.in_default-onward.ensures.last in
+    let end = last-ends t pairs place inv.place over in
+    let all = place.due + place.span.work in
+    let works_all : a.ask.slots + all ≡ a.ask.slots + works spans = omega (arith, last-works pairs place inv.place over) in
+    let until : c.last_end-last.result + 1 ≡ last_end t spans + 1 = omega (arith, c.last_end-last.ensures) in
+    let whole = Looks-end spans t a.ask.slots a.ask.now (a.ask.slots + all) c.max.result (c.last_end-last.result + 1) table.consecutive c.requires.now works_all (omega (arith, c.max.ensures, c.last_end-last.ensures)) until in
+    most-end spans a.reserve.now a.ask t all most c.short_between.new.tried.left a.from c.max.result (c.last_end-last.result + 1) c.left_between.result whole (omega (arith, c.max.ensures)) greatest c.left_between.ensures.greatest

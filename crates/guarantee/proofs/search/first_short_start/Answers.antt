@@ -1,19 +1,32 @@
 use Rattle.std.proofs.Common.{◌≡◌, ◌+◌, None, take, refl, sym, ap, ◌∙◌, arith}
 use Rattle.std.specs.Option.{option_map}
-use Rattle.interval_row.specs.Tables.{spans_of_pairs}
+use Rattle.interval_row.specs.Tables.{spans_of_pairs, works}
 use Rattle.guarantee.specs.Offers.{evidence_at, first_short}
-use Rattle.guarantee.specs.Places.{works}
 use Rattle.guarantee.proofs.Segments.{not_covered}
-use Rattle.guarantee.proofs.Starts.{end-short, start-fits, start-short}
-use Rattle.guarantee.proofs.Tables.{last-ends, last-works, later-start, IsSeen-place}
+use Rattle.guarantee.proofs.Starts.{end-short, passed, start-fits, start-short}
+use Rattle.guarantee.proofs.Tables.{last-ends, last-works, later-after, IsSeen-place}
 use Rattle.guarantee.proofs.search.first_short_start.Goals as goal
+
+pub overflow_add-asked : goal.overflow_add-asked
+overflow_add-asked g c =
+    let a = c.args in
+    let t = g.T.SpareTable.time a.table.now in
+    let seen = IsSeen-place t (g.T.SpareTable.limit a.table.now) (g.T.SpareTable.pairs a.table.now) a.place c.requires.table c.requires.place in
+    omega (arith, seen.stands.after, seen.stands.rising, seen.stands.within, c.requires.now, c.requires.near, c.requires.few)
+
+pub later-requires-clause-few : goal.later-requires-clause-few
+later-requires-clause-few g c =
+    let a = c.args in
+    let t = g.T.SpareTable.time a.table.now in
+    let seen = IsSeen-place t (g.T.SpareTable.limit a.table.now) (g.T.SpareTable.pairs a.table.now) a.place c.requires.table c.requires.place in
+    omega (arith, seen.stands.after, seen.stands.rising, seen.stands.within, c.requires.now, c.requires.near, c.requires.few)
 
 pub overflow_add-result : goal.overflow_add-result
 overflow_add-result g c =
     let a = c.args in
     let t = g.T.SpareTable.time a.table.now in
     let pairs = g.T.SpareTable.pairs a.table.now in
-    let seen = IsSeen-place t (g.T.SpareTable.limit a.table.now) pairs c.loop-later.place c.requires.table c.loop-later.invariant.place in
+    let seen = IsSeen-place t (g.T.SpareTable.limit a.table.now) pairs c.loop-next.place c.requires.table c.loop-next.invariant.place in
     omega (arith, seen.small, c.requires.few)
 
 pub overflow_add-result-in_default : goal.overflow_add-result-in_default
@@ -21,7 +34,7 @@ overflow_add-result-in_default g c =
     let a = c.args in
     let t = g.T.SpareTable.time a.table.now in
     let pairs = g.T.SpareTable.pairs a.table.now in
-    let seen = IsSeen-place t (g.T.SpareTable.limit a.table.now) pairs c.loop-later.place c.requires.table c.loop-later.invariant.place in
+    let seen = IsSeen-place t (g.T.SpareTable.limit a.table.now) pairs c.loop-next.place c.requires.table c.loop-next.invariant.place in
     omega (arith, seen.small, seen.stands.work, c.requires.few)
 
 pub overflow_sub-result : goal.overflow_sub-result
@@ -29,7 +42,7 @@ overflow_sub-result g c =
     let a = c.args in
     let t = g.T.SpareTable.time a.table.now in
     let pairs = g.T.SpareTable.pairs a.table.now in
-    let seen = IsSeen-place t (g.T.SpareTable.limit a.table.now) pairs c.loop-later.place c.requires.table c.loop-later.invariant.place in
+    let seen = IsSeen-place t (g.T.SpareTable.limit a.table.now) pairs c.loop-next.place c.requires.table c.loop-next.invariant.place in
     omega (arith, seen.stands.after, seen.stands.rising, c.requires.now)
 
 pub returns-in_default-clause-first : goal.returns-in_default-clause-first
@@ -39,8 +52,8 @@ returns-in_default-clause-first g c reserve quiet =
     let pairs = g.T.SpareTable.pairs a.table.now in
     let spans = spans_of_pairs pairs in
     let table = c.requires.table in
-    let inv = c.loop-later.invariant in
-    let place = c.loop-later.place in
+    let inv = c.loop-next.invariant in
+    let place = c.loop-next.place in
     let first = IsSeen-place t (g.T.SpareTable.limit a.table.now) pairs a.place table c.requires.place in
     let over = c.in_default.ensures.last in
     let needed = a.ask.slots + a.place.due in
@@ -58,7 +71,7 @@ overflow_add-need g c =
     let a = c.args in
     let t = g.T.SpareTable.time a.table.now in
     let pairs = g.T.SpareTable.pairs a.table.now in
-    let there = IsSeen-place t (g.T.SpareTable.limit a.table.now) pairs c.in-Some.later c.requires.table c.in-Some.ensures.place in
+    let there = IsSeen-place t (g.T.SpareTable.limit a.table.now) pairs c.in-Some.next c.requires.table c.in-Some.ensures.place in
     omega (arith, there.small, c.requires.few)
 
 pub overflow_sub-room : goal.overflow_sub-room
@@ -66,7 +79,7 @@ overflow_sub-room g c =
     let a = c.args in
     let t = g.T.SpareTable.time a.table.now in
     let pairs = g.T.SpareTable.pairs a.table.now in
-    let there = IsSeen-place t (g.T.SpareTable.limit a.table.now) pairs c.in-Some.later c.requires.table c.in-Some.ensures.place in
+    let there = IsSeen-place t (g.T.SpareTable.limit a.table.now) pairs c.in-Some.next c.requires.table c.in-Some.ensures.place in
     omega (arith, there.stands.after, c.requires.now)
 
 pub returns-then-room-need-clause-first : goal.returns-then-room-need-clause-first
@@ -76,37 +89,39 @@ returns-then-room-need-clause-first g c reserve quiet =
     let pairs = g.T.SpareTable.pairs a.table.now in
     let spans = spans_of_pairs pairs in
     let table = c.requires.table in
-    let inv = c.loop-later.invariant in
-    let later = c.in-Some.later in
+    let inv = c.loop-next.invariant in
+    let next = c.in-Some.next in
     let is = c.in-Some.ensures in
-    let there = IsSeen-place t (g.T.SpareTable.limit a.table.now) pairs later table is.place in
-    let start = later-start t pairs c.loop-later.place later table.consecutive inv.place is.place is.last in
-    let need = a.ask.slots + later.due in
-    let due : need ≡ a.ask.slots + works (take later.index spans) = omega (arith, there.due) in
-    let same = inv.same reserve quiet ∙ ap (first_short spans reserve t a.ask.arrivals a.ask.slots) (sym start) in
-    start-short spans reserve t a.ask.arrivals a.ask.slots a.ask.now need _ later.index later.span table.consecutive table.proper there.at quiet c.requires.now due refl c.if-room-need.true
+    let there = IsSeen-place t (g.T.SpareTable.limit a.table.now) pairs next table is.place in
+    let after = later-after t pairs c.loop-next.place next table.consecutive inv.place is.place is.last in
+    let need = a.ask.slots + next.due in
+    let due : need ≡ a.ask.slots + works (take next.index spans) = omega (arith, there.due) in
+    let on = passed spans reserve t a.ask.arrivals a.ask.slots 0 (a.ask.now + a.ask.slots) c.last_end-last.result c.loop-next.place.span.end next.span.start (omega (arith, c.requires.now)) (λ x low. omega (arith, quiet x (omega (arith, low, c.last_end-last.ensures)))) after is.passed in
+    let same = inv.same reserve quiet ∙ on in
+    start-short spans reserve t a.ask.arrivals a.ask.slots a.ask.now need _ next.index next.span table.consecutive table.proper there.at quiet c.requires.now due refl c.if-room-need.true
     ∙ sym (ap (option_map (evidence_at spans reserve t a.ask.arrivals a.ask.slots)) same)
 
-pub loop-later-preserved : goal.loop-later-preserved
-loop-later-preserved g c =
+pub loop-next-preserved : goal.loop-next-preserved
+loop-next-preserved g c =
     let a = c.args in
     let t = g.T.SpareTable.time a.table.now in
     let pairs = g.T.SpareTable.pairs a.table.now in
     let spans = spans_of_pairs pairs in
     let table = c.requires.table in
-    let inv = c.loop-later.invariant in
-    let later = c.in-Some.later in
+    let inv = c.loop-next.invariant in
+    let next = c.in-Some.next in
     let is = c.in-Some.ensures in
-    let there = IsSeen-place t (g.T.SpareTable.limit a.table.now) pairs later table is.place in
-    let start = later-start t pairs c.loop-later.place later table.consecutive inv.place is.place is.last in
-    let need = a.ask.slots + later.due in
-    let due : need ≡ a.ask.slots + works (take later.index spans) = omega (arith, there.due) in
+    let there = IsSeen-place t (g.T.SpareTable.limit a.table.now) pairs next table is.place in
+    let after = later-after t pairs c.loop-next.place next table.consecutive inv.place is.place is.last in
+    let need = a.ask.slots + next.due in
+    let due : need ≡ a.ask.slots + works (take next.index spans) = omega (arith, there.due) in
     record {
       place = is.place;
       same = λ reserve quiet.
           inv.same reserve quiet
-          ∙ ap (first_short spans reserve t a.ask.arrivals a.ask.slots) (sym start)
-          ∙ start-fits spans reserve t a.ask.arrivals a.ask.slots a.ask.now need later.index later.span table.consecutive there.at quiet c.requires.now due (omega (arith, c.if-room-need.false));
+          ∙ passed spans reserve t a.ask.arrivals a.ask.slots 0 (a.ask.now + a.ask.slots) c.last_end-last.result c.loop-next.place.span.end next.span.start (omega (arith, c.requires.now)) (λ x low. omega (arith, quiet x (omega (arith, low, c.last_end-last.ensures)))) after is.passed
+          ∙ start-fits spans reserve t a.ask.arrivals a.ask.slots a.ask.now need next.index next.span table.consecutive there.at quiet c.requires.now due (omega (arith, c.if-room-need.false));
+      rose = omega (arith, inv.rose, is.steps);
       steps = omega (arith, inv.steps, is.steps, is.last);
       passed = omega (arith, inv.passed, is.last);
     }

@@ -2,7 +2,7 @@ use Rattle.std.proofs.Common.{◌≡◌, ◌+◌, ◌-◌, ◌≤◌, ◌<◌, m
 use Rattle.std.specs.Option.{option_map}
 use Rattle.guarantee.specs.declared.search.Level.{Level}
 use Rattle.guarantee.specs.Stretches.{evidence_of, IsLevelFrom}
-use Rattle.guarantee.proofs.Segments.{demand, found-later, found-told, IsLevelFrom-later, Leaves-join, Leaves-level, Leaves-part}
+use Rattle.guarantee.proofs.Segments.{demand, found-later, found-told, IsLevelFrom-later, Leaves-join, Leaves-level, Leaves-part, Most-level}
 use Rattle.guarantee.proofs.search.short_by_levels.Goals as goal
 
 pub loop-at-preserved : goal.loop-at-preserved
@@ -21,12 +21,14 @@ loop-at-preserved c =
     let room : a.ask.slots + a.due + level.demand ≤ at - a.ask.now = omega (arith, same_demand, c.in_default.ensures.short) in
     let before = Leaves-part (λ x. a.due + demand a.reserve.now a.ask.arrivals x) a.ask.now a.ask.slots c.loop-at.tried.left left a.from at a.from at c.short_at.ensures.least (omega arith) (omega arith) inv.left in
     let here = Leaves-level a.reserve.now a.ask a.due left at level.until level low (omega arith) is (λ some. let most = c.short_at.ensures.left c.in_default.is (omega (arith, same_demand)) in omega (arith, same_demand, most)) in
+    let more_left = Most-level a.reserve.now a.ask a.due c.loop-at.tried.left left a.from at a.until level inv.low c.loop-at-test.true more is (λ fewer few room_for. c.short_at.ensures.greatest c.in_default.is fewer few (λ some. let most = room_for (omega (arith, same_demand)) in omega (arith, same_demand, most))) in
     record {
       low = omega (arith, inv.low, more);
       same = inv.same ∙ found-later a.reserve.now a.ask.now a.ask.arrivals (a.ask.slots + a.due) at a.until level low more is room;
       here = IsLevelFrom-later a.reserve.now a.ask.arrivals at level.until level (omega (arith, more)) is;
       after = IsLevelFrom-later a.reserve.now a.ask.arrivals at (max a.from a.until) level (omega (arith, c.loop-at-test.true)) is;
       left = Leaves-join (λ x. a.due + demand a.reserve.now a.ask.arrivals x) a.ask.now a.ask.slots left a.from at level.until before here;
+      greatest = λ more few leaves. more_left more (inv.greatest more few leaves) leaves;
       least = omega (arith, inv.least, c.short_at.ensures.least);
     }
 

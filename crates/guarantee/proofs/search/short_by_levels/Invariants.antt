@@ -1,10 +1,10 @@
 use Rattle.std.proofs.Common.{◌≡◌, ◌+◌, ◌-◌, ◌≤◌, max}
-use Rattle.guarantee.specs.Stretches.{IsLevelFrom, LeavesBetween}
+use Rattle.guarantee.specs.Stretches.{IsLevelFrom, LeavesBetween, MostBetween}
 use Rattle.guarantee.proofs.Segments.{found_from}
 use Rattle.guarantee.proofs.search.short_by_levels.Given as goal
 
 -- what is left to search gives the same, the level holds from here on and after the search, and
--- before here so much is left
+-- before here so much is left, and no greater number is at all those times
 abbrev pub invariant-loop-at : goal.invariant-loop-at
 invariant-loop-at l = record {
   low : l.from ≤ l.at;
@@ -12,6 +12,7 @@ invariant-loop-at l = record {
   here : IsLevelFrom l.reserve l.ask.arrivals l.at l.tried.level;
   after : IsLevelFrom l.reserve l.ask.arrivals (max l.from l.until) l.tried.level;
   left : LeavesBetween l.reserve l.ask l.due l.tried.left l.from l.at;
+  greatest : MostBetween l.reserve l.ask l.due l.initial.tried.left l.tried.left l.from l.until;
   least : l.tried.left ≤ l.initial.tried.left;
 }
 

@@ -1,18 +1,6 @@
 use Rattle.std.proofs.Common.{arith}
-use Rattle.guarantee.proofs.Tables.{front-start, last-ends, later-start}
+use Rattle.guarantee.proofs.Tables.{last-ends, later-start}
 use Rattle.guarantee.proofs.walk.place_of.Goals as goal
-
-pub loop-place-init : goal.loop-place-init
-loop-place-init g c =
-    let t = g.T.SpareTable.time c.args.table.now in
-    let pairs = g.T.SpareTable.pairs c.args.table.now in
-    let front = c.front-place.ensures in
-    let start = front-start t pairs c.front-place.result front.table.consecutive front.place front.first in
-    record {
-      place = front.place;
-      early = omega (arith, c.requires.after);
-      steps = omega (arith, front.one_step, front.first);
-    }
 
 pub loop-place-preserved : goal.loop-place-preserved
 loop-place-preserved g c =
@@ -20,10 +8,11 @@ loop-place-preserved g c =
     let pairs = g.T.SpareTable.pairs c.args.table.now in
     let later = c.in-Some.ensures in
     let inv = c.loop-place.invariant in
-    let start = later-start t pairs c.loop-place.place c.in-Some.later c.front-place.ensures.table.consecutive inv.place later.place later.last in
+    let start = later-start t pairs c.loop-place.place c.in-Some.later c.place_near-place.ensures.table.consecutive inv.place later.place later.last in
     record {
       place = later.place;
       early = omega arith;
+      rose = omega (arith, inv.rose, later.steps);
       steps = omega (arith, inv.steps, later.steps, later.last);
     }
 

@@ -1,4 +1,4 @@
-use Rattle.std.proofs.Common.{◌≡◌, ◌+◌, ◌-◌, ◌<◌, length}
+use Rattle.std.proofs.Common.{◌+◌, ◌-◌, ◌≤◌, ◌<◌, length}
 use Rattle.guarantee.specs.Places.{IsPlace}
 use Rattle.guarantee.proofs.walk.place_of.Given as goal
 
@@ -7,7 +7,8 @@ abbrev pub invariant-loop-place : goal.invariant-loop-place
 invariant-loop-place g l = record {
   place : IsPlace (g.T.SpareTable.pairs l.table) l.place;
   early : l.place.span.start < l.time;
-  steps : l.steps ≡ l.fn.steps + l.place.index + 1;
+  rose : l.fn.steps ≤ l.steps;
+  steps : l.steps ≤ l.fn.steps + l.place.index + 1;
 }
 
 abbrev pub decreases-loop-place : goal.decreases-loop-place

@@ -1,10 +1,14 @@
-use Rattle.std.proofs.Common.{◌≡◌, ◌+◌, ◌≤◌, ◌^◌, ◌∙◌, get_or, drop, ap, sym, subst, arith}
+use Rattle.std.proofs.Common.{◌≡◌, ◌+◌, ◌≤◌, ◌^◌, ◌∙◌, get_or, set, drop, length, ap, sym, subst, arith}
 use Rattle.std.proofs.lemmas.Option.{get_or_from_slice_get}
 use Rattle.slot_core.specs.declared.jobs.Span.{Span}
 use Rattle.spare_capacity.specs.Recurrence.{filled, first_spare, first_start, with_spare}
 use Rattle.spare_capacity.proofs.Steps.{no_row}
+use Rattle.node_chain.specs.Chains.{blank_mark}
 use Rattle.interval_row.specs.Rows.{with_work_at}
 use Rattle.interval_row.specs.Works.{changed_by, MayChangeBy}
+use Rattle.interval_row.specs.Marks.{mark_of, with_change}
+use Rattle.interval_row.proofs.Laps.{follows}
+use Rattle.interval_row.proofs.Marked.{few_works, put_is, AreLight-FollowOn, AreMarked-changed, Moves-filled, Moves-with_work_at}
 use Rattle.interval_row.proofs.Places.{work-le, IsDueAt, IsDueAt-span_ending}
 use Rattle.interval_row.proofs.WalkBack.{place_of-ends_before, with_spare-changed, IsWithin, IsWithin-spare}
 use Rattle.interval_row.proofs.Works.{changed_by-le}
@@ -15,13 +19,13 @@ use Rattle.interval_row.proofs.changes.change_work.Goals.{After-find_hinted-plac
 pub find_hinted-place-requires-clause-within : goal.find_hinted-place-requires-clause-within
 find_hinted-place-requires-clause-within g c =
     let rows = g.S.Store.spans c.args.store.now in
-    (IsDueAt-span_ending (first_start rows) rows c.args.deadline (λ (s : Span). MayChangeBy c.args.change s.work) c.requires.rows.consecutive c.requires.due).within
+    (IsDueAt-span_ending (first_start rows) rows c.args.deadline (λ (s : Span). MayChangeBy c.args.change s.work) c.requires.timed.rows.consecutive c.requires.due).within
 
 -- the span that is due
 due : (g : Over) (c : After-find_hinted-place g) → IsDueAt c.args.deadline (λ (s : Span). MayChangeBy c.args.change s.work) (g.S.Store.spans c.args.store.now) c.find_hinted-place.result.index
 due g c =
     let rows = g.S.Store.spans c.args.store.now in
-    subst (IsDueAt c.args.deadline (λ (s : Span). MayChangeBy c.args.change s.work) rows) (sym c.find_hinted-place.ensures.index) (IsDueAt-span_ending (first_start rows) rows c.args.deadline (λ (s : Span). MayChangeBy c.args.change s.work) c.requires.rows.consecutive c.requires.due)
+    subst (IsDueAt c.args.deadline (λ (s : Span). MayChangeBy c.args.change s.work) rows) (sym c.find_hinted-place.ensures.index) (IsDueAt-span_ending (first_start rows) rows c.args.deadline (λ (s : Span). MayChangeBy c.args.change s.work) c.requires.timed.rows.consecutive c.requires.due)
 
 -- is the one that was found
 found : (g : Over) (c : After-find_hinted-place g) → c.find_hinted-place.result.row ≡ get_or (g.S.Store.spans c.args.store.now) c.find_hinted-place.result.index no_row
@@ -35,12 +39,12 @@ may g c = subst (λ (s : Span). MayChangeBy c.args.change s.work) (sym (found g 
 within : (g : Over) (c : After-find_hinted-place g) → IsWithin c.find_hinted-place.result.row.spare
 within g c =
     let rows = g.S.Store.spans c.args.store.now in
-    subst (λ (s : Span). IsWithin s.spare) (sym (found g c)) (IsWithin-spare (first_start rows) rows c.find_hinted-place.result.index c.requires.rows.consecutive c.requires.rows.filled c.requires.rows.few (due g c).within)
+    subst (λ (s : Span). IsWithin s.spare) (sym (found g c)) (IsWithin-spare (first_start rows) rows c.find_hinted-place.result.index c.requires.timed.rows.consecutive c.requires.timed.rows.filled c.requires.timed.rows.few (due g c).within)
 
 few : (g : Over) (c : After-find_hinted-place g) → c.find_hinted-place.result.row.work ≤ 2 ^ 40
 few g c =
     let rows = g.S.Store.spans c.args.store.now in
-    omega (arith, work-le (first_start rows) rows c.find_hinted-place.result.index c.requires.rows.consecutive (due g c).within, ap (λ (s : Span). s.work) (found g c))
+    omega (arith, work-le (first_start rows) rows c.find_hinted-place.result.index c.requires.timed.rows.consecutive (due g c).within, ap (λ (s : Span). s.work) (found g c))
 
 pub changed-row-requires-clause-low : goal.changed-row-requires-clause-low
 changed-row-requires-clause-low g c = (within g (goal.at.changed-row-requires-clause-low g c).After-find_hinted-place).low
@@ -67,7 +71,7 @@ set_work-requires-clause-spare g c =
     let row = c.find_hinted-place.result.row in
     let work : changed_by c.args.change row.work ≡ c.changed-row.result.work = sym (ap (λ (s : Span). s.work) c.changed-row.ensures) in
     c.changed-row.ensures
-    ∙ with_spare-changed rows index c.args.change row c.requires.rows.filled (due g after).within (found g after) (may g after)
+    ∙ with_spare-changed rows index c.args.change row c.requires.timed.rows.filled (due g after).within (found g after) (may g after)
     ∙ ap (λ n. with_spare (record row { work = n }) (first_spare (drop (index + 1) rows))) work
 
 pub returns-clause-spans : goal.returns-clause-spans
@@ -76,8 +80,33 @@ returns-clause-spans g c =
     let rows = g.S.Store.spans c.args.store.now in
     let index = c.find_hinted-place.result.index in
     let work : c.changed-row.result.work ≡ changed_by c.args.change (get_or rows index no_row).work = ap (λ (s : Span). s.work) c.changed-row.ensures ∙ ap (λ (s : Span). changed_by c.args.change s.work) (found g after) in
-    c.set_work.ensures.spans ∙ ap filled (ap (λ n. with_work_at index n rows) work ∙ sym ((due g after).changed (changed_by c.args.change)))
+    c.change_span.ensures.spans ∙ c.set_work.ensures.spans ∙ ap filled (ap (λ n. with_work_at index n rows) work ∙ sym ((due g after).changed (changed_by c.args.change)))
 
 pub returns-clause-few_steps : goal.returns-clause-few_steps
 returns-clause-few_steps g c =
     omega (arith, c.find_hinted-place.ensures.few_steps, c.find_hinted-place.ensures.index, c.set_work.ensures.few_steps, place_of-ends_before c.args.deadline (g.S.Store.spans c.args.store.now))
+
+-- the marks are still those of before
+pub change_span-requires-clause-marks : goal.change_span-requires-clause-marks
+change_span-requires-clause-marks g c = ap length c.set_work.ensures.marks ∙ c.requires.timed.marked.length
+
+pub change_span-requires-clause-works : goal.change_span-requires-clause-works
+change_span-requires-clause-works g c =
+    let rows = g.S.Store.spans c.args.store.now in
+    rw c.set_work.ensures.marks (few_works c.find_hinted-place.result.row.end c.requires.timed.marked (AreLight-FollowOn c.args.times.start rows (follows c.requires.timed)) c.requires.timed.rows.few)
+
+pub returns-clause-marked : goal.returns-clause-marked
+returns-clause-marked g c =
+    let after = (goal.at.returns-clause-marked g c).After-find_hinted-place in
+    let rows = g.S.Store.spans c.args.store.now in
+    let marks = g.S.Store.marks c.args.store.now in
+    let index = c.find_hinted-place.result.index in
+    let row = c.find_hinted-place.result.row in
+    let change = c.args.change in
+    let i = mark_of row.end in
+    let work : c.changed-row.result.work ≡ changed_by change row.work = ap (λ (s : Span). s.work) c.changed-row.ensures in
+    let now = c.change_span.ensures.spans ∙ c.set_work.ensures.spans ∙ ap (λ n. filled (with_work_at index n rows)) work in
+    let put = put_is (g.S.Store.marks c.set_work.new.store) (g.S.Store.marks c.change_span.new.store) i (with_change change) (omega (arith, ap length c.set_work.ensures.marks, c.requires.timed.marked.length)) c.change_span.ensures.marks in
+    let same = put ∙ ap (λ ms. set ms i (with_change change (get_or ms i blank_mark))) c.set_work.ensures.marks in
+    let moves = Moves-filled (Moves-with_work_at rows index (changed_by change row.work) row c.find_hinted-place.ensures.row) in
+    rw (now, same) (AreMarked-changed c.args.times.start rows (filled (with_work_at index (changed_by change row.work) rows)) marks row.end row.work change moves (may g after) c.requires.timed.marked)

@@ -1,9 +1,12 @@
-use Rattle.std.proofs.Common.{◌≡◌, ◌+◌, ◌-ℤ◌, ◌∙◌, pos, get_or, ap, sym, arith}
+use Rattle.std.proofs.Common.{◌≡◌, ◌+◌, ◌-ℤ◌, ◌∙◌, pos, drop, get_or, set, length, ap, sym, arith}
 use Rattle.std.proofs.lemmas.Int.{ints}
 use Rattle.std.proofs.lemmas.Option.{get_or_from_slice_get}
 use Rattle.slot_core.specs.declared.jobs.Span.{Span}
 use Rattle.spare_capacity.specs.Recurrence.{first_start}
 use Rattle.spare_capacity.proofs.Steps.{no_row}
+use Rattle.node_chain.specs.Chains.{blank_mark}
+use Rattle.interval_row.specs.Marks.{mark_of, without_end}
+use Rattle.interval_row.proofs.Marked.{put_is, AreMarked-lost, AreMarked-Stays, Gains-drop, Stays-set}
 use Rattle.interval_row.proofs.WalkBack.{passed-on, IsProper-first, IsWithin-spare}
 use Rattle.interval_row.proofs.changes.pass.Goals as goal
 
@@ -13,6 +16,27 @@ later_start-requires-clause-low g c =
     let row = get_or_from_slice_get rows 0 c.at-row.result no_row c.at-row.ensures.span in
     let within = IsWithin-spare (first_start rows) rows 0 c.requires.rows.consecutive c.requires.rows.filled c.requires.rows.few (omega (arith, c.requires.rows.some)) in
     omega (arith, ints, within.low, ap (λ (s : Span). s.spare) row)
+
+pub drop_span-requires : goal.drop_span-requires
+drop_span-requires g c = record { marks = ap length c.pop_front-passed.ensures.marks ∙ c.requires.marked.length }
+
+pub returns-then-row-clause-marked : goal.returns-then-row-clause-marked
+returns-then-row-clause-marked g c =
+    let rows = g.S.Store.spans c.args.store.now in
+    let marks = g.S.Store.marks c.args.store.now in
+    let passed = c.pop_front-passed.result in
+    let i = mark_of passed.end in
+    let gains = Gains-drop rows passed c.pop_front-passed.ensures.first in
+    let now = c.drop_span.ensures.spans ∙ c.pop_front-passed.ensures.rest in
+    let put = put_is (g.S.Store.marks c.pop_front-passed.new.self) (g.S.Store.marks c.drop_span.new.store) i (without_end passed.work) (omega (arith, ap length c.pop_front-passed.ensures.marks, c.requires.marked.length)) c.drop_span.ensures.marks in
+    let same = put ∙ ap (λ ms. set ms i (without_end passed.work (get_or ms i blank_mark))) c.pop_front-passed.ensures.marks in
+    rw (now, same) (AreMarked-lost (first_start rows) rows (drop 1 rows) marks passed.end passed.work gains c.requires.marked)
+
+pub returns-clause-marked : goal.returns-clause-marked
+returns-clause-marked g c =
+    let rows = g.S.Store.spans c.args.store.now in
+    let stays = Stays-set rows c.at-row.result c.later_start.result c.at-row.ensures.span (ap (λ (s : Span). s.end) c.later_start.ensures) (ap (λ (s : Span). s.work) c.later_start.ensures) in
+    rw (c.set.ensures.spans, c.set.ensures.marks) (AreMarked-Stays stays c.requires.marked)
 
 pub returns-clause-spans : goal.returns-clause-spans
 returns-clause-spans g c =

@@ -1,4 +1,4 @@
-use Rattle.std.proofs.Common.{◌≡◌, ◌+◌, ◌≤◌}
+use Rattle.std.proofs.Common.{◌+◌, ◌≤◌}
 use Rattle.interval_row.specs.Rows.{place_of}
 use Rattle.interval_row.proofs.walk.find.Given as goal
 
@@ -6,5 +6,6 @@ use Rattle.interval_row.proofs.walk.find.Given as goal
 abbrev pub invariant-loop-index : goal.invariant-loop-index
 invariant-loop-index g l = record {
   before : l.index ≤ place_of l.x (g.S.Store.spans l.store);
-  steps : l.steps ≡ l.fn.steps + l.index;
+  low : l.fn.steps ≤ l.steps;
+  high : l.steps ≤ l.fn.steps + l.index;
 }

@@ -12,7 +12,7 @@ pub returns-then-row-x-clause-index : goal.returns-then-row-x-clause-index
 returns-then-row-x-clause-index g c =
     let rows = g.S.Store.spans c.args.store.now in
     let row = get_or_from_slice_get rows c.args.hint c.at-row.result no_row c.at-row.ensures.span in
-    place_of-ending (first_start rows) c.args.x rows c.args.hint c.requires.rows.consecutive c.requires.rows.proper (slice_get_within rows c.args.hint c.at-row.result c.at-row.ensures.span) (ap (λ (s : Span). s.end) row ∙ c.if-row-x.true)
+    place_of-ending (first_start rows) c.args.x rows c.args.hint c.requires.timed.rows.consecutive c.requires.timed.rows.proper (slice_get_within rows c.args.hint c.at-row.result c.at-row.ensures.span) (ap (λ (s : Span). s.end) row ∙ c.if-row-x.true)
 
 -- where the span is the one at the hint, there is no walk
 pub returns-clause-hinted : goal.returns-clause-hinted
@@ -22,7 +22,7 @@ returns-clause-hinted g c =
     elim c.if-hint-len.branch [
       | then-hint-len+else-row-x w ↦
           let row = get_or_from_slice_get rows c.args.hint w.at-row.result no_row w.at-row.ensures.span in
-          let ends = ends-span_ending (first_start rows) rows c.args.x c.requires.rows.consecutive found in
+          let ends = ends-span_ending (first_start rows) rows c.args.x c.requires.timed.rows.consecutive found in
           absurd (w.if-row-x.false (sym (ap (λ (s : Span). s.end) row) ∙ ap (λ k. (get_or rows k no_row).end) here ∙ ends))
       | else-hint-len w ↦ absurd (omega (arith, w.if-hint-len.false, c.len.ensures, c.requires.within, here))
     ]

@@ -36,6 +36,7 @@ loop-index-init g c =
     record {
       spans = rw (more, c.set.ensures.spans) (walked-put rows k was c.args.row c.requires.rows (slice_get_within rows k was c.requires.row) is c.requires.spare);
       room = c.set.ensures.room;
+      marks = c.set.ensures.marks;
       low = omega (arith, c.set.ensures.one_step);
       high = omega (arith, c.set.ensures.one_step);
     }
@@ -76,6 +77,7 @@ loop-index-preserved g c =
     record {
       spans = rw (more, put) (walked-next _ _ _ within ∙ still g after);
       room = c.raise-more.ensures.room ∙ c.loop-index.invariant.room;
+      marks = c.raise-more.ensures.marks ∙ c.loop-index.invariant.marks;
       low = omega (arith, c.raise-more.ensures.two_steps, c.loop-index.invariant.low);
       high = omega (arith, c.raise-more.ensures.two_steps, c.loop-index.invariant.high, c.loop-index-test.true);
     }

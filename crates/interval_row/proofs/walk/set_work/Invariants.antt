@@ -9,6 +9,7 @@ abbrev pub invariant-loop-index : goal.invariant-loop-index
 invariant-loop-index g l = record {
   spans : walked l.more l.index (g.S.Store.spans l.store) ≡ filled (with_work_at l.fn.place.index l.fn.row.work (g.S.Store.spans l.fn.store));
   room : g.S.Store.room l.store ≡ g.S.Store.room l.fn.store;
+  marks : g.S.Store.marks l.store ≡ g.S.Store.marks l.fn.store;
   low : l.fn.steps ≤ l.steps;
   high : l.steps + 2 * l.index ≤ l.fn.steps + 2 * l.fn.place.index + 1;
 }

@@ -1,19 +1,17 @@
-use Rattle.std.proofs.Common.{◌≡◌, ◌-◌, length, sym, ap, ◌∙◌, inl, inr, arith}
-use Rattle.std.proofs.lemmas.Bool.{cases_lt}
+use Rattle.std.proofs.Common.{◌+◌, ◌-◌, ◌/◌, sym, arith}
 use Rattle.std.proofs.lemmas.List.{get_or_default}
-use Rattle.slot_core.specs.Offline.Keys.{is_earlier}
+use Rattle.job_queue.proofs.Comes.{is_earlier-behind}
 use Rattle.job_queue.proofs.queue.place_in_order.Goals as goal
 
-pub loop-behind-preserved : goal.loop-behind-preserved
-loop-behind-preserved g c =
+pub loop-low-preserved-then-is_earlier : goal.loop-low-preserved-then-is_earlier
+loop-low-preserved-then-is_earlier g c =
     let come = c.args.come.now in
+    let middle = c.loop-low.low + (c.loop-low.high - c.loop-low.low) / 2 in
     record {
-      passed = λ i d from below.
-          elim (cases_lt i (length come - c.loop-behind.behind)) [
-            | inl here ↦
-                let same : i ≡ length come - c.loop-behind.behind - 1 = omega arith in
-                rw same (ap (λ j. is_earlier j c.args.job.now) (get_or_default come (length come - c.loop-behind.behind - 1) d _ (omega arith)) ∙ (sym c.is_earlier.ensures ∙ c.if-not-is_earlier.false))
-            | inr passed ↦ c.loop-behind.invariant.passed i d passed below
-          ];
+      low_within = omega arith;
+      high_within = omega arith;
+      behind = λ i d from below.
+          is_earlier-behind come middle i _ c.args.job.now d c.requires.order (omega arith) (get_or_default come middle _ _ (omega arith)) (sym c.if-is_earlier.ensures) from below;
+      before = c.loop-low.invariant.before;
       counted = omega arith;
     }

@@ -44,8 +44,8 @@ returns-in_err-put_entry-clause-broken g c =
     let fault = c.in_err-put_entry.field-0.0 in
     let told = subst (AppendsPart (g.K.Sink.written s.answers) (g.K.Sink.written c.put_entry.new.out)) (sym (append-nil start)) (c.in_err-put_entry.ensures.part started c.requires.started) in
     let same : c.from_residual.result ≡ Err fault = search rules in
-    at-fault c.from_residual.result fault (λ fault. IsBroken g.S.LineSource.gave g.S.LineSource.faults p.tasks p.cycle fault source source (see s) after) same
-    (IsBroken-at_start g.S.LineSource.gave g.S.LineSource.faults p.tasks p.cycle fault source source (see s) after
+    at-fault c.from_residual.result fault (λ fault. IsBroken g.S.LineSource.gave g.S.LineSource.broke g.S.LineSource.faults p.tasks p.cycle fault source source (see s) after) same
+    (IsBroken-at_start g.S.LineSource.gave g.S.LineSource.broke g.S.LineSource.faults p.tasks p.cycle fault source source (see s) after
     (record {
       gave = g.met.S.LineSource.gave_none source;
       part = ArePutInPart-lines fault (see s) (g.K.Sink.written c.put_entry.new.out) (g.K.Sink.faults c.put_entry.new.out) (start ++ []) c.in_err-put_entry.ensures.fault told c.in_err-put_entry.ensures.counted c.in_err-put_entry.ensures.failed;
@@ -83,8 +83,8 @@ returns-in_err-answer-clause-broken g c =
     let fault = c.in_err-answer.field-0.0 in
     let part = subst (λ (q : PlanParts). ArePutInPart fault (see c.loop-heard.streams) (see c.answer.new.streams) (exchange_texts q.tasks q.cycle (c.loop-heard.heard + 1) (before g o) c.asked_now-asked.result)) inv.plan (c.in_err-answer.ensures.part (before g o) inv.stands) in
     let same : c.from_residual-in_err-answer.result ≡ Err fault = search rules in
-    at-fault c.from_residual-in_err-answer.result fault (λ fault. IsBroken g.S.LineSource.gave g.S.LineSource.faults p.tasks p.cycle fault c.args.source.now c.hear.new.source (see c.args.streams.now) (see c.answer.new.streams)) same
-    (IsBroken-in_answer g.S.LineSource.gave g.S.LineSource.faults p.tasks p.cycle fault c.args.source.now c.hear.new.source (see c.args.streams.now) (see c.answer.new.streams)
+    at-fault c.from_residual-in_err-answer.result fault (λ fault. IsBroken g.S.LineSource.gave g.S.LineSource.broke g.S.LineSource.faults p.tasks p.cycle fault c.args.source.now c.hear.new.source (see c.args.streams.now) (see c.answer.new.streams)) same
+    (IsBroken-in_answer g.S.LineSource.gave g.S.LineSource.broke g.S.LineSource.faults p.tasks p.cycle fault c.args.source.now c.hear.new.source (see c.args.streams.now) (see c.answer.new.streams)
     (record {
       first = inv.heards;
       last = now_heard g o;
@@ -141,4 +141,4 @@ loop-heard-preserved g c =
 pub returns-clause-broken : goal.returns-clause-broken
 returns-clause-broken g c =
     let inv = c.loop-heard.invariant in
-    (c.loop-heard.source, record { heards = inv.heards; gave = inv.gave; goes_on = inv.goes_on; put = inv.put }, inr (omega (arith, inv.count, c.loop-heard-test.false, c.loop-heard.auto.heard-end)))
+    (c.loop-heard.source, record { heards = inv.heards; gave = inv.gave; goes_on = inv.goes_on; put = inv.put }, inr (omega (arith, inv.count, c.loop-heard-test.false, c.loop-heard.auto.heard-end), refl))

@@ -1,14 +1,13 @@
 -- The header is the one row.
-use Rattle.std.proofs.Common.{◌≡◌, ℕ, ◌++◌, List, [], ◌∷◌, Some, append-nil, sym, ap, ◌∙◌}
+use Rattle.std.proofs.Common.{◌≡◌, ℕ, ◌++◌, List, Some, sym, ap, ◌∙◌}
 use Rattle.std.proofs.lemmas.Result.{on_ok_weaker}
-use Rattle.csv_table.specs.Tables.{row_line, rows_text}
+use Rattle.csv_table.specs.Tables.{row_line}
 use Rattle.view_tables.specs.Tables.{header}
 use Rattle.view_tables.proofs.put.push_header.Goals as goal
 
 -- the line of a row of these names, after some text
-named : (text : List ℕ) (row names : List (List ℕ)) → row ≡ names → Some (text ++ row_line row) ≡ Some (text ++ rows_text (names ∷ []))
-named text row names same =
-    ap (λ (r : List (List ℕ)). Some (text ++ row_line r)) same ∙ ap (λ t. Some (text ++ t)) (sym (append-nil (row_line names)))
+named : (text : List ℕ) (row names : List (List ℕ)) → row ≡ names → Some (text ++ row_line row) ≡ Some (text ++ row_line names)
+named text row names same = ap (λ (r : List (List ℕ)). Some (text ++ row_line r)) same
 
 pub returns-in-Events : goal.returns-in-Events
 returns-in-Events c text is =

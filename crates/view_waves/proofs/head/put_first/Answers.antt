@@ -2,17 +2,18 @@
 use Rattle.std.proofs.Common.{codes}
 use Rattle.std.proofs.lemmas.Result.{on_ok_weaker, on_err_weaker}
 use Rattle.view_waves.specs.WaveTexts.{levels_text, shown_text}
-use Rattle.view_waves.proofs.ItemTexts.{failing, first-broken, last-broken, second-broken, three-written}
+use Rattle.slot_io.proofs.SinkParts.{OnErr-anyhow}
+use Rattle.view_waves.proofs.ItemTexts.{first-broken, last-broken, second-broken, three-written}
 use Rattle.view_waves.proofs.head.put_first.Goals as goal
 
 pub returns-in_err-put-clause-part : goal.returns-in_err-put-clause-part
 returns-in_err-put-clause-part g c =
-    failing c.from_residual.result
+    OnErr-anyhow c.from_residual.result
     (first-broken (g.K.Sink.written c.args.out.now) (g.K.Sink.written c.put.new.self) (codes "#0\n$dumpvars\n") (levels_text c.args.wires c.args.wave.on) (shown_text c.args.wave.shown) c.in_err-put.ensures.part)
 
 pub returns-in_err-put_levels-clause-part : goal.returns-in_err-put_levels-clause-part
 returns-in_err-put_levels-clause-part g c =
-    failing c.from_residual-in_err-put_levels.result
+    OnErr-anyhow c.from_residual-in_err-put_levels.result
     (second-broken (g.K.Sink.written c.args.out.now) (g.K.Sink.written c.put.new.self) (g.K.Sink.written c.put_levels.new.out) (codes "#0\n$dumpvars\n") (levels_text c.args.wires c.args.wave.on) (shown_text c.args.wave.shown) c.in_ok-put.ensures.ok c.in_err-put_levels.ensures.part)
 
 pub returns-clause-text : goal.returns-clause-text

@@ -6,7 +6,8 @@ use Rattle.std.specs.Io.KnownBytes.{Appends}
 use Rattle.std.proofs.lemmas.List.{take_all}
 use Rattle.std.proofs.lemmas.List.FromFn.{get_or-range_with_len, length-range_with_len}
 use Rattle.view_waves.specs.WaveTexts.{level_text}
-use Rattle.view_waves.proofs.ItemTexts.{failing, item-broken, item-written}
+use Rattle.slot_io.proofs.SinkParts.{OnErr-anyhow}
+use Rattle.view_waves.proofs.ItemTexts.{item-broken, item-written}
 use Rattle.view_waves.proofs.head.put_levels.Goals as goal
 
 -- the value of a wire, of which one is on
@@ -27,7 +28,7 @@ returns-in_err-put-clause-part g c =
     let low = c.loop-wire-test.true in
     let text : c.bytes.result.now ≡ level c.args.on i =
     c.bytes.ensures ∙ c.push_level.ensures.text ∙ ap (λ (l : List ℕ). l ++ level c.args.on i) c.clear.ensures in
-    failing c.from_residual.result
+    OnErr-anyhow c.from_residual.result
     (item-broken (g.K.Sink.written c.args.out.now) (g.K.Sink.written c.loop-wire.out) (g.K.Sink.written c.put.new.self) (level c.args.on) (range_with_len 0 c.args.wires) i 0 c.bytes.result.now (place-below c.args.wires i low) (text ∙ wire-at c.args.on c.args.wires i low) c.loop-wire.invariant.text c.in_err-put.ensures.part)
 
 pub loop-wire-preserved : goal.loop-wire-preserved

@@ -7,7 +7,8 @@ use Rattle.std.proofs.lemmas.List.{take_all}
 use Rattle.std.proofs.lemmas.List.FromFn.{get_or-enumerate_from, length-enumerate_from}
 use Rattle.run_blocks.specs.declared.rows.Row.{Row}
 use Rattle.view_waves.specs.WaveTexts.{row_text}
-use Rattle.view_waves.proofs.ItemTexts.{failing, item-broken, item-written}
+use Rattle.slot_io.proofs.SinkParts.{OnErr-anyhow}
+use Rattle.view_waves.proofs.ItemTexts.{item-broken, item-written}
 use Rattle.view_waves.proofs.head.put_row_wires.Goals as goal
 
 -- the row at its place
@@ -26,7 +27,7 @@ returns-in_err-put-clause-part g c =
     let row : Row = c.index-rows-wire.result in
     let low = c.loop-wire-test.true in
     let text : c.bytes.result.now ≡ row_text (i, row) = c.bytes.ensures ∙ c.push_row.ensures in
-    failing c.from_residual.result
+    OnErr-anyhow c.from_residual.result
     (item-broken (g.K.Sink.written c.args.out.now) (g.K.Sink.written c.loop-wire.out) (g.K.Sink.written c.put.new.self) row_text (enumerate_from 0 rows) i (0, row) c.bytes.result.now (place-below rows i low) (text ∙ row-at rows i row low c.index-rows-wire.is) c.loop-wire.invariant.text c.in_err-put.ensures.part)
 
 pub loop-wire-preserved : goal.loop-wire-preserved

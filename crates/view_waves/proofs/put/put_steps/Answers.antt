@@ -7,7 +7,7 @@ use Rattle.view_waves.specs.declared.steps.Step.{Step}
 use Rattle.view_waves.specs.declared.steps.Wave.{Wave}
 use Rattle.view_waves.specs.Steps.{step_if_any, step_of, wave_after}
 use Rattle.view_waves.specs.WaveTexts.{step_text}
-use Rattle.view_waves.proofs.ItemTexts.{failing}
+use Rattle.slot_io.proofs.SinkParts.{OnErr-anyhow}
 use Rattle.view_waves.proofs.StepLists.{line_change, line-broken, line-written, wave-next}
 use Rattle.view_waves.proofs.put.put_steps.Goals as goal
 
@@ -22,7 +22,7 @@ returns-in_err-put_step-clause-part g c =
     let lines : List TraceLine = c.args.lines.now in
     let i = c.loop-line.line-index in
     let line : TraceLine = c.line-item.result in
-    failing c.from_residual.result
+    OnErr-anyhow c.from_residual.result
     (line-broken (g.K.Sink.written c.args.out.now) (g.K.Sink.written c.loop-line.out) (g.K.Sink.written c.put_step.new.out) rows c.args.first c.loop-line.wave lines i line (flat_map step_text (step_if_any c.after-step.result.1)) c.loop-line-test.true c.loop-line.invariant.wave (line-at rows c.loop-line.wave lines i line c.after-step.result.1 c.line-item.is c.after-step.ensures.step) c.loop-line.invariant.text c.in_err-put_step.ensures.part)
 
 pub loop-line-preserved : goal.loop-line-preserved

@@ -9,7 +9,8 @@ use Rattle.run_blocks.specs.declared.rows.Row.{Row}
 use Rattle.view_waves.specs.declared.steps.Wave.{Wave}
 use Rattle.view_waves.specs.Steps.{first_wave}
 use Rattle.view_waves.specs.WaveTexts.{first_text, head_text, steps_text, waves_text}
-use Rattle.view_waves.proofs.ItemTexts.{failing, first-broken, last-broken, second-broken, three-written}
+use Rattle.slot_io.proofs.SinkParts.{OnErr-anyhow}
+use Rattle.view_waves.proofs.ItemTexts.{first-broken, last-broken, second-broken, three-written}
 use Rattle.view_waves.proofs.put.put_waves.Goals as goal
 
 -- the waves that begin with these values
@@ -36,7 +37,7 @@ returns-in_err-put_head-clause-part g c =
     let rows : List Row = c.args.rows.now in
     let lines : List TraceLine = c.args.lines.now in
     let wave : Wave = c.first_wave-wave.result in
-    failing c.from_residual.result
+    OnErr-anyhow c.from_residual.result
     (part-of before after rows lines wave c.first_wave-wave.ensures
     (first-broken before after (head_text rows) (first_text (length rows + 1) wave) (steps_text rows wave lines) c.in_err-put_head.ensures.part))
 
@@ -47,7 +48,7 @@ returns-in_err-put_first-clause-part g c =
     let rows : List Row = c.args.rows.now in
     let lines : List TraceLine = c.args.lines.now in
     let wave : Wave = c.first_wave-wave.result in
-    failing c.from_residual-in_err-put_first.result
+    OnErr-anyhow c.from_residual-in_err-put_first.result
     (part-of before after rows lines wave c.first_wave-wave.ensures
     (second-broken before (g.K.Sink.written c.put_head.new.out) after (head_text rows) (first_text (length rows + 1) wave) (steps_text rows wave lines) c.in_ok-put_head.ensures.text c.in_err-put_first.ensures.part))
 

@@ -6,8 +6,8 @@ use Rattle.interval_row.proofs.Rooms.{seen_of, IsTable-AreKept}
 use Rattle.interval_row.proofs.span_table.TableSpareTable.count.Goals as goal
 
 pub returns-clause-count : goal.returns-clause-count
-returns-clause-count g c = c.len.ensures ∙ sym (seen_of c.self.view_is c.self.invariant).count
+returns-clause-count g c = c.len.ensures ∙ sym (seen_of c.self.view_is c.self.invariant.kept).count
 
 pub returns-clause-table : goal.returns-clause-table
 returns-clause-table g c =
-    subst (λ (v : Stored). IsTable (first_start v.spans) (numbered 0 v.spans) v.room) c.self.view_is (IsTable-AreKept _ _ _ _ c.self.invariant)
+    subst (λ (v : Stored). IsTable (first_start v.spans) (numbered 0 v.spans) v.room) c.self.view_is (IsTable-AreKept _ _ _ _ c.self.invariant.kept)

@@ -3,4 +3,4 @@ use Rattle.interval_row.proofs.Rooms.{seen_of}
 use Rattle.interval_row.proofs.span_table.TableSpareTable.last_end.Goals as goal
 
 pub returns : goal.returns
-returns g c = sym (seen_of c.self.view_is c.self.invariant).end
+returns g c = sym (seen_of c.self.view_is c.self.invariant.kept).end

@@ -21,9 +21,9 @@ returns g c =
     ap (ready now) (sym parts) ∙ (filter-append may (beside ++ reverse come) listed ∙ ap (λ js. js ++ ready now listed) (filter-append may beside (reverse come))) in
     let split = fold-append earlier_of None (ready now beside ++ ready now (reverse come)) (ready now listed) ∙ ap (λ best. fold earlier_of best (ready now listed)) (fold-append earlier_of None (ready now beside) (ready now (reverse come))) in
     let first = c.earliest_of-best.ensures.job ∙ ap (λ jobs. earliest (ready now jobs)) c.deref.ensures.value in
-    let second = c.earliest_come-best.ensures.job ∙ ap (λ jobs. fold earlier_of (option_copied c.earliest_of-best.result) (ready now (reverse jobs))) c.deref-2.ensures.value ∙ ap (λ best. fold earlier_of best (ready now (reverse come))) first in
+    let second = c.earliest_come-best.ensures.job ∙ ap (λ jobs. fold earlier_of (option_copied c.earliest_of-best.result) (ready now (reverse jobs))) c.jobs.ensures ∙ ap (λ best. fold earlier_of best (ready now (reverse come))) first in
     record {
       job = c.copied.ensures ∙ c.earliest_listed.ensures.job ∙ ap (λ best. fold earlier_of best (ready now listed)) second ∙ sym (ap earliest whole ∙ split);
       steps = omega arith;
-      few_steps = omega (arith, ap length parts, length-parts beside come listed, ap length c.deref.ensures.value, ap length c.deref-2.ensures.value);
+      few_steps = omega (arith, ap length parts, length-parts beside come listed, ap length c.deref.ensures.value, ap length c.jobs.ensures);
     }

@@ -6,7 +6,7 @@ use Rattle.job_queue.proofs.queue.JobQueue.insert.Goals as goal
 
 pub invariant_of-self : goal.invariant_of-self
 invariant_of-self g c =
-    let old = parts_of c.self.inside.beside.items c.self.inside.come.items c.self.inside.listed.items (vec_capacity c.self.inside.beside) (vec_capacity c.self.inside.come) (deque_capacity c.self.inside.listed) in
+    let old = parts_of c.self.inside.beside.items c.self.inside.come.items c.self.inside.listed.items (vec_capacity c.self.inside.beside) c.self.inside.come.places (deque_capacity c.self.inside.listed) in
     let fits = MayInsert-view c.args.job _ c.args.self.now c.self.view_is c.requires.free c.requires.fresh c.requires.guaranteed c.requires.left in
     rw
     c.push_back_reserved.ensures.items
@@ -14,7 +14,7 @@ invariant_of-self g c =
 
 pub invariant_of-self-else-starts_last : goal.invariant_of-self-else-starts_last
 invariant_of-self-else-starts_last g c =
-    let old = parts_of c.self.inside.beside.items c.self.inside.come.items c.self.inside.listed.items (vec_capacity c.self.inside.beside) (vec_capacity c.self.inside.come) (deque_capacity c.self.inside.listed) in
+    let old = parts_of c.self.inside.beside.items c.self.inside.come.items c.self.inside.listed.items (vec_capacity c.self.inside.beside) c.self.inside.come.places (deque_capacity c.self.inside.listed) in
     let fits = MayInsert-view c.args.job _ c.args.self.now c.self.view_is c.requires.free c.requires.fresh c.requires.guaranteed c.requires.left in
     rw
     c.push_reserved.ensures.items

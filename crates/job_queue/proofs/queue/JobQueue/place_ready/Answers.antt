@@ -1,58 +1,57 @@
-use Rattle.std.proofs.Common.{◌≡◌, ◌+◌, ◌<◌, ◌++◌, length, Some, sym, ap, ◌∙◌, arith}
-use Rattle.std.specs.Prelude.{find, reverse}
-use Rattle.std.proofs.lemmas.List.{get_or_read, length-append, length-reverse}
-use Rattle.slot_core.specs.declared.jobs.Job.{Job}
-use Rattle.job_queue.specs.Queues.{QueueParts}
-use Rattle.job_queue.proofs.Searches.{has_key}
-use Rattle.job_queue.proofs.ReadyJobs.{IsFound-from_place, find-take_now, ready-take_later, ready-rest, ready-le-length, ready-le-place}
+use Rattle.std.proofs.Common.{◌≡◌, ◌+◌, ◌++◌, length, Some, None, sym, ap, subst, arith}
+use Rattle.std.specs.Prelude.{reverse}
+use Rattle.std.proofs.lemmas.List.{length-append, length-reverse}
+use Rattle.job_queue.specs.Queues.{IsReadyPlace, QueueParts}
+use Rattle.job_queue.proofs.ReadyPlaces.{IsReadyPlace-beside, IsReadyPlace-come, IsReadyPlace-listed}
 use Rattle.job_queue.proofs.queue.JobQueue.place_ready.Goals as goal
-use Rattle.job_queue.proofs.queue.JobQueue.place_ready.Goals.{then-job-now+else-is_same_key, else-job-now+else-len-place}
 
-pub loop-place-preserved : goal.loop-place-preserved
-loop-place-preserved g c =
-    let jobs = c.args.self.now.jobs in
-    let inside : c.loop-place.place < length jobs = omega arith in
-    elim c.if-job-now.branch [
-      | then-job-now+else-is_same_key w ↦ record {
-        passed = find-take_now c.args.now c.args.key jobs c.loop-place.place c.job-job.result.now inside c.job-job.ensures w.if-job-now.true (sym w.if-is_same_key.ensures) c.loop-place.invariant.passed;
-        counted = omega arith;
-      }
-      | else-job-now+else-len-place w ↦ record {
-        passed = ap (find (has_key c.args.key)) (ready-take_later c.args.now jobs c.loop-place.place c.job-job.result.now inside c.job-job.ensures w.if-job-now.false) ∙ c.loop-place.invariant.passed;
-        counted = omega arith;
-      }
-    ]
-
-pub returns-then-is_same_key : goal.returns-then-is_same_key
-returns-then-is_same_key g c =
-    let jobs = c.args.self.now.jobs in
-    let inside : c.loop-place.place < length jobs = omega arith in
-    let found = IsFound-from_place c.args.now c.args.key jobs c.loop-place.place c.job-job.result.now inside c.job-job.ensures c.if-job-now.true (sym c.if-is_same_key.ensures) c.loop-place.invariant.passed in
-    record {
-      job = λ d.
-          found.is ∙ ap (λ (j : Job). Some j) (get_or_read jobs c.loop-place.place c.job-job.result.now inside c.job-job.ensures d);
-      within = λ place e. let is : c.loop-place.place ≡ place = cc e in omega arith;
-      queue = c.len-place-end.ensures.queue;
-      steps = omega (arith, found.few);
-      few_steps = omega arith;
-    }
-
-pub returns-then-len-place : goal.returns-then-len-place
-returns-then-len-place g c =
-    let jobs = c.args.self.now.jobs in
+pub returns-in-Some-clause-place : goal.returns-in-Some-clause-place
+returns-in-Some-clause-place g c =
+    let now = c.args.now in
+    let key = c.args.key in
+    let beside = c.self.inside.beside.items in
     let parts = ap (λ (q : QueueParts). q.jobs) c.self.view_is in
+    let at = subst (λ js. IsReadyPlace now key js c.place_beside.result) c.deref.ensures.value c.place_beside.ensures.place in
+    IsReadyPlace-beside now key beside (reverse c.self.inside.come.items) c.self.inside.listed.items c.args.self.now.jobs c.in-Some.place parts (subst (λ place. IsReadyPlace now key beside place) c.in-Some.is at)
+
+pub returns-in-Some-place_come-clause-place : goal.returns-in-Some-place_come-clause-place
+returns-in-Some-place_come-clause-place g c =
+    let now = c.args.now in
+    let key = c.args.key in
     let beside = c.self.inside.beside.items in
     let back = reverse c.self.inside.come.items in
-    let long : length (beside ++ back) ≡ length beside + length c.self.inside.come.items = omega (arith, length-append beside back, length-reverse c.self.inside.come.items) in
-    let rest = ready-rest c.args.now (beside ++ back) c.self.inside.listed.items jobs (length beside + length c.self.inside.come.items) c.loop-place.place c.job-job.result.now parts c.self.invariant.ordered long (omega arith) (omega arith) c.job-job.ensures c.if-job-now.false in
-    record {
-      job = λ d. ap (find (has_key c.args.key)) rest ∙ c.loop-place.invariant.passed;
-      within = λ place e. absurd (cc e);
-      queue = c.len-place-end.ensures.queue;
-      steps = omega (arith, ap length rest, ready-le-place c.args.now jobs c.loop-place.place);
-      few_steps = omega arith;
-    }
+    let parts = ap (λ (q : QueueParts). q.jobs) c.self.view_is in
+    let at = subst (λ js. IsReadyPlace now key js c.place_beside.result) c.deref.ensures.value c.place_beside.ensures.place in
+    let none = subst (λ place. IsReadyPlace now key beside place) c.in_default.is at in
+    let found = subst (λ place. IsReadyPlace now key back place) c.in-Some-place_come.is c.place_come.ensures.place in
+    IsReadyPlace-come now key beside back c.self.inside.listed.items c.args.self.now.jobs c.len-beside.result c.in-Some-place_come.place parts (omega arith) none found
 
-pub returns-after-loop-place-clause-steps : goal.returns-after-loop-place-clause-steps
-returns-after-loop-place-clause-steps g c =
-    omega (arith, ready-le-length c.args.now c.args.self.now.jobs)
+pub returns-in_err-place-clause-place : goal.returns-in_err-place-clause-place
+returns-in_err-place-clause-place g c =
+    let now = c.args.now in
+    let key = c.args.key in
+    let beside = c.self.inside.beside.items in
+    let back = reverse c.self.inside.come.items in
+    let listed = c.self.inside.listed.items in
+    let parts = ap (λ (q : QueueParts). q.jobs) c.self.view_is in
+    let at = subst (λ js. IsReadyPlace now key js c.place_beside.result) c.deref.ensures.value c.place_beside.ensures.place in
+    let none = subst (λ place. IsReadyPlace now key beside place) c.in_default.is at in
+    let none_come = subst (λ place. IsReadyPlace now key back place) c.in_default-place_come.is c.place_come.ensures.place in
+    let none_listed = subst (λ place. IsReadyPlace now key listed place) c.in_err-place.was c.place_listed.ensures.place in
+    subst (λ place. IsReadyPlace now key c.args.self.now.jobs place) (sym c.from_residual.ensures) (IsReadyPlace-listed now key beside back listed c.args.self.now.jobs (length beside + length back) None parts (length-append beside back) none none_come none_listed)
+
+pub returns-clause-place : goal.returns-clause-place
+returns-clause-place g c =
+    let now = c.args.now in
+    let key = c.args.key in
+    let beside = c.self.inside.beside.items in
+    let come = c.self.inside.come.items in
+    let back = reverse come in
+    let listed = c.self.inside.listed.items in
+    let parts = ap (λ (q : QueueParts). q.jobs) c.self.view_is in
+    let at = subst (λ js. IsReadyPlace now key js c.place_beside.result) c.deref.ensures.value c.place_beside.ensures.place in
+    let none = subst (λ place. IsReadyPlace now key beside place) c.in_default.is at in
+    let none_come = subst (λ place. IsReadyPlace now key back place) c.in_default-place_come.is c.place_come.ensures.place in
+    let found = subst (λ place. IsReadyPlace now key listed place) c.in_ok-place.was c.place_listed.ensures.place in
+    let long : length (beside ++ back) ≡ c.len-beside.result + c.len.result = omega (arith, length-append beside back, length-reverse come) in
+    IsReadyPlace-listed now key beside back listed c.args.self.now.jobs (c.len-beside.result + c.len.result) (Some c.in_ok-place.place) parts long none none_come found

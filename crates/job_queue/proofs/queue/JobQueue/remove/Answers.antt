@@ -11,7 +11,7 @@ use Rattle.job_queue.proofs.queue.JobQueue.remove.Goals as goal
 
 pub invariant_of-self : goal.invariant_of-self
 invariant_of-self c =
-    let old = parts_of c.self.inside.beside.items c.self.inside.come.items c.self.inside.listed.items (vec_capacity c.self.inside.beside) (vec_capacity c.self.inside.come) (deque_capacity c.self.inside.listed) in
+    let old = parts_of c.self.inside.beside.items c.self.inside.come.items c.self.inside.listed.items (vec_capacity c.self.inside.beside) c.self.inside.come.places (deque_capacity c.self.inside.listed) in
     let gone = IsGone-beside c.self.inside.capacity c.args.place (vec_capacity c.swap_remove.new.self) c.swap_remove.result old c.self.invariant (omega arith) c.swap_remove.ensures.capacity in
     rw
     c.swap_remove.ensures.items
@@ -19,18 +19,18 @@ invariant_of-self c =
 
 pub invariant_of-self-then-place-beside-2 : goal.invariant_of-self-then-place-beside-2
 invariant_of-self-then-place-beside-2 c =
-    let old = parts_of c.self.inside.beside.items c.self.inside.come.items c.self.inside.listed.items (vec_capacity c.self.inside.beside) (vec_capacity c.self.inside.come) (deque_capacity c.self.inside.listed) in
+    let old = parts_of c.self.inside.beside.items c.self.inside.come.items c.self.inside.listed.items (vec_capacity c.self.inside.beside) c.self.inside.come.places (deque_capacity c.self.inside.listed) in
     let in_beside : length c.self.inside.beside.items ≡ c.len-beside.result = omega arith in
     let in_come : length c.self.inside.come.items ≡ c.len-come.result = omega arith in
     let k = c.len-come.result - 1 - (c.args.place - c.len-beside.result) in
-    let gone = IsGone-come c.self.inside.capacity c.args.place k (vec_capacity c.remove.new.self) old c.self.invariant (omega arith) (omega arith) (omega arith) c.remove.ensures.capacity in
+    let gone = IsGone-come c.self.inside.capacity c.args.place k c.remove.new.self.places old c.self.invariant (omega arith) (omega arith) (omega arith) c.remove.ensures.capacity in
     rw
     c.remove.ensures.items
     (AreKept-gone c.self.inside.capacity c.args.place old _ c.self.invariant gone)
 
 pub invariant_of-self-else-place-beside-2 : goal.invariant_of-self-else-place-beside-2
 invariant_of-self-else-place-beside-2 c =
-    let old = parts_of c.self.inside.beside.items c.self.inside.come.items c.self.inside.listed.items (vec_capacity c.self.inside.beside) (vec_capacity c.self.inside.come) (deque_capacity c.self.inside.listed) in
+    let old = parts_of c.self.inside.beside.items c.self.inside.come.items c.self.inside.listed.items (vec_capacity c.self.inside.beside) c.self.inside.come.places (deque_capacity c.self.inside.listed) in
     let in_beside : length c.self.inside.beside.items ≡ c.len-beside.result = omega arith in
     let in_come : length c.self.inside.come.items ≡ c.len-come.result = omega arith in
     let long = length-parts c.self.inside.beside.items c.self.inside.come.items c.self.inside.listed.items in
@@ -45,7 +45,7 @@ invariant_of-self-else-place-beside-2 c =
 
 pub returns-then-place-beside-clause-jobs : goal.returns-then-place-beside-clause-jobs
 returns-then-place-beside-clause-jobs c = λ f.
-    let old = parts_of c.self.inside.beside.items c.self.inside.come.items c.self.inside.listed.items (vec_capacity c.self.inside.beside) (vec_capacity c.self.inside.come) (deque_capacity c.self.inside.listed) in
+    let old = parts_of c.self.inside.beside.items c.self.inside.come.items c.self.inside.listed.items (vec_capacity c.self.inside.beside) c.self.inside.come.places (deque_capacity c.self.inside.listed) in
     let gone = IsGone-beside c.self.inside.capacity c.args.place (vec_capacity c.swap_remove.new.self) c.swap_remove.result old c.self.invariant (omega arith) c.swap_remove.ensures.capacity in
     rw
     c.swap_remove.ensures.items
@@ -53,7 +53,7 @@ returns-then-place-beside-clause-jobs c = λ f.
 
 pub returns-then-place-beside-2-clause-job : goal.returns-then-place-beside-2-clause-job
 returns-then-place-beside-2-clause-job c = λ d.
-    let old = parts_of c.self.inside.beside.items c.self.inside.come.items c.self.inside.listed.items (vec_capacity c.self.inside.beside) (vec_capacity c.self.inside.come) (deque_capacity c.self.inside.listed) in
+    let old = parts_of c.self.inside.beside.items c.self.inside.come.items c.self.inside.listed.items (vec_capacity c.self.inside.beside) c.self.inside.come.places (deque_capacity c.self.inside.listed) in
     let in_beside : length c.self.inside.beside.items ≡ c.len-beside.result = omega arith in
     let in_come : length c.self.inside.come.items ≡ c.len-come.result = omega arith in
     let k = c.len-come.result - 1 - (c.args.place - c.len-beside.result) in
@@ -63,18 +63,18 @@ returns-then-place-beside-2-clause-job c = λ d.
 
 pub returns-then-place-beside-2-clause-jobs : goal.returns-then-place-beside-2-clause-jobs
 returns-then-place-beside-2-clause-jobs c = λ f.
-    let old = parts_of c.self.inside.beside.items c.self.inside.come.items c.self.inside.listed.items (vec_capacity c.self.inside.beside) (vec_capacity c.self.inside.come) (deque_capacity c.self.inside.listed) in
+    let old = parts_of c.self.inside.beside.items c.self.inside.come.items c.self.inside.listed.items (vec_capacity c.self.inside.beside) c.self.inside.come.places (deque_capacity c.self.inside.listed) in
     let in_beside : length c.self.inside.beside.items ≡ c.len-beside.result = omega arith in
     let in_come : length c.self.inside.come.items ≡ c.len-come.result = omega arith in
     let k = c.len-come.result - 1 - (c.args.place - c.len-beside.result) in
-    let gone = IsGone-come c.self.inside.capacity c.args.place k (vec_capacity c.remove.new.self) old c.self.invariant (omega arith) (omega arith) (omega arith) c.remove.ensures.capacity in
+    let gone = IsGone-come c.self.inside.capacity c.args.place k c.remove.new.self.places old c.self.invariant (omega arith) (omega arith) (omega arith) c.remove.ensures.capacity in
     rw
     c.remove.ensures.items
     (same-gone c.args.place old _ gone f ∙ ap (λ (q : QueueParts). sum_by f (remove q.jobs c.args.place)) c.self.view_is)
 
 pub returns-else-place-beside-2-clause-job : goal.returns-else-place-beside-2-clause-job
 returns-else-place-beside-2-clause-job c = λ d.
-    let old = parts_of c.self.inside.beside.items c.self.inside.come.items c.self.inside.listed.items (vec_capacity c.self.inside.beside) (vec_capacity c.self.inside.come) (deque_capacity c.self.inside.listed) in
+    let old = parts_of c.self.inside.beside.items c.self.inside.come.items c.self.inside.listed.items (vec_capacity c.self.inside.beside) c.self.inside.come.places (deque_capacity c.self.inside.listed) in
     let in_beside : length c.self.inside.beside.items ≡ c.len-beside.result = omega arith in
     let in_come : length c.self.inside.come.items ≡ c.len-come.result = omega arith in
     let long = length-parts c.self.inside.beside.items c.self.inside.come.items c.self.inside.listed.items in
@@ -86,7 +86,7 @@ returns-else-place-beside-2-clause-job c = λ d.
 
 pub returns-else-place-beside-2-clause-jobs : goal.returns-else-place-beside-2-clause-jobs
 returns-else-place-beside-2-clause-jobs c = λ f.
-    let old = parts_of c.self.inside.beside.items c.self.inside.come.items c.self.inside.listed.items (vec_capacity c.self.inside.beside) (vec_capacity c.self.inside.come) (deque_capacity c.self.inside.listed) in
+    let old = parts_of c.self.inside.beside.items c.self.inside.come.items c.self.inside.listed.items (vec_capacity c.self.inside.beside) c.self.inside.come.places (deque_capacity c.self.inside.listed) in
     let in_beside : length c.self.inside.beside.items ≡ c.len-beside.result = omega arith in
     let in_come : length c.self.inside.come.items ≡ c.len-come.result = omega arith in
     let long = length-parts c.self.inside.beside.items c.self.inside.come.items c.self.inside.listed.items in

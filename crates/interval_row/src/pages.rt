@@ -1,0 +1,103 @@
+//! Places that the marks of a store tell, without a walk through its spans.
+
+ghost use Rattle.std.specs.Prelude.{◌≡◌, ◌+◌, ◌*◌, ◌/◌, ◌≤◌, ◌<◌, ◌^◌, ℕ, length, IsTrue, Some, slice_get};
+ghost use Rattle.slot_core.specs.declared.jobs.Span.{Span};
+ghost use Rattle.spare_capacity.specs.Laws.{work_until};
+ghost use Rattle.spare_capacity.specs.Recurrence.{last_end};
+ghost use Rattle.interval_row.specs.Changes.{ends_before};
+ghost use Rattle.interval_row.specs.Marks.{AreTimed};
+ghost use Rattle.interval_row.specs.Tables.{IsFront};
+
+use crate::marks::{PAGE, mark_at};
+use crate::store::Store;
+use crate::table::Front;
+use node_chain::{LAP, Mark};
+use slot_core::Span;
+
+/// The first start and the last end of the spans of a store.
+#[derive(Clone, Copy)]
+pub struct Times {
+    pub start: u64,
+    pub end: u64,
+}
+
+/// Whether no two pages of the spans share a mark, and there are more spans than pages.
+fn tell_pages(times: Times, count: u32) -> bool
+    requires near { times.end ≤ 2 ^ 60 }
+    requires rising { times.start ≤ times.end }
+    ensures { IsTrue result → times.end < (times.start / 128 + 256) * 128 }
+{
+    times.end < (times.start / PAGE + u64::from(LAP)) * PAGE
+        && times.end - times.start < u64::from(count) * PAGE
+}
+
+/// The first spans, and those of the next page.
+fn with_page(front: Front, mark: Mark) -> Front
+    requires count { front.count + mark.count < 2 ^ 32 }
+    requires works { front.works + mark.works < 2 ^ 64 }
+    ensures { result ≡ record {
+      count = front.count + mark.count;
+      works = front.works + mark.works;
+    } }
+{
+    Front {
+        count: front.count + mark.count,
+        works: front.works + mark.works,
+    }
+}
+
+/// Some of the first spans, which all end before `x`. No span is read.
+pub(crate) fn near<S: Store>(store: &S, times: Times, x: u64) -> Front
+    requires timed { AreTimed times.start times.end (S.spans store.now) (S.marks store.now) }
+    requires within { x ≤ times.end }
+    ensures front { IsFront (S.spans store.now) result }
+    ensures early { result.count ≤ ends_before x (S.spans store.now) }
+{
+    let mut front = Front { count: 0, works: 0 };
+    if !tell_pages(times, store.len()) {
+        return front;
+    }
+    for page in times.start / PAGE..x / PAGE {
+        front = with_page(front, mark_at(store, page));
+    }
+    front
+}
+
+/// Passes spans from a place on, as long as by each time so much room is left. Where none is passed
+/// the same place. No span is read.
+pub(crate) fn skip<S: Store>(
+    store: &S,
+    times: Times,
+    front: Front,
+    place: Span,
+    until: u64,
+    asked: u64,
+) -> Front
+    requires timed { AreTimed times.start times.end (S.spans store.now) (S.marks store.now) }
+    requires front { IsFront (S.spans store.now) front }
+    requires place { slice_get (S.spans store.now) front.count ≡ Some place }
+    requires until { until ≤ times.end }
+    requires some { 1 ≤ asked }
+    requires few { asked ≤ 2 ^ 62 }
+    ensures front { IsFront (S.spans store.now) result }
+    ensures later { front.count ≤ result.count }
+    ensures within { result.count < length (S.spans store.now) }
+    ensures reached { (later : Span) → slice_get (S.spans store.now) result.count ≡ Some later
+        → front.count < result.count → later.start < until }
+    ensures room { (later : Span) → slice_get (S.spans store.now) result.count ≡ Some later
+        → (x : ℕ) → place.end ≤ x → x < later.end
+        → asked + work_until (S.spans store.now) x ≤ x }
+{
+    if place.start / PAGE == place.end / PAGE || !tell_pages(times, store.len()) {
+        return front;
+    }
+    let mut passed = front;
+    for page in place.end / PAGE..until / PAGE {
+        let mark = mark_at(store, page);
+        if mark.low < asked + passed.works {
+            return passed;
+        }
+        passed = with_page(passed, mark);
+    }
+    passed
+}
