@@ -12,14 +12,13 @@
  * The library is tried on x86-64, and on aarch64 under qemu (`make aarch64`). Of other processors
  * nothing is said.
  *
- * How long the calls take on a PC, for the two controllers of examples/ (`make test` measures it):
- * - 0.15 us or less at the median, and under 1 us at 99.9 %, but for these:
- * - the slot that ends a cycle brings in the jobs and spans of another one: 0.5 us for the flight
- *   controller (21 jobs in 40 slots), 25 us for the engine (1,397 jobs in 4,000 slots);
- * - `ss_open` computes the plan again: 0.03 ms and 1.2 ms; `ss_close` 2 us and 130 us.
- * A firm or sporadic arrival, an early end, a withdrawal and a slot go along the jobs that remain
- * and the spans ahead, three cycles of them at most, and `ss_get_span` passes the spans before its
- * place; the others take no longer for a longer cycle.
+ * How long the calls take on a PC, for two controllers of examples/, stands in README.md under
+ * 'Speed' (`make test` measures it). Of them the slot that ends a cycle brings in the jobs and spans
+ * of another one, `ss_open` computes the plan again, and `ss_close` gives back all that it keeps: so
+ * each of the three takes longer for a longer cycle. A firm or sporadic arrival, an early end, a
+ * withdrawal and a slot go along the jobs that remain and the spans ahead, three cycles of them at
+ * most, and `ss_get_span` passes the spans before its place; the others take no longer for a longer
+ * cycle.
  *
  * What the caller owes:
  * - No pointer is null, and each points to what its type says, or to so many bytes as the number

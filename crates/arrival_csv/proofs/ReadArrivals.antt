@@ -11,7 +11,7 @@ use Rattle.slot_core.specs.declared.events.Event.TheVariants.{Soft as SoftEvent,
 use Rattle.slot_core.specs.declared.jobs.Key.{Key}
 use Rattle.slot_core.specs.declared.tasks.TaskSet.{TaskSet}
 use Rattle.slot_core.specs.Runs.Arrivals.{are_fitting}
-use Rattle.arrival_csv.specs.declared.faults.ArrivalFault.TheVariants.{UnknownKind, BadNumber, BadKey}
+use Rattle.arrival_faults.specs.declared.faults.ArrivalFault.TheVariants.{UnknownKind, BadNumber, BadKey}
 use Rattle.arrival_csv.specs.declared.kinds.Kind.{Kind}
 use Rattle.arrival_csv.specs.declared.kinds.Kind.TheVariants.{Soft, Done}
 use Rattle.key_texts.specs.KeyTexts.{key_of_text}

@@ -4,7 +4,7 @@ use Rattle.std.proofs.lemmas.List.{append-nil}
 use Rattle.slot_core.specs.declared.events.Arrival.{Arrival}
 use Rattle.slot_core.specs.declared.tasks.TaskSet.{TaskSet}
 use Rattle.slot_core.specs.Calls.Results.{◌>>=◌}
-use Rattle.arrival_csv.specs.declared.faults.ArrivalFault.{ArrivalFault}
+use Rattle.arrival_faults.specs.declared.faults.ArrivalFault.{ArrivalFault}
 use Rattle.arrival_csv.specs.Reading.{Read, arrival_of, arrivals_from}
 
 -- the arrivals that are read, and then those of the rows that are left

@@ -3,7 +3,7 @@ use Rattle.std.proofs.Common.{◌≡◌, ℕ, Bor, List, [], ◌∷◌, length, 
 use Rattle.std.specs.Prelude.{option_map, ok_or, MatchResult}
 use Rattle.std.specs.Option.{option_zip}
 use Rattle.csv.specs.Records.{field_at}
-use Rattle.arrival_csv.specs.declared.faults.ArrivalFault.TheVariants.{BadRow}
+use Rattle.arrival_faults.specs.declared.faults.ArrivalFault.TheVariants.{BadRow}
 use Rattle.arrival_csv.specs.Reading.{first_fields, one_field, two_fields}
 
 -- of three fields it is the third

@@ -7,13 +7,12 @@ ghost use Rattle.slot_core.specs.Runs.Arrivals.{are_fitting};
 ghost use Rattle.slot_core.specs.Sets.Ranges.{is_sound};
 ghost use Rattle.arrival_csv.specs.Reading.{AnswersAs, reading_of_arrivals};
 
-pub mod faults;
 mod kinds;
 mod reader;
 mod rows;
 
+pub use arrival_faults::ArrivalFault;
 use csv::ByteRecord;
-pub use faults::ArrivalFault;
 pub use kinds::Kind;
 use reader::{next_row, reader_of};
 use rows::arrival_of;

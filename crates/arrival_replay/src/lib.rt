@@ -284,10 +284,10 @@ fn is_on_the_way(time: u64, arrivals: &[Arrival], slots: u64, place: usize, next
 fn due_arrival(arrivals: &[Arrival], place: usize, time: u64) -> Option<Arrival>
     ensures { result ≡ due_arrival arrivals.now place time }
 {
-    arrivals
-        .get(place)
-        .copied()
-        .filter(|arrival| arrival.slot == time)
+    match arrivals.get(place) {
+        Some(arrival) if arrival.slot == time => Some(*arrival),
+        _ => None,
+    }
 }
 
 /// What comes next happens: the executive answers the arrival that is due, and where none is, a

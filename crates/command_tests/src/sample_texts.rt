@@ -41,27 +41,50 @@ after = ['a']
 ";
 
 /// The pair beside an alarm.
-pub const ALARM: &str =
-    "graph = [{ name = 'g', period = 8, task = [{ name = 'a', wcet = 2 }, { name = 'b', wcet = 1, after = ['a'] }] }]
-sporadic = [{ name = 'alarm', wcet = 1, separation = 8, deadline = 2 }]";
+pub const ALARM: &str = "[[graph]]
+name = 'g'
+period = 8
+task = [{ name = 'a', wcet = 2 }, { name = 'b', wcet = 1, after = ['a'] }]
+[[sporadic]]
+name = 'alarm'
+wcet = 1
+separation = 8
+deadline = 2
+";
 
 /// The pair, where one soft job may wait.
 pub const NARROW: &str = "soft = 1
-graph = [{ name = 'g', period = 8, task = [{ name = 'a', wcet = 2 }, { name = 'b', wcet = 1, after = ['a'] }] }]";
+[[graph]]
+name = 'g'
+period = 8
+task = [{ name = 'a', wcet = 2 }, { name = 'b', wcet = 1, after = ['a'] }]
+";
 
 /// A flight controller without its sporadic task.
 pub const FLIGHT: &str = "[[graph]]
 name = 'imu'
 period = 10
-task = [{ name = 'read', wcet = 1 }, { name = 'fuse', wcet = 1, after = ['read'] }, { name = 'ctl', wcet = 1, after = ['fuse'] }]
+task = [
+    { name = 'read', wcet = 1 },
+    { name = 'fuse', wcet = 1, after = ['read'] },
+    { name = 'ctl', wcet = 1, after = ['fuse'] },
+]
 [[graph]]
 name = 'gps'
 period = 20
-task = [{ name = 'read', wcet = 1 }, { name = 'fix', wcet = 2, after = ['read'] }, { name = 'nav', wcet = 1, after = ['fix'] }]
+task = [
+    { name = 'read', wcet = 1 },
+    { name = 'fix', wcet = 2, after = ['read'] },
+    { name = 'nav', wcet = 1, after = ['fix'] },
+]
 [[graph]]
 name = 'link'
 period = 40
-task = [{ name = 'recv', wcet = 2 }, { name = 'plan', wcet = 3, after = ['recv'] }, { name = 'send', wcet = 1, after = ['plan'] }]
+task = [
+    { name = 'recv', wcet = 2 },
+    { name = 'plan', wcet = 3, after = ['recv'] },
+    { name = 'send', wcet = 1, after = ['plan'] },
+]
 ";
 
 /// One job that takes the whole of the longest cycle.
@@ -69,16 +92,29 @@ pub const LONGEST: &str =
     "graph = [{ name = 'g', period = 8192, task = [{ name = 'a', wcet = 8192 }] }]";
 
 /// Two windows that meet.
-pub const SPLIT: &str =
-    "graph = [{ name = 'c', period = 10, offset = 5, deadline = 2, task = [{ name = 'a', wcet = 2 }] }, { name = 'd', period = 10, offset = 6, deadline = 1, task = [{ name = 'a', wcet = 1 }] }]";
+pub const SPLIT: &str = "graph = [
+    { name = 'c', period = 10, offset = 5, deadline = 2, task = [{ name = 'a', wcet = 2 }] },
+    { name = 'd', period = 10, offset = 6, deadline = 1, task = [{ name = 'a', wcet = 1 }] },
+]";
 
 /// A window with more work than slots, in a cycle with room enough.
-pub const CAMERA: &str =
-    "graph = [{ name = 'camera', period = 20, offset = 5, deadline = 4, task = [{ name = 'a', wcet = 3 }] }, { name = 'lidar', period = 20, offset = 6, deadline = 3, task = [{ name = 'a', wcet = 2 }] }, { name = 'log', period = 20, task = [{ name = 'a', wcet = 3 }] }]";
+pub const CAMERA: &str = "graph = [
+    { name = 'camera', period = 20, offset = 5, deadline = 4, task = [{ name = 'a', wcet = 3 }] },
+    { name = 'lidar', period = 20, offset = 6, deadline = 3, task = [{ name = 'a', wcet = 2 }] },
+    { name = 'log', period = 20, task = [{ name = 'a', wcet = 3 }] },
+]";
 
 /// Three tasks in a row that come too late.
-pub const CHAIN: &str =
-    "graph = [{ name = 'g', period = 10, deadline = 3, task = [{ name = 'a', wcet = 2 }, { name = 'b', wcet = 2, after = ['a'] }, { name = 'c', wcet = 2, after = ['b'] }] }]";
+pub const CHAIN: &str = "[[graph]]
+name = 'g'
+period = 10
+deadline = 3
+task = [
+    { name = 'a', wcet = 2 },
+    { name = 'b', wcet = 2, after = ['a'] },
+    { name = 'c', wcet = 2, after = ['b'] },
+]
+";
 
 /// More work than slots.
 pub const OVERLOAD: &str =
@@ -163,13 +199,33 @@ pub const PAIR_17: &str = "0 start | 0-7:5 7-8:0 8-15:5 15-16:0 16-23:5 23-24:0
 17 end
 ";
 
-/// The table of the pair in the first version.
-pub const PAIR_TABLE: &str =
-    "SLOT\x01\0\x40\0\x01\0\x01g\x08\0\0\0\x08\0\x02\0\x01a\x02\0\0\0\x01b\x01\0\x01\0\0\0\0\0\x02\0\0\0\0\0\0\0\0\0\0\0\x07\0\x02\0\0\0\x01\0\0\0\x02\0\x08\0\x01\0\x02\0\0\0\0\0\x07\0\x02\0\x05\0\0\0\x07\0\x08\0\x01\0\0\0\0\0";
+/// The table of the pair in the first version, a part in each line.
+pub const PAIR_TABLE: &str = "SLOT\x01\0\x40\0\
+    \x01\0\
+    \x01g\x08\0\0\0\x08\0\x02\0\
+    \x01a\x02\0\0\0\
+    \x01b\x01\0\x01\0\0\0\
+    \0\0\
+    \x02\0\0\0\
+    \0\0\0\0\0\0\0\0\x07\0\x02\0\
+    \0\0\x01\0\0\0\x02\0\x08\0\x01\0\
+    \x02\0\0\0\
+    \0\0\x07\0\x02\0\x05\0\0\0\
+    \x07\0\x08\0\x01\0\0\0\0\0";
 
 /// The table of the pair that is written, in the second version.
-pub const SECOND_TABLE: &str =
-    "SLOT\x02\0\x40\0\0\0\x01\0\x01g\x08\0\0\0\0\0\0\0\x08\0\0\0\x02\0\x01a\x02\0\0\0\0\0\x01b\x01\0\0\0\x01\0\0\0\0\0\x02\0\0\0\0\0\0\0\0\0\0\0\0\0\0\0\x07\0\0\0\x02\0\0\0\0\0\x01\0\0\0\0\0\x02\0\0\0\x08\0\0\0\x01\0\0\0\x02\0\0\0\0\0\0\0\x07\0\0\0\x02\0\0\0\x05\0\0\0\0\0\0\0\x07\0\0\0\x08\0\0\0\x01\0\0\0\0\0\0\0\0\0\0\0";
+pub const SECOND_TABLE: &str = "SLOT\x02\0\x40\0\0\0\
+    \x01\0\
+    \x01g\x08\0\0\0\0\0\0\0\x08\0\0\0\x02\0\
+    \x01a\x02\0\0\0\0\0\
+    \x01b\x01\0\0\0\x01\0\0\0\
+    \0\0\
+    \x02\0\0\0\
+    \0\0\0\0\0\0\0\0\0\0\0\0\x07\0\0\0\x02\0\0\0\
+    \0\0\x01\0\0\0\0\0\x02\0\0\0\x08\0\0\0\x01\0\0\0\
+    \x02\0\0\0\
+    \0\0\0\0\x07\0\0\0\x02\0\0\0\x05\0\0\0\0\0\0\0\
+    \x07\0\0\0\x08\0\0\0\x01\0\0\0\0\0\0\0\0\0\0\0";
 
 /// What both show.
 pub const PAIR_PLAN: &str = "plan cycle 8 soft 64 graphs 1 sporadics 0 jobs 2 spans 2

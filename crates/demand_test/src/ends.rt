@@ -96,7 +96,7 @@ fn raise(numbers: &mut Vec<u64>, from: usize, to: usize, by: u64)
 
 impl Ends {
     /// The ends of the jobs, none of them passed.
-    pub fn of(alloc: Global, jobs: &[Job], cycle: u32) -> Result<Ends, Memory>
+    pub(crate) fn of(alloc: Global, jobs: &[Job], cycle: u32) -> Result<Ends, Memory>
         requires positive { 0 < cycle }
         requires cycle { cycle ≤ SLOT_LIMIT }
         requires within { All (λ (j : Job). j.dl ≤ cycle) jobs.now }
@@ -116,7 +116,7 @@ impl Ends {
     }
 
     /// The slots that are due by `end`, but for those of the passed jobs.
-    pub fn due_by(&self, end: usize) -> u64
+    pub(crate) fn due_by(&self, end: usize) -> u64
         requires within { end < length self.now.sums.items }
         requires readable { AreReadable self.now }
         ensures { result ≡ due_by self.now end }
@@ -141,7 +141,7 @@ impl Ends {
     }
 
     /// Passes these jobs of the first cycle.
-    pub fn pass_all(&mut self, jobs: &[Job], last: usize)
+    pub(crate) fn pass_all(&mut self, jobs: &[Job], last: usize)
         requires within { All (λ (j : Job). j.dl ≤ last) jobs.now }
         requires blocks { HasBlocks self.old last }
         requires few { (b : ℕ) → b ≤ last

@@ -54,7 +54,7 @@ impl Model for Track {
 
 impl Track {
     /// The row over so many slots, in none of which a job of it has run.
-    pub fn new(alloc: Global, row: Row, slots: u32) -> Result<Track, Memory>
+    pub(crate) fn new(alloc: Global, row: Row, slots: u32) -> Result<Track, Memory>
         ensures { IfOk result (λ track. track ≡ unmarked slots (row_of row)) }
     {
         let marks = vec![in alloc; b'.'; slots as usize]?;
@@ -62,7 +62,7 @@ impl Track {
     }
 
     /// Marks the slot, where it is one of the row's and the key is of a job of the row.
-    pub fn mark(&mut self, slot: u64, key: Key)
+    pub(crate) fn mark(&mut self, slot: u64, key: Key)
         ensures { self.new ≡ with_runs ((slot, key) ∷ []) self.old }
     {
         if self.row.holds(key) && slot < self.marks.len() as u64 {
@@ -71,14 +71,14 @@ impl Track {
     }
 
     /// Whose runs it shows.
-    pub fn row(&self) -> Row
+    pub(crate) fn row(&self) -> Row
         ensures { row_of result ≡ self.now.row }
     {
         self.row
     }
 
     /// Its marks.
-    pub fn marks(&self) -> &[u8]
+    pub(crate) fn marks(&self) -> &[u8]
         ensures { result.now ≡ self.now.marks }
     {
         self.marks.as_slice()

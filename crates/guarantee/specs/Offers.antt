@@ -22,7 +22,7 @@ need_until spans reserve r x =
 abbrev pub is_short : List Span → Reserved → ℕ → ℕ → ℕ → ℕ → Bool
 is_short spans reserve t r slots x = nat_lt (x - t) (slots + need_until spans reserve r x)
 
--- the first such time from `from` to the last end, or none
+-- the first time from `from` to the last end by which more is needed than there are slots, or none
 abbrev pub first_short : List Span → Reserved → ℕ → ℕ → ℕ → ℕ → Option ℕ
 first_short spans reserve t r slots from =
     find (is_short spans reserve t r slots) (range_with_len from (last_end t spans + 1 - from))

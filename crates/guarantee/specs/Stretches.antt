@@ -59,12 +59,13 @@ abbrev pub LeavesFrom : List Span → Reserved → ℕ → ℕ → ℕ → ℕ �
 LeavesFrom spans reserve t r slots left from =
     Leaves (need_until spans reserve r) t slots left from (last_end t spans + 1)
 
--- of the numbers up to `most` that are left beside what is asked at those times, none is greater
+-- `left` is the most: no number up to `most` that is left at each time from a to before b by which
+-- something is needed is greater
 abbrev pub MostBetween : Reserved → Ask → ℕ → ℕ → ℕ → ℕ → ℕ → Type 0
 MostBetween reserve ask due most left a b =
     (more : ℕ) → more ≤ most → LeavesBetween reserve ask due more a b → more ≤ left
 
--- of the numbers up to `most` that are left from a time to the last end, none is greater
+-- `left` is the most: no number up to `most` that is left from a time to the last end is greater
 abbrev pub MostFrom : List Span → Reserved → ℕ → ℕ → ℕ → ℕ → ℕ → ℕ → Type 0
 MostFrom spans reserve t r slots most left from =
     (more : ℕ) → more ≤ most → LeavesFrom spans reserve t r slots more from → more ≤ left

@@ -43,11 +43,13 @@ struct Tried {
     left: u64,
 }
 
-/// The first time from `from` to the last end that is too short for `slots` slots more, with
-/// arrivals of sporadic tasks from `arrivals` on. Each span is read once at most.
+/// The first time from `from` to the last end by which more is needed than there are slots, where
+/// `slots` slots more are due and sporadic tasks arrive from `arrivals` on. Each span is read once
+/// at most.
 ///
-/// Where no time is too short, Ok tells how many slots are left beside those at each such time by
-/// which something is needed: the greatest such number up to `told`, and up to all slots.
+/// Where there is no such time, Ok tells the greatest number of slots that are left beside all that
+/// at each time from `from` on by which something is needed; but no greater one than `told`, nor
+/// than the slots up to the last end without `slots`.
 #[inline(always)]
 pub(crate) fn first_short<T: SpareTable, L: Ledger>(
     table: &T,
@@ -170,10 +172,12 @@ fn first_short_on<T: SpareTable, L: Ledger>(
     }
 }
 
-/// The place from which a search goes on where so much is left so far. None exactly after the last.
+/// The place from which a search goes on, where `left` slots are left at the times so far: the next
+/// span, or a later one. None exactly after the last.
 ///
-/// Where a span crosses the border of a page, spans are passed whose times leave as much even with
-/// the sporadic demand up to a later time: a page and a quarter of the way so far ahead.
+/// Where the span crosses the border of a page, those after it are passed whose times leave `left`
+/// slots too, even beside the sporadic demand up to `far`. That lies after the end of the span by a
+/// page and a quarter of the slots from now to that end; no span that starts later is reached.
 #[inline(always)]
 fn onward<T: SpareTable, L: Ledger>(
     table: &T,
@@ -291,8 +295,9 @@ fn untried(ask: Ask, last: u64, told: u64) -> Tried
     }
 }
 
-/// Whether the slots before a span and its capacity cover so many slots. Then as many are free of
-/// works by each time from its end on.
+/// Whether the slots from now to the start of a span, and its capacity, are together so many or
+/// more. Then by each time from its end on so many are left beside the works of this span and of
+/// those after it.
 #[inline(always)]
 fn covers(span: Span, now: u64, slots: u64) -> bool
     requires after { now ≤ span.start }

@@ -25,8 +25,11 @@ const SPORADICS: Place = Place {
 };
 
 /// An array nested a hundred deep.
-const NESTED: &[u8] =
-    b"soft = [[[[[[[[[[[[[[[[[[[[[[[[[[[[[[[[[[[[[[[[[[[[[[[[[[[[[[[[[[[[[[[[[[[[[[[[[[[[[[[[[[[[[[[[[[[[[[[[[[[[1]]]]]]]]]]]]]]]]]]]]]]]]]]]]]]]]]]]]]]]]]]]]]]]]]]]]]]]]]]]]]]]]]]]]]]]]]]]]]]]]]]]]]]]]]]]]]]]]]]]]";
+const NESTED: &[u8] = b"soft = \
+    [[[[[[[[[[[[[[[[[[[[[[[[[[[[[[[[[[[[[[[[[[[[[[[[[[\
+    [[[[[[[[[[[[[[[[[[[[[[[[[[[[[[[[[[[[[[[[[[[[[[[[[[1\
+    ]]]]]]]]]]]]]]]]]]]]]]]]]]]]]]]]]]]]]]]]]]]]]]]]]]\
+    ]]]]]]]]]]]]]]]]]]]]]]]]]]]]]]]]]]]]]]]]]]]]]]]]]]";
 
 /// A graph that lacks its tasks, one with a task, and one whose task begins its entries.
 const GRAPH: &str = "[[graph]]\nname = 'g'\nperiod = 8\n";
@@ -149,26 +152,32 @@ fn repeated(
 /// Files that read, and their sets.
 const SETS: [(&str, &str); 4] = [
     (
-        "[[graph]]\nname = 'p'\nperiod = 10\ndeadline = 4\n[[graph.task]]\nname = 'w'\nwcet = 1\n[[graph]]\nname = 'q'\nperiod = 10\n[[graph.task]]\nname = 'w'\nwcet = 8",
+        "[[graph]]\nname = 'p'\nperiod = 10\ndeadline = 4\n[[graph.task]]\nname = 'w'\nwcet = 1\n\
+        [[graph]]\nname = 'q'\nperiod = 10\n[[graph.task]]\nname = 'w'\nwcet = 8",
         "soft 64 | p 10 0 4 : w 1 [] | q 10 0 10 : w 8 []",
     ),
     (
-        "soft = 1024\nsporadic = []\ngraph = [{deadline = 3, task = [{wcet = 2, name = 'w', after = []}], offset = 2, name = 'h', period = 6}]",
+        "soft = 1024\nsporadic = []\n\
+        graph = [{deadline = 3, task = [{wcet = 2, name = 'w', after = []}], offset = 2, \
+        name = 'h', period = 6}]",
         "soft 1024 | h 6 2 3 : w 2 []",
     ),
     (
-        "soft = 1\n[[graph]]\nname = 'h'\nperiod = 4096\noffset = 4095\n[[graph.task]]\nname = 'A-b_9'\nwcet = 4096",
+        "soft = 1\n[[graph]]\nname = 'h'\nperiod = 4096\noffset = 4095\n\
+        [[graph.task]]\nname = 'A-b_9'\nwcet = 4096",
         "soft 1 | h 4096 4095 1 : A-b_9 4096 []",
     ),
     (
-        "[[graph]]\nname = 'g'\nperiod = 8\n[[graph.task]]\nname = 'a'\nwcet = 2\n[[graph.task]]\nname = 'b'\nwcet = 1\nafter = ['a']",
+        "[[graph]]\nname = 'g'\nperiod = 8\n[[graph.task]]\nname = 'a'\nwcet = 2\n\
+        [[graph.task]]\nname = 'b'\nwcet = 1\nafter = ['a']",
         "soft 64 | g 8 0 8 : a 2 [] : b 1 [0]",
     ),
 ];
 
 /// A task after a later one, one of no name that is there, and itself.
-const WRONG_ENTRIES: &str =
-    "[[graph]]\nname = 'g'\nperiod = 8\n[[graph.task]]\nname = 'a'\nwcet = 2\nafter = ['b', 'none', 'a']\n[[graph.task]]\nname = 'b'\nwcet = 1";
+const WRONG_ENTRIES: &str = "[[graph]]\nname = 'g'\nperiod = 8\n\
+    [[graph.task]]\nname = 'a'\nwcet = 2\nafter = ['b', 'none', 'a']\n\
+    [[graph.task]]\nname = 'b'\nwcet = 1";
 
 #[test]
 fn reads_sets(rt: HostRuntime) -> Result<(), Fail> {

@@ -12,7 +12,7 @@ use Rattle.spare_capacity.proofs.Slack.{work_until-before, work_until-ended, wor
 use Rattle.interval_row.specs.declared.table.Front.{Front}
 use Rattle.node_chain.specs.declared.marks.Mark.{Mark}
 use Rattle.interval_row.specs.Changes.{ends_before}
-use Rattle.interval_row.specs.Marks.{count_at, mark_of, page_of, works_at, works_in_page, IsMarked}
+use Rattle.interval_row.specs.Marks.{count_at, mark_index, page_of, works_at, works_in_page, IsMarked}
 use Rattle.interval_row.specs.Rows.{place_of}
 use Rattle.interval_row.specs.Tables.{works, IsFront}
 use Rattle.interval_row.proofs.Places.{last_end-ge}
@@ -21,11 +21,11 @@ use Rattle.interval_row.proofs.Places.{last_end-ge}
 abbrev pub works_before : ℕ → List Span → ℕ
 works_before y spans = sum_by (λ (s : Span). cond (ltb s.end y) s.work 0) spans
 
-ends_before-ended : (y : ℕ) (s : Span) (ss : List Span) → s.end < y → ends_before y (s ∷ ss) ≡ suc (ends_before y ss)
+pub ends_before-ended : (y : ℕ) (s : Span) (ss : List Span) → s.end < y → ends_before y (s ∷ ss) ≡ suc (ends_before y ss)
 ends_before-ended y s ss early =
     sum_by-cons (λ (t : Span). cond (ltb t.end y) 1 0) s ss ∙ ap (λ b. cond b 1 0 + ends_before y ss) (lt-ltb s.end y early) ∙ omega arith
 
-ends_before-later : (y : ℕ) (s : Span) (ss : List Span) → y ≤ s.end → ends_before y (s ∷ ss) ≡ ends_before y ss
+pub ends_before-later : (y : ℕ) (s : Span) (ss : List Span) → y ≤ s.end → ends_before y (s ∷ ss) ≡ ends_before y ss
 ends_before-later y s ss late =
     sum_by-cons (λ (t : Span). cond (ltb t.end y) 1 0) s ss ∙ ap (λ b. cond b 1 0 + ends_before y ss) (le-ltb s.end y late) ∙ omega arith
 
@@ -183,24 +183,24 @@ AreInLap time start (s ∷ ss) follow late near =
     (record { late = omega (arith, follow.0, follow.1, late); near = omega (arith, near, last_end-ge s.end ss follow.4) }, AreInLap time s.end ss follow.4 (omega (arith, follow.0, follow.1, late)) near)
 
 -- within a lap a span that ends before the next page ends before this one or has its mark
-by-page : (time end page amount : ℕ) → time ≤ end → end < (time / 128 + 256) * 128 → time / 128 ≤ page → page < time / 128 + 256 → cond (ltb end ((page + 1) * 128)) amount 0 ≡ cond (ltb end (page * 128)) amount 0 + cond (eqb (mark_of end) (page % 256)) amount 0
+by-page : (time end page amount : ℕ) → time ≤ end → end < (time / 128 + 256) * 128 → time / 128 ≤ page → page < time / 128 + 256 → cond (ltb end ((page + 1) * 128)) amount 0 ≡ cond (ltb end (page * 128)) amount 0 + cond (eqb (mark_index end) (page % 256)) amount 0
 by-page time end page amount late near low high =
     elim (cases_order (end / 128) page) [
       | inl here ↦
-          rw (lt-ltb end ((page + 1) * 128) (omega (arith, here)), le-ltb end (page * 128) (omega (arith, here)), eq-eqb (mark_of end) (page % 256) (omega (arith, here))) (omega arith)
+          rw (lt-ltb end ((page + 1) * 128) (omega (arith, here)), le-ltb end (page * 128) (omega (arith, here)), eq-eqb (mark_index end) (page % 256) (omega (arith, here))) (omega arith)
       | inr (inl early) ↦
-          rw (lt-ltb end ((page + 1) * 128) (omega (arith, early)), lt-ltb end (page * 128) (omega (arith, early)), ne_eqb (mark_of end) (page % 256) (λ same. omega (arith, early, late, high, low, same))) (omega arith)
+          rw (lt-ltb end ((page + 1) * 128) (omega (arith, early)), lt-ltb end (page * 128) (omega (arith, early)), ne_eqb (mark_index end) (page % 256) (λ same. omega (arith, early, late, high, low, same))) (omega arith)
       | inr (inr after) ↦
-          rw (le-ltb end ((page + 1) * 128) (omega (arith, after)), le-ltb end (page * 128) (omega (arith, after)), ne_eqb (mark_of end) (page % 256) (λ same. omega (arith, after, near, low, same))) (omega arith)
+          rw (le-ltb end ((page + 1) * 128) (omega (arith, after)), le-ltb end (page * 128) (omega (arith, after)), ne_eqb (mark_index end) (page % 256) (λ same. omega (arith, after, near, low, same))) (omega arith)
     ]
 
 pub ends_before-page : (time page : ℕ) (rows : List Span) → AllByRecursion (IsInLap time) rows → time / 128 ≤ page → page < time / 128 + 256 → ends_before ((page + 1) * 128) rows ≡ ends_before (page * 128) rows + count_at (page % 256) rows
 ends_before-page time page rows all low high =
-    sum-parts (IsInLap time) (λ (s : Span). cond (ltb s.end (page * 128)) 1 0) (λ (s : Span). cond (eqb (mark_of s.end) (page % 256)) 1 0) (λ (s : Span). cond (ltb s.end ((page + 1) * 128)) 1 0) rows all (λ s near. by-page time s.end page 1 near.late near.near low high)
+    sum-parts (IsInLap time) (λ (s : Span). cond (ltb s.end (page * 128)) 1 0) (λ (s : Span). cond (eqb (mark_index s.end) (page % 256)) 1 0) (λ (s : Span). cond (ltb s.end ((page + 1) * 128)) 1 0) rows all (λ s near. by-page time s.end page 1 near.late near.near low high)
 
 pub works_before-page : (time page : ℕ) (rows : List Span) → AllByRecursion (IsInLap time) rows → time / 128 ≤ page → page < time / 128 + 256 → works_before ((page + 1) * 128) rows ≡ works_before (page * 128) rows + works_at (page % 256) rows
 works_before-page time page rows all low high =
-    sum-parts (IsInLap time) (λ (s : Span). cond (ltb s.end (page * 128)) s.work 0) (λ (s : Span). cond (eqb (mark_of s.end) (page % 256)) s.work 0) (λ (s : Span). cond (ltb s.end ((page + 1) * 128)) s.work 0) rows all (λ s near. by-page time s.end page s.work near.late near.near low high)
+    sum-parts (IsInLap time) (λ (s : Span). cond (ltb s.end (page * 128)) s.work 0) (λ (s : Span). cond (eqb (mark_index s.end) (page % 256)) s.work 0) (λ (s : Span). cond (ltb s.end ((page + 1) * 128)) s.work 0) rows all (λ s near. by-page time s.end page s.work near.late near.near low high)
 
 -- what is due by a time: what is due before its page, and what is due in it
 until-page : (end x work : ℕ) → cond (leb end x) work 0 ≡ cond (ltb end (x / 128 * 128)) work 0 + cond (eqb (page_of end) (page_of x) && leb end x) work 0

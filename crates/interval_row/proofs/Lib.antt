@@ -6,6 +6,8 @@ pub mod Fillings
 pub mod Kept
 pub mod Marked
 pub mod Laps
+pub mod LiftedSpans
+pub mod PageWalks
 pub mod Places
 pub mod Rooms
 pub mod Skips

@@ -10,12 +10,12 @@ use Rattle.std.proofs.lemmas.Option.{get_or_from_slice_get, same_Some, slice_get
 use Rattle.slot_core.specs.declared.jobs.Span.{Span}
 use Rattle.spare_capacity.specs.Recurrence.{filled, first_spare, with_spare, FollowOn}
 use Rattle.spare_capacity.proofs.Steps.{no_row}
-use Rattle.node_chain.specs.Chains.{blank_mark}
+use Rattle.node_chain.specs.Laps.{blank_mark}
 use Rattle.node_chain.specs.declared.marks.Mark.{Mark}
 use Rattle.interval_row.specs.declared.spans.Change.{Change}
 use Rattle.interval_row.specs.declared.spans.Change.TheVariants.{More, Fewer}
 use Rattle.interval_row.specs.Changes.{cut, part_before, part_from}
-use Rattle.interval_row.specs.Marks.{blank, count_at, mark_of, page_of, passed, with_change, with_cut, with_end, without_end, works_at, works_in_page, AreMarked, IsMarked}
+use Rattle.interval_row.specs.Marks.{first_mark, count_at, mark_index, page_of, passed, with_change, with_cut, with_end, without_end, works_at, works_in_page, AreMarked, IsMarked}
 use Rattle.interval_row.specs.Rows.{place_of, with_work_at, HoldsInside}
 use Rattle.interval_row.specs.Works.{changed_by, MayChangeBy}
 use Rattle.interval_row.proofs.Cuts.{cut-halved, halved}
@@ -105,27 +105,27 @@ Moves-with_work_at rows place work row at =
 
 -- what one span adds to the numbers of a mark, and to the works of a page
 abbrev counts : ℕ → ℕ → ℕ → ℕ
-counts j end work = cond (eqb (mark_of end) j) 1 0
+counts j end work = cond (eqb (mark_index end) j) 1 0
 
 abbrev works : ℕ → ℕ → ℕ → ℕ
-works j end work = cond (eqb (mark_of end) j) work 0
+works j end work = cond (eqb (mark_index end) j) work 0
 
 abbrev in_page : ℕ → ℕ → ℕ → ℕ
 in_page x end work = cond (eqb (page_of end) (page_of x) && leb end x) work 0
 
-counts-own : (j end work : ℕ) → mark_of end ≡ j → counts j end work ≡ 1
-counts-own j end work own = ap (λ b. cond b 1 0) (eq-eqb (mark_of end) j own)
+counts-own : (j end work : ℕ) → mark_index end ≡ j → counts j end work ≡ 1
+counts-own j end work own = ap (λ b. cond b 1 0) (eq-eqb (mark_index end) j own)
 
-counts-other : (j end work : ℕ) → (mark_of end ≡ j → ⊥) → counts j end work ≡ 0
-counts-other j end work other = ap (λ b. cond b 1 0) (ne_eqb (mark_of end) j other)
+counts-other : (j end work : ℕ) → (mark_index end ≡ j → ⊥) → counts j end work ≡ 0
+counts-other j end work other = ap (λ b. cond b 1 0) (ne_eqb (mark_index end) j other)
 
-works-own : (j end work : ℕ) → mark_of end ≡ j → works j end work ≡ work
-works-own j end work own = ap (λ b. cond b work 0) (eq-eqb (mark_of end) j own)
+works-own : (j end work : ℕ) → mark_index end ≡ j → works j end work ≡ work
+works-own j end work own = ap (λ b. cond b work 0) (eq-eqb (mark_index end) j own)
 
-works-other : (j end work : ℕ) → (mark_of end ≡ j → ⊥) → works j end work ≡ 0
-works-other j end work other = ap (λ b. cond b work 0) (ne_eqb (mark_of end) j other)
+works-other : (j end work : ℕ) → (mark_index end ≡ j → ⊥) → works j end work ≡ 0
+works-other j end work other = ap (λ b. cond b work 0) (ne_eqb (mark_index end) j other)
 
-in_page-other : (x end work : ℕ) → (mark_of end ≡ mark_of x → ⊥) → in_page x end work ≡ 0
+in_page-other : (x end work : ℕ) → (mark_index end ≡ mark_index x → ⊥) → in_page x end work ≡ 0
 in_page-other x end work other =
     ap (λ b. cond b work 0) (and_left (eqb (page_of end) (page_of x)) (leb end x) (ne_eqb (page_of end) (page_of x) (λ same. other (ap (λ n. n % 256) same))))
 
@@ -146,14 +146,14 @@ cond-whole true work = omega arith
 cond-whole false work = omega arith
 
 -- a page has no more work than its mark
-page-in-mark : (x j end work : ℕ) → mark_of x ≡ j → in_page x end work ≤ works j end work
+page-in-mark : (x j end work : ℕ) → mark_index x ≡ j → in_page x end work ≤ works j end work
 page-in-mark x j end work of =
-    elim (cases_eq (mark_of end) j) [
+    elim (cases_eq (mark_index end) j) [
       | inl own ↦ omega (arith, works-own j end work own, cond-whole (eqb (page_of end) (page_of x) && leb end x) work)
       | inr other ↦ omega (arith, in_page-other x end work (λ same. other (same ∙ of)))
     ]
 
-pub works_in_page-le : (x j : ℕ) (spans : List Span) → mark_of x ≡ j → works_in_page x spans ≤ works_at j spans
+pub works_in_page-le : (x j : ℕ) (spans : List Span) → mark_index x ≡ j → works_in_page x spans ≤ works_at j spans
 works_in_page-le x j spans of =
     sum_by-le-sum_by (λ (s : Span). in_page x s.end s.work) (λ (s : Span). works j s.end s.work) spans (λ s. page-in-mark x j s.end s.work of)
 
@@ -161,9 +161,9 @@ works_in_page-le x j spans of =
 record Agrees (j : ℕ) (rows new : List Span) : Type 0 where
   count : count_at j new ≡ count_at j rows
   works : works_at j new ≡ works_at j rows
-  pages : (x : ℕ) → mark_of x ≡ j → works_in_page x new ≡ works_in_page x rows
+  pages : (x : ℕ) → mark_index x ≡ j → works_in_page x new ≡ works_in_page x rows
 
-Agrees-Gains : {rows new : List Span} {end work : ℕ} (j : ℕ) → Gains rows new end work → (mark_of end ≡ j → ⊥) → Agrees j rows new
+Agrees-Gains : {rows new : List Span} {end work : ℕ} (j : ℕ) → Gains rows new end work → (mark_index end ≡ j → ⊥) → Agrees j rows new
 Agrees-Gains {end = end} {work = work} j h other =
     record {
       count = omega (arith, h.sums (counts j), counts-other j end work other);
@@ -171,7 +171,7 @@ Agrees-Gains {end = end} {work = work} j h other =
       pages = λ x of. omega (arith, h.sums (in_page x), in_page-other x end work (λ same. other (same ∙ of)));
     }
 
-Agrees-Moves : {rows new : List Span} {end work to : ℕ} (j : ℕ) → Moves rows new end work to → (mark_of end ≡ j → ⊥) → Agrees j rows new
+Agrees-Moves : {rows new : List Span} {end work to : ℕ} (j : ℕ) → Moves rows new end work to → (mark_index end ≡ j → ⊥) → Agrees j rows new
 Agrees-Moves {end = end} {work = work} {to = to} j h other =
     record {
       count = omega (arith, h.sums (counts j), counts-other j end work other, counts-other j end to other);
@@ -192,9 +192,9 @@ IsMarked-Agrees same h =
     }
 
 -- a span more
-IsMarked-gained : (time : ℕ) (rows new : List Span) (end work : ℕ) (mark : Mark) → Gains rows new end work → IsMarked time rows (mark_of end) mark → IsMarked time new (mark_of end) (with_end end work mark)
+IsMarked-gained : (time : ℕ) (rows new : List Span) (end work : ℕ) (mark : Mark) → Gains rows new end work → IsMarked time rows (mark_index end) mark → IsMarked time new (mark_index end) (with_end end work mark)
 IsMarked-gained time rows new end work mark gains h =
-    let j = mark_of end in
+    let j = mark_index end in
     let all : mark.works + work ≡ works_at j new = omega (arith, gains.sums (works j), works-own j end work refl, h.works) in
     record {
       count = omega (arith, gains.sums (counts j), counts-own j end work refl, h.count);
@@ -208,9 +208,9 @@ IsMarked-gained time rows new end work mark gains h =
     }
 
 -- a span less
-IsMarked-lost : (time : ℕ) (rows new : List Span) (end work : ℕ) (mark : Mark) → Gains new rows end work → IsMarked time rows (mark_of end) mark → IsMarked time new (mark_of end) (without_end work mark)
+IsMarked-lost : (time : ℕ) (rows new : List Span) (end work : ℕ) (mark : Mark) → Gains new rows end work → IsMarked time rows (mark_index end) mark → IsMarked time new (mark_index end) (without_end work mark)
 IsMarked-lost time rows new end work mark gains h =
-    let j = mark_of end in
+    let j = mark_index end in
     record {
       count = omega (arith, gains.sums (counts j), counts-own j end work refl, h.count);
       works = omega (arith, gains.sums (works j), works-own j end work refl, h.works);
@@ -218,9 +218,9 @@ IsMarked-lost time rows new end work mark gains h =
     }
 
 -- a span more, without work
-IsMarked-cut : (time : ℕ) (rows new : List Span) (at : ℕ) (mark : Mark) → Gains rows new at 0 → IsMarked time rows (mark_of at) mark → IsMarked time new (mark_of at) (with_cut mark)
+IsMarked-cut : (time : ℕ) (rows new : List Span) (at : ℕ) (mark : Mark) → Gains rows new at 0 → IsMarked time rows (mark_index at) mark → IsMarked time new (mark_index at) (with_cut mark)
 IsMarked-cut time rows new at mark gains h =
-    let j = mark_of at in
+    let j = mark_index at in
     record {
       count = omega (arith, gains.sums (counts j), counts-own j at 0 refl, h.count);
       works = omega (arith, gains.sums (works j), works-own j at 0 refl, h.works);
@@ -228,9 +228,9 @@ IsMarked-cut time rows new at mark gains h =
     }
 
 -- another work
-IsMarked-changed : (time : ℕ) (rows new : List Span) (end work : ℕ) (change : Change) (mark : Mark) → Moves rows new end work (changed_by change work) → MayChangeBy change work → IsMarked time rows (mark_of end) mark → IsMarked time new (mark_of end) (with_change change mark)
+IsMarked-changed : (time : ℕ) (rows new : List Span) (end work : ℕ) (change : Change) (mark : Mark) → Moves rows new end work (changed_by change work) → MayChangeBy change work → IsMarked time rows (mark_index end) mark → IsMarked time new (mark_index end) (with_change change mark)
 IsMarked-changed time rows new end work (More slots) mark moves may h =
-    let j = mark_of end in
+    let j = mark_index end in
     record {
       count = omega (arith, moves.sums (counts j), counts-own j end work refl, counts-own j end (work + slots) refl, h.count);
       works = omega (arith, moves.sums (works j), works-own j end work refl, works-own j end (work + slots) refl, h.works);
@@ -238,7 +238,7 @@ IsMarked-changed time rows new end work (More slots) mark moves may h =
           omega (arith, some, h.low (omega (arith, some)) x late of, moves.sums (in_page x), in_page-more x end work (work + slots) slots (omega arith));
     }
 IsMarked-changed time rows new end work (Fewer slots) mark moves may h =
-    let j = mark_of end in
+    let j = mark_index end in
     record {
       count = omega (arith, moves.sums (counts j), counts-own j end work refl, counts-own j end (work - slots) refl, h.count);
       works = omega (arith, may, moves.sums (works j), works-own j end work refl, works-own j end (work - slots) refl, h.works);
@@ -257,15 +257,15 @@ works-none j [] none = refl
 works-none j (s ∷ ss) none =
     let count = of_all-cons (counts j) s ss in
     let work = of_all-cons (works j) s ss in
-    elim (cases_eq (mark_of s.end) j) [
+    elim (cases_eq (mark_index s.end) j) [
       | inl own ↦ absurd (omega (arith, none, count, counts-own j s.end s.work own))
       | inr other ↦ omega (arith, none, count, work, counts-other j s.end s.work other, works-other j s.end s.work other, works-none j ss (omega (arith, none, count, counts-other j s.end s.work other)))
     ]
 
 -- the page of a time has passed
-IsMarked-passed : (time : ℕ) (rows : List Span) (mark : Mark) → (time + 1) % 128 ≡ 0 → IsMarked time rows (mark_of time) mark → IsMarked (time + 1) rows (mark_of time) (passed time mark)
+IsMarked-passed : (time : ℕ) (rows : List Span) (mark : Mark) → (time + 1) % 128 ≡ 0 → IsMarked time rows (mark_index time) mark → IsMarked (time + 1) rows (mark_index time) (passed time mark)
 IsMarked-passed time rows mark border h =
-    let j = mark_of time in
+    let j = mark_index time in
     cond_both (eqb mark.count 0) (record mark { low = (page_of time + 256) * 128 }) mark (IsMarked (time + 1) rows j)
     (λ t.
     let none : mark.count ≡ 0 = eqb-true mark.count 0 t in
@@ -279,8 +279,8 @@ IsMarked-passed time rows mark border h =
     (λ t. IsMarked-later (omega arith) h)
 
 -- no spans
-pub IsMarked-blank : (j : ℕ) → IsMarked 0 [] j (blank j)
-IsMarked-blank j = record { count = refl; works = refl; low = λ some x late of. omega (arith, of) }
+pub IsMarked-first_mark : (j : ℕ) → IsMarked 0 [] j (first_mark j)
+IsMarked-first_mark j = record { count = refl; works = refl; low = λ some x late of. omega (arith, of) }
 
 -- a mark that is put among the marks
 AreMarked-put : {time later : ℕ} {rows new : List Span} {marks : List Mark} (i : ℕ) (mark : Mark) → AreMarked time rows marks → i < 256 → ((j : ℕ) (m : Mark) → (i ≡ j → ⊥) → IsMarked time rows j m → IsMarked later new j m) → IsMarked later new i mark → AreMarked later new (set marks i mark)
@@ -305,33 +305,33 @@ AreMarked-put {later = later} {new = new} {marks = marks} i mark h within others
 pub IsMarked-at : {time : ℕ} {rows : List Span} {marks : List Mark} (i : ℕ) → AreMarked time rows marks → i < 256 → IsMarked time rows i (get_or marks i blank_mark)
 IsMarked-at {marks = marks} i h within = h.each i (get_or marks i blank_mark) (slice_get-get_or marks i blank_mark (omega (arith, within, h.length)))
 
-mark_of-within : (x : ℕ) → mark_of x < 256
-mark_of-within x = omega arith
+mark_index-within : (x : ℕ) → mark_index x < 256
+mark_index-within x = omega arith
 
-pub AreMarked-gained : (time : ℕ) (rows new : List Span) (marks : List Mark) (end work : ℕ) → Gains rows new end work → AreMarked time rows marks → AreMarked time new (set marks (mark_of end) (with_end end work (get_or marks (mark_of end) blank_mark)))
+pub AreMarked-gained : (time : ℕ) (rows new : List Span) (marks : List Mark) (end work : ℕ) → Gains rows new end work → AreMarked time rows marks → AreMarked time new (set marks (mark_index end) (with_end end work (get_or marks (mark_index end) blank_mark)))
 AreMarked-gained time rows new marks end work gains h =
-    let i = mark_of end in
-    AreMarked-put i _ h (mark_of-within end) (λ j m other. IsMarked-Agrees (Agrees-Gains j gains other)) (IsMarked-gained time rows new end work _ gains (IsMarked-at i h (mark_of-within end)))
+    let i = mark_index end in
+    AreMarked-put i _ h (mark_index-within end) (λ j m other. IsMarked-Agrees (Agrees-Gains j gains other)) (IsMarked-gained time rows new end work _ gains (IsMarked-at i h (mark_index-within end)))
 
-pub AreMarked-lost : (time : ℕ) (rows new : List Span) (marks : List Mark) (end work : ℕ) → Gains new rows end work → AreMarked time rows marks → AreMarked time new (set marks (mark_of end) (without_end work (get_or marks (mark_of end) blank_mark)))
+pub AreMarked-lost : (time : ℕ) (rows new : List Span) (marks : List Mark) (end work : ℕ) → Gains new rows end work → AreMarked time rows marks → AreMarked time new (set marks (mark_index end) (without_end work (get_or marks (mark_index end) blank_mark)))
 AreMarked-lost time rows new marks end work gains h =
-    let i = mark_of end in
-    AreMarked-put i _ h (mark_of-within end) (λ j m other. IsMarked-Agrees (Agrees-back (Agrees-Gains j gains other))) (IsMarked-lost time rows new end work _ gains (IsMarked-at i h (mark_of-within end)))
+    let i = mark_index end in
+    AreMarked-put i _ h (mark_index-within end) (λ j m other. IsMarked-Agrees (Agrees-back (Agrees-Gains j gains other))) (IsMarked-lost time rows new end work _ gains (IsMarked-at i h (mark_index-within end)))
 
-pub AreMarked-cut : (time : ℕ) (rows new : List Span) (marks : List Mark) (at : ℕ) → Gains rows new at 0 → AreMarked time rows marks → AreMarked time new (set marks (mark_of at) (with_cut (get_or marks (mark_of at) blank_mark)))
+pub AreMarked-cut : (time : ℕ) (rows new : List Span) (marks : List Mark) (at : ℕ) → Gains rows new at 0 → AreMarked time rows marks → AreMarked time new (set marks (mark_index at) (with_cut (get_or marks (mark_index at) blank_mark)))
 AreMarked-cut time rows new marks at gains h =
-    let i = mark_of at in
-    AreMarked-put i _ h (mark_of-within at) (λ j m other. IsMarked-Agrees (Agrees-Gains j gains other)) (IsMarked-cut time rows new at _ gains (IsMarked-at i h (mark_of-within at)))
+    let i = mark_index at in
+    AreMarked-put i _ h (mark_index-within at) (λ j m other. IsMarked-Agrees (Agrees-Gains j gains other)) (IsMarked-cut time rows new at _ gains (IsMarked-at i h (mark_index-within at)))
 
-pub AreMarked-changed : (time : ℕ) (rows new : List Span) (marks : List Mark) (end work : ℕ) (change : Change) → Moves rows new end work (changed_by change work) → MayChangeBy change work → AreMarked time rows marks → AreMarked time new (set marks (mark_of end) (with_change change (get_or marks (mark_of end) blank_mark)))
+pub AreMarked-changed : (time : ℕ) (rows new : List Span) (marks : List Mark) (end work : ℕ) (change : Change) → Moves rows new end work (changed_by change work) → MayChangeBy change work → AreMarked time rows marks → AreMarked time new (set marks (mark_index end) (with_change change (get_or marks (mark_index end) blank_mark)))
 AreMarked-changed time rows new marks end work change moves may h =
-    let i = mark_of end in
-    AreMarked-put i _ h (mark_of-within end) (λ j m other. IsMarked-Agrees (Agrees-Moves j moves other)) (IsMarked-changed time rows new end work change _ moves may (IsMarked-at i h (mark_of-within end)))
+    let i = mark_index end in
+    AreMarked-put i _ h (mark_index-within end) (λ j m other. IsMarked-Agrees (Agrees-Moves j moves other)) (IsMarked-changed time rows new end work change _ moves may (IsMarked-at i h (mark_index-within end)))
 
-pub AreMarked-passed : (time : ℕ) (rows : List Span) (marks : List Mark) → (time + 1) % 128 ≡ 0 → AreMarked time rows marks → AreMarked (time + 1) rows (set marks (mark_of time) (passed time (get_or marks (mark_of time) blank_mark)))
+pub AreMarked-passed : (time : ℕ) (rows : List Span) (marks : List Mark) → (time + 1) % 128 ≡ 0 → AreMarked time rows marks → AreMarked (time + 1) rows (set marks (mark_index time) (passed time (get_or marks (mark_index time) blank_mark)))
 AreMarked-passed time rows marks border h =
-    let i = mark_of time in
-    AreMarked-put i _ h (mark_of-within time) (λ j m other. IsMarked-later (omega arith)) (IsMarked-passed time rows _ border (IsMarked-at i h (mark_of-within time)))
+    let i = mark_index time in
+    AreMarked-put i _ h (mark_index-within time) (λ j m other. IsMarked-later (omega arith)) (IsMarked-passed time rows _ border (IsMarked-at i h (mark_index-within time)))
 
 pub AreMarked-later : {time later : ℕ} {rows : List Span} {marks : List Mark} → time ≤ later → AreMarked time rows marks → AreMarked later rows marks
 AreMarked-later after h = record { length = h.length; each = λ j m at. IsMarked-later after (h.each j m at) }
@@ -362,44 +362,44 @@ AreLight-push (r ∷ rs) s light few = (light.0, AreLight-push rs s light.1 few)
 works_at-le : (j : ℕ) (rows : List Span) → AreLight rows → works_at j rows ≤ length rows * 2 ^ 40
 works_at-le j [] light = omega arith
 works_at-le j (s ∷ ss) light =
-    omega (arith, of_all-cons (works j) s ss, cond-whole (eqb (mark_of s.end) j) s.work, light.0, works_at-le j ss light.1)
+    omega (arith, of_all-cons (works j) s ss, cond-whole (eqb (mark_index s.end) j) s.work, light.0, works_at-le j ss light.1)
 
-pub few_counts : {time : ℕ} {rows : List Span} {marks : List Mark} (x : ℕ) → AreMarked time rows marks → length rows ≤ 2 ^ 20 → IfSome (slice_get marks (mark_of x)) (λ (m : Mark). m.count ≤ 2 ^ 20)
+pub few_counts : {time : ℕ} {rows : List Span} {marks : List Mark} (x : ℕ) → AreMarked time rows marks → length rows ≤ 2 ^ 20 → IfSome (slice_get marks (mark_index x)) (λ (m : Mark). m.count ≤ 2 ^ 20)
 few_counts {rows = rows} {marks = marks} x h few =
-    let i = mark_of x in
-    let own = IsMarked-at i h (mark_of-within x) in
-    let count : (get_or marks i blank_mark).count ≤ 2 ^ 20 = omega (arith, own.count, few, count_by-le-length (λ (s : Span). eqb (mark_of s.end) i) rows) in
-    rw (slice_get-get_or marks i blank_mark (omega (arith, h.length, mark_of-within x))) count
+    let i = mark_index x in
+    let own = IsMarked-at i h (mark_index-within x) in
+    let count : (get_or marks i blank_mark).count ≤ 2 ^ 20 = omega (arith, own.count, few, count_by-le-length (λ (s : Span). eqb (mark_index s.end) i) rows) in
+    rw (slice_get-get_or marks i blank_mark (omega (arith, h.length, mark_index-within x))) count
 
-pub few_works : {time : ℕ} {rows : List Span} {marks : List Mark} (x : ℕ) → AreMarked time rows marks → AreLight rows → length rows ≤ 2 ^ 20 → IfSome (slice_get marks (mark_of x)) (λ (m : Mark). m.works ≤ 2 ^ 60)
+pub few_works : {time : ℕ} {rows : List Span} {marks : List Mark} (x : ℕ) → AreMarked time rows marks → AreLight rows → length rows ≤ 2 ^ 20 → IfSome (slice_get marks (mark_index x)) (λ (m : Mark). m.works ≤ 2 ^ 60)
 few_works {rows = rows} {marks = marks} x h light few =
-    let i = mark_of x in
-    let own = IsMarked-at i h (mark_of-within x) in
+    let i = mark_index x in
+    let own = IsMarked-at i h (mark_index-within x) in
     let work : (get_or marks i blank_mark).works ≤ 2 ^ 60 = omega (arith, own.works, few, works_at-le i rows light) in
-    rw (slice_get-get_or marks i blank_mark (omega (arith, h.length, mark_of-within x))) work
+    rw (slice_get-get_or marks i blank_mark (omega (arith, h.length, mark_index-within x))) work
 
--- marks of which so many are blank
-pub record AreBlank (marks : List Mark) (n : ℕ) : Type 0 where
+-- marks of which so many are first_mark
+pub record AreFirst (marks : List Mark) (n : ℕ) : Type 0 where
   pub length : length marks ≡ 256
-  pub each : (j : ℕ) → j < n → get_or marks j blank_mark ≡ blank j
+  pub each : (j : ℕ) → j < n → get_or marks j blank_mark ≡ first_mark j
 
-pub AreBlank-next : (marks : List Mark) (n : ℕ) (mark : Mark) → mark ≡ blank n → n < 256 → AreBlank marks n → AreBlank (set marks n mark) (n + 1)
-AreBlank-next marks n mark is within h =
+pub AreFirst-next : (marks : List Mark) (n : ℕ) (mark : Mark) → mark ≡ first_mark n → n < 256 → AreFirst marks n → AreFirst (set marks n mark) (n + 1)
+AreFirst-next marks n mark is within h =
     record {
       length = length-set marks n mark ∙ h.length;
       each = λ j low.
           elim (cases_eq j n) [
-            | inl here ↦ get_or-set_at marks n j mark blank_mark here (omega (arith, within, h.length)) ∙ is ∙ ap blank (sym here)
+            | inl here ↦ get_or-set_at marks n j mark blank_mark here (omega (arith, within, h.length)) ∙ is ∙ ap first_mark (sym here)
             | inr other ↦ get_or-set_other marks n j mark blank_mark other ∙ h.each j (omega (arith, low, other))
           ];
     }
 
-pub AreMarked-blank : (marks : List Mark) (n : ℕ) → 256 ≤ n → AreBlank marks n → AreMarked 0 [] marks
-AreMarked-blank marks n all h =
+pub AreMarked-AreFirst : (marks : List Mark) (n : ℕ) → 256 ≤ n → AreFirst marks n → AreMarked 0 [] marks
+AreMarked-AreFirst marks n all h =
     record {
       length = h.length;
       each = λ j mark at.
           let low : j < n = omega (arith, slice_get_within marks j mark at, h.length, all) in
-          let is : blank j ≡ mark = sym (h.each j low) ∙ get_or_from_slice_get marks j mark blank_mark at in
-          subst (IsMarked 0 [] j) is (IsMarked-blank j);
+          let is : first_mark j ≡ mark = sym (h.each j low) ∙ get_or_from_slice_get marks j mark blank_mark at in
+          subst (IsMarked 0 [] j) is (IsMarked-first_mark j);
     }

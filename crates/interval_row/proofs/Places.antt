@@ -1,6 +1,8 @@
 -- The place of the first row that ends at x or later.
-use Rattle.std.proofs.Common.{◌≡◌, ℕ, zero, suc, ◌<◌, ◌≤◌, ◌^◌, true, false, List, [], ◌∷◌, length, get_or, Option, Some, None, IsSome, IsSomeAnd, eqb, inl, inr, refl, ap, arith}
+use Rattle.std.proofs.Common.{◌≡◌, ℕ, zero, suc, ◌<◌, ◌≤◌, ◌^◌, true, false, List, [], ◌∷◌, length, get_or, Option, Some, None, IsSome, IsSomeAnd, eqb, inl, inr, refl, ap, subst, sym, arith}
 use Rattle.std.proofs.lemmas.Bool.{false≢true, cases_eq, eq-eqb, ne_eqb, lt-ltb, le-ltb}
+use Rattle.std.proofs.lemmas.Option.{get_or_from_slice_get, slice_get_within}
+use Rattle.std.specs.Prelude.{slice_get}
 use Rattle.slot_core.specs.declared.jobs.Span.{Span}
 use Rattle.spare_capacity.specs.PlanSpans.{AreProper}
 use Rattle.spare_capacity.specs.Recurrence.{FollowOn, last_end}
@@ -80,3 +82,17 @@ pub ends-span_ending : (start : ℕ) (rows : List Span) (x : ℕ) → FollowOn s
 ends-span_ending start rows x h found =
     let due : IsDueAt x (λ s. Unit {0}) rows (place_of x rows) = IsDueAt-span_ending start rows x (λ s. Unit {0}) h (IsSomeAnd-IsSome (span_ending x rows) found) in
     due.ends
+
+-- and the span at a place is the one that ends at its end
+found-at : (start : ℕ) (rows : List Span) (k : ℕ) (P : Span → Type 0) → FollowOn start rows → AreProper rows → k < length rows → P (get_or rows k no_row) → IsSomeAnd (span_ending (get_or rows k no_row).end rows) P
+found-at start [] k P h proper l holds = elim l [ ]
+found-at start (s ∷ ss) zero P h proper l holds = rw (eq-eqb s.end s.end refl) holds
+found-at start (s ∷ ss) (suc k) P h proper l holds =
+    let later : s.end < (get_or ss k no_row).end = end-lt s.end ss k h.4 proper.1 (omega arith) in
+    let other : s.end ≡ (get_or ss k no_row).end → ⊥ = λ e. omega (arith, e, later) in
+    rw (ne_eqb s.end (get_or ss k no_row).end other) (found-at s.end ss k P h.4 proper.1 (omega arith) holds)
+
+pub span_ending-at : (start : ℕ) (rows : List Span) (k : ℕ) (s : Span) (P : Span → Type 0) → FollowOn start rows → AreProper rows → slice_get rows k ≡ Some s → P s → IsSomeAnd (span_ending s.end rows) P
+span_ending-at start rows k s P h proper at holds =
+    let same : get_or rows k no_row ≡ s = get_or_from_slice_get rows k s no_row at in
+    subst (λ (x : Span). IsSomeAnd (span_ending x.end rows) P) same (found-at start rows k P h proper (slice_get_within rows k s at) (subst P (sym same) holds))

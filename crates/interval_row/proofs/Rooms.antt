@@ -5,10 +5,10 @@ use Rattle.spare_capacity.specs.Recurrence.{filled, first_start, last_end}
 use Rattle.spare_capacity.specs.PlanSpans.{ArePlanSpans}
 use Rattle.spare_capacity.proofs.Steps.{no_row}
 use Rattle.interval_row.specs.Changes.{after_pass, appended, copies_of, cut, shifted, span_ending, with_work}
-use Rattle.interval_row.specs.Rows.{place_of, with_work_at}
+use Rattle.interval_row.specs.Rows.{place_of, with_work_at, AreRows}
 use Rattle.node_chain.specs.declared.marks.Mark.{Mark}
-use Rattle.interval_row.specs.Marks.{AreMarked, AreTimed}
-use Rattle.interval_row.specs.Stores.{AreKept, AreKeptMarked, Stored}
+use Rattle.interval_row.specs.Marks.{AreMarked}
+use Rattle.interval_row.specs.Stores.{AreKeptMarked, Stored}
 use Rattle.interval_row.specs.Tables.{numbered, spans_of_pairs, IsTable}
 use Rattle.interval_row.specs.declared.spans.Change.{Change}
 use Rattle.interval_row.specs.Works.{changed_by, MayChangeBy}
@@ -20,6 +20,16 @@ use Rattle.interval_row.proofs.Kept.{AreBare, AreRows-AreBare, AreRows-AreCopies
 use Rattle.interval_row.proofs.Places.{work-le, IsDueAt-span_ending}
 use Rattle.interval_row.proofs.Works.{changed_by-le, first_start-with_work_at, length-with_work_at}
 use Rattle.interval_row.proofs.Spots.{length-numbered, spans_of_pairs-numbered, IsTable-AreRows}
+
+-- the spans of a table in a room of at most 2 ^ 20 without their marks: rows, with their first start
+-- and their last end of at most 2 ^ 60
+pub record AreKept (spans : List Span) (room time end : ℕ) : Type 0 where
+  pub rows : AreRows spans
+  pub few : length spans ≤ room
+  pub small : room ≤ 2 ^ 20
+  pub starts : time ≡ first_start spans
+  pub ends : end ≡ last_end 0 spans
+  pub near : end ≤ 2 ^ 60
 
 pub IsTable-AreKept : (rows : List Span) (room time end : ℕ) → AreKept rows room time end → IsTable (first_start rows) (numbered 0 rows) room
 IsTable-AreKept rows room time end h = IsTable-AreRows rows room h.rows h.few h.small
@@ -107,11 +117,27 @@ AreKept-copies_of spans copies room plan some fits small =
       near = omega (arith, last_end-le 0 rows made.consecutive, made.count, fits, small);
     }
 
--- kept rows and their marks, as searches take them
-pub AreTimed-AreKept : {rows : List Span} {room : ℕ} {marks : List Mark} {time end : ℕ} → AreKeptMarked rows room marks time end → AreTimed time end rows marks
-AreTimed-AreKept h =
-    record { rows = h.kept.rows; starts = h.kept.starts; ends = h.kept.ends; near = h.kept.near; marked = h.marked }
+-- kept rows without their marks
+pub kept_of : {rows : List Span} {room : ℕ} {marks : List Mark} {time end : ℕ} → AreKeptMarked rows room marks time end → AreKept rows room time end
+kept_of h =
+    record {
+      rows = h.timed.rows;
+      few = h.few;
+      small = h.small;
+      starts = h.timed.starts;
+      ends = h.timed.ends;
+      near = h.timed.near;
+    }
+
+-- and with marks
+pub marked_of : {rows : List Span} {room : ℕ} {marks : List Mark} {time end : ℕ} → AreKept rows room time end → AreMarked time rows marks → AreKeptMarked rows room marks time end
+marked_of h marked =
+    record {
+      timed = record { rows = h.rows; starts = h.starts; ends = h.ends; near = h.near; marked = marked };
+      few = h.few;
+      small = h.small;
+    }
 
 -- the marks are those from the first start on
 pub marked-start : {rows : List Span} {room : ℕ} {marks : List Mark} {time end : ℕ} → AreKeptMarked rows room marks time end → AreMarked (first_start rows) rows marks
-marked-start {rows = rows} {marks = marks} h = subst (λ n. AreMarked n rows marks) h.kept.starts h.marked
+marked-start {rows = rows} {marks = marks} h = subst (λ n. AreMarked n rows marks) h.timed.starts h.timed.marked

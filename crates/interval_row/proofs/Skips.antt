@@ -10,7 +10,7 @@ use Rattle.spare_capacity.specs.Recurrence.{FollowOn, last_end}
 use Rattle.interval_row.specs.declared.table.Front.{Front}
 use Rattle.node_chain.specs.declared.marks.Mark.{Mark}
 use Rattle.interval_row.specs.Changes.{ends_before}
-use Rattle.interval_row.specs.Marks.{mark_of, works_in_page, IsMarked}
+use Rattle.interval_row.specs.Marks.{mark_index, works_in_page, IsMarked}
 use Rattle.interval_row.specs.Tables.{works, IsFront}
 use Rattle.interval_row.proofs.CutTimes.{ends_before-inside, ends_before-within, rises-at, start-at, work_until-last, work_until-next, work_until-page, works_before, works_before-first, ComesNext-at, IsBefore, IsBefore-page, IsFront-IsBefore, IsInLap}
 
@@ -65,7 +65,7 @@ ArePassed-next {time = time} {rows = rows} {front = front} {now = now} {place = 
             | inl early ↦ passed.room x low early
             | inr inside ↦
                 let here : x / 128 ≡ page = omega (arith, inside, high) in
-                let own : mark_of x ≡ page % 256 = ap (λ n. n % 256) here in
+                let own : mark_index x ≡ page % 256 = ap (λ n. n % 256) here in
                 let told = marked.low (omega (arith, some, enough)) x (omega (arith, late h, h.border, low)) own in
                 let due : work_until rows x ≡ works_before (page * 128) rows + works_in_page x rows = work_until-page x rows ∙ ap (λ n. works_before (n * 128) rows + works_in_page x rows) here in
                 omega (arith, told, due, passed.before.works, enough)

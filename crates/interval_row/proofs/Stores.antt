@@ -1,5 +1,5 @@
 -- The spans of a chain after a change of its pairs.
-use Rattle.std.proofs.Common.{◌≡◌, ℕ, zero, suc, List, [], ◌∷◌, set, insert, refl, ap}
+use Rattle.std.proofs.Common.{◌≡◌, ℕ, zero, suc, List, [], ◌∷◌, set, insert, map, refl, ap}
 use Rattle.std.proofs.lemmas.List.{map-set}
 use Rattle.slot_core.specs.declared.jobs.Span.{Span}
 use Rattle.node_chain.specs.declared.chain.NodeId.{NodeId}
@@ -9,9 +9,9 @@ use Rattle.interval_row.specs.Stores.{spans_of}
 pub spans_of-set : (ps : List (NodeId × Span)) (i : ℕ) (p : NodeId × Span) → spans_of (set ps i p) ≡ set (spans_of ps) i p.1
 spans_of-set ps i p = map-set (λ (q : NodeId × Span). q.1) ps i p
 
--- a pair that is put in
-pub spans_of-insert : (ps : List (NodeId × Span)) (i : ℕ) (p : NodeId × Span) → spans_of (insert ps i p) ≡ insert (spans_of ps) i p.1
-spans_of-insert [] zero p = refl
-spans_of-insert [] (suc i) p = refl
-spans_of-insert (q ∷ ps) zero p = refl
-spans_of-insert (q ∷ ps) (suc i) p = ap (λ xs. q.1 ∷ xs) (spans_of-insert ps i p)
+-- an item that is put in, under a function of each
+pub map-insert : {X Y : Type 0} (f : X → Y) (xs : List X) (i : ℕ) (x : X) → map f (insert xs i x) ≡ insert (map f xs) i (f x)
+map-insert f [] zero x = refl
+map-insert f [] (suc i) x = refl
+map-insert f (y ∷ xs) zero x = refl
+map-insert f (y ∷ xs) (suc i) x = ap (λ ys. f y ∷ ys) (map-insert f xs i x)

@@ -1,5 +1,5 @@
 -- The capacities of rows whose spans are set one by one.
-use Rattle.std.proofs.Common.{◌≡◌, ℕ, zero, suc, ◌+◌, ◌-◌, ◌*◌, ◌<◌, ◌≤◌, ◌^◌, ℤ, pos, neg_ℤ, ◌+ℤ◌, ◌-ℤ◌, ◌≤ℤ◌, List, [], ◌∷◌, ◌++◌, length, get_or, set, insert, take, take-suc, drop, add-one, ltb, cond, inl, inr, refl, sym, ◌∙◌, ap, arith, FitsSigned, w64}
+use Rattle.std.proofs.Common.{◌≡◌, ℕ, zero, suc, ◌+◌, ◌-◌, ◌*◌, ◌<◌, ◌≤◌, ◌^◌, ℤ, pos, neg_ℤ, ◌+ℤ◌, ◌-ℤ◌, ◌≤ℤ◌, List, [], ◌∷◌, ◌++◌, length, get_or, set, insert, take, take-suc, drop, add-one, ltb, cond, inl, inr, refl, sym, subst, ◌∙◌, ap, arith}
 use Rattle.std.proofs.lemmas.Bool.{lt-ltb, le-ltb, ne_eqb, cases_lt}
 use Rattle.std.proofs.lemmas.Int.{ints, clamps}
 use Rattle.std.proofs.lemmas.List.{append_assoc, drop-set, drop_more, set_split, take-append-drop, take-set}
@@ -17,11 +17,11 @@ use Rattle.interval_row.specs.Changes.{after_pass, ends_before, part_before, par
 use Rattle.interval_row.specs.Rows.{place_of, with_work_at, AreRows, HoldsInside}
 use Rattle.interval_row.specs.declared.spans.Change.{Change}
 use Rattle.interval_row.specs.declared.spans.Change.TheVariants.{More, Fewer}
+use Rattle.interval_row.specs.Walks.{walked}
 use Rattle.interval_row.specs.Works.{changed_by, spare_by, MayChangeBy}
 use Rattle.interval_row.proofs.Cuts.{halved, LendsSame-halved}
-use Rattle.interval_row.proofs.Fillings.{filled-first, length-filled, with_spare-LendsSame, LendsSame}
-use Rattle.interval_row.proofs.Kept.{AreBare-with_work_at, AreRows-AreBare}
-use Rattle.interval_row.proofs.Works.{length-with_work_at, set-with_work_at}
+use Rattle.interval_row.proofs.Fillings.{filled-first, with_spare-LendsSame, LendsSame}
+use Rattle.interval_row.proofs.Works.{set-with_work_at}
 
 -- the walk from the front stays before the place that it looks for
 pub place_of-next : (x : ℕ) (rows : List Span) (k : ℕ) → k ≤ place_of x rows → k < length rows → (get_or rows k no_row).end < x → k + 1 ≤ place_of x rows
@@ -135,10 +135,6 @@ with_spare-changed rows k change row e l is may =
     let own : row ≡ with_spare row (first_spare (drop (k + 1) rows)) = rw is (own_spare_after rows k e l) in
     ap (λ z. record row { work = changed_by change row.work; spare = z }) (changed_spare row (first_spare (drop (k + 1) rows)) change own may)
 
--- the rows, where those before a place follow what the last of them is repaid
-abbrev pub walked : ℤ → ℕ → List Span → List Span
-walked more k rows = moved more (take k rows) ++ drop k rows
-
 -- a row is put in the place of one, with another work and its capacity: the rows before it follow
 pub walked-put : (rows : List Span) (k : ℕ) (was row : Span) → AreRows rows → k < length rows → was ≡ get_or rows k no_row → row ≡ with_spare (record was { work = row.work }) (first_spare (drop (k + 1) rows)) → walked (repaid was.spare row.spare) k (set rows k row) ≡ filled (with_work_at k row.work rows)
 walked-put rows k was row h l is put =
@@ -164,7 +160,7 @@ walked-next rows k more l =
 pub walked-end : (rows : List Span) (k : ℕ) → walked (pos 0) k rows ≡ rows
 walked-end rows k = ap (λ xs. xs ++ drop k rows) (moved-zero (take k rows)) ∙ take-append-drop k rows
 
-length-walked : (more : ℤ) (k : ℕ) (rows : List Span) → length (walked more k rows) ≡ length rows
+pub length-walked : (more : ℤ) (k : ℕ) (rows : List Span) → length (walked more k rows) ≡ length rows
 length-walked more zero rows = refl
 length-walked more (suc k) [] = refl
 length-walked more (suc k) (s ∷ ss) = ap suc (length-walked more k ss)
@@ -174,20 +170,11 @@ walked-last more k [] l = elim l [ ]
 walked-last more zero (s ∷ ss) l = refl
 walked-last more (suc k) (s ∷ ss) l = walked-last more k ss (omega arith)
 
--- the row at a place can be raised
-pub record CanRaise (now : List Span) (k : ℕ) (more : ℤ) : Type 0 where
-  pub within : k < length now
-  pub fits : FitsSigned w64 ((get_or now k no_row).spare +ℤ more)
-
 -- where the walk is to pass it, since it becomes one of rows
-pub CanRaise-walked : (rows now : List Span) (place work k : ℕ) (more : ℤ) → AreRows rows → work ≤ 2 ^ 40 → k < length rows → walked more (suc k) now ≡ filled (with_work_at place work rows) → CanRaise now k more
-CanRaise-walked rows now place work k more h few l e =
-    let are = AreRows-AreBare (with_work_at place work rows) (AreBare-with_work_at place work rows few h) in
-    let high : k < length (filled (with_work_at place work rows)) = omega (arith, l, length-filled (with_work_at place work rows), length-with_work_at place work rows) in
-    let within : k < length now = omega (arith, ap length e, length-walked more (suc k) now) in
-    let near = IsWithin-spare _ _ k are.consecutive are.filled are.few high in
-    let made = ap (λ xs. (get_or xs k no_row).spare) (sym e) ∙ ap (λ (s : Span). s.spare) (walked-last more k now within) in
-    record { within = within; fits = omega (arith, ints, near.low, near.high, made) }
+pub IsWithin-raised : (rows : List Span) (k : ℕ) (more : ℤ) → k < length rows → AreRows (walked more (suc k) rows) → IsWithin ((get_or rows k no_row).spare +ℤ more)
+IsWithin-raised rows k more l are =
+    let near = IsWithin-spare _ _ k are.consecutive are.filled are.few (omega (arith, l, length-walked more (suc k) rows)) in
+    subst (λ (s : Span). IsWithin s.spare) (walked-last more k rows l) near
 
 second_spare : (s : Span) (m : ℤ) (x : ℕ) → s ≡ with_spare s m → s.start < x → x < s.end → s.spare -ℤ pos (x - s.start) ≡ (with_spare (part_from x s) m).spare
 second_spare s m x e low high =

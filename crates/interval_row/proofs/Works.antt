@@ -1,7 +1,7 @@
 -- A new work of one row.
 use Rattle.std.proofs.Common.{◌≡◌, ℕ, zero, suc, ◌<◌, ◌≤◌, ◌^◌, List, [], ◌∷◌, length, get_or, set, refl, ap, arith}
 use Rattle.slot_core.specs.declared.jobs.Span.{Span}
-use Rattle.spare_capacity.specs.Recurrence.{FollowOn, first_start}
+use Rattle.spare_capacity.specs.Recurrence.{FollowOn, first_start, last_end}
 use Rattle.spare_capacity.proofs.Steps.{no_row}
 use Rattle.spare_capacity.specs.PlanSpans.{AreProper}
 use Rattle.interval_row.specs.Rows.{with_work_at}
@@ -39,3 +39,8 @@ AreProper-with_work_at (suc place) work (s ∷ ss) h = (h.0, AreProper-with_work
 pub changed_by-le : (change : Change) (work : ℕ) → work ≤ 2 ^ 40 → MayChangeBy change work → changed_by change work ≤ 2 ^ 40
 changed_by-le (More slots) work few may = may
 changed_by-le (Fewer slots) work few may = omega arith
+
+pub last_end-with_work_at : (place work start : ℕ) (rows : List Span) → last_end start (with_work_at place work rows) ≡ last_end start rows
+last_end-with_work_at place work start [] = refl
+last_end-with_work_at zero work start (s ∷ ss) = refl
+last_end-with_work_at (suc place) work start (s ∷ ss) = last_end-with_work_at place work s.end ss

@@ -1,11 +1,15 @@
 -- Worked calls: each holds by computing the definitions.
 use Rattle.std.specs.Prelude.{◌≡◌, pos, negsuc, List, [], ◌∷◌, drop, take, refl}
+use Rattle.std.specs.Int.{int_wrap}
 use Rattle.slot_core.specs.declared.jobs.Span.{Span}
 use Rattle.spare_capacity.specs.Recurrence.{filled}
 use Rattle.spare_capacity.specs.Examples.{span}
+use Rattle.node_chain.specs.Laps.{blank_lift}
 use Rattle.interval_row.specs.Changes.{after_pass, cut, with_less, with_more}
-use Rattle.interval_row.specs.Marks.{blank, count_at, mark_of, passed, with_change, with_cut, with_end, without_end, works_at, works_in_page}
+use Rattle.interval_row.specs.Lifts.{lifted, lifted_by, lowered_by, raised_at, raised_lift}
+use Rattle.interval_row.specs.Marks.{first_mark, count_at, mark_index, passed, with_change, with_cut, with_end, without_end, works_at, works_in_page}
 use Rattle.interval_row.specs.Tables.{works}
+use Rattle.interval_row.specs.Walks.{after_walk}
 use Rattle.interval_row.specs.declared.spans.Change.TheVariants.{More}
 
 -- three cycles of a set in which every second span lacks two slots
@@ -51,14 +55,31 @@ pub after_run :
     ≡ span 0 4 1 (pos 2) ∷ span 4 10 7 (negsuc 0) ∷ drop 2 borrowing
 after_run = refl
 
--- spans that end in two pages of one mark, a lap of 256 pages apart, and one between
+-- how that goes back: the span that ran is as it will be, and the one before it is repaid a slot
+pub walk_of_run :
+    after_walk
+    (record { index = 1; more = pos 1 })
+    (span 0 4 1 (pos 1) ∷ span 4 10 7 (negsuc 0) ∷ drop 2 borrowing)
+    ≡ filled (with_less 10 1 borrowing)
+walk_of_run = refl
+
+-- spans of which the last has run, and the two before it, of another page, have nothing to give
+abbrev pub lacking : List Span
+lacking = span 0 60 63 (negsuc 7) ∷ span 60 100 42 (negsuc 4) ∷ span 100 140 42 (negsuc 1) ∷ []
+
+-- both follow as one
+pub walk_by_page :
+    after_walk (record { index = 2; more = pos 1 }) lacking ≡ raised_at 0 (pos 1) lacking
+walk_by_page = refl
+
+-- spans that end in two pages of one mark, a lap apart, and one between
 abbrev pub far : List Span
 far = span 0 100 7 (pos 93) ∷ span 100 150 9 (pos 41) ∷ span 150 32800 5 (pos 32645) ∷ []
 
-pub far_marks : mark_of 100 ∷ mark_of 150 ∷ mark_of 32800 ∷ [] ≡ 0 ∷ 1 ∷ 0 ∷ []
+pub far_marks : mark_index 100 ∷ mark_index 150 ∷ mark_index 32800 ∷ [] ≡ 0 ∷ 1 ∷ 0 ∷ []
 far_marks = refl
 
--- so two spans have mark 0, with twelve slots of work, of which five are in the later page
+-- so two spans have the mark at 0, with twelve slots of work, of which five are in the later page
 pub far_count : count_at 0 far ≡ 2
 far_count = refl
 
@@ -68,12 +89,32 @@ far_works = refl
 pub far_page : works_in_page 32800 far ≡ 5
 far_page = refl
 
--- marks that follow spans: two that end at 100 and 120, a slot more, a cut, one that has passed
+-- a mark that follows spans: two that end at 484 and 504, a slot more, a cut, the first has passed
 pub marks_followed :
-    without_end 7 (with_cut (with_change (More 1) (with_end 120 9 (with_end 100 7 (blank 3)))))
-    ≡ record { count = 2; works = 10; low = 92 }
+    without_end
+    120
+    (with_cut (with_change (More 1) (with_end 504 9 (with_end 484 120 (first_mark 3)))))
+    ≡ record { count = 2; works = 10; low = 363 }
 marks_followed = refl
 
 -- an empty page that has passed is the one a lap later
-pub mark_passed : passed 127 (blank 0) ≡ record { count = 0; works = 0; low = 32768 }
+pub mark_passed : passed 127 (first_mark 0) ≡ record { count = 0; works = 0; low = 32768 }
 mark_passed = refl
+
+-- a slot less for the spans that end in the pages of the mark at 0
+abbrev pub far_less : List Span
+far_less = span 0 100 7 (pos 92) ∷ span 100 150 9 (pos 41) ∷ span 150 32800 5 (pos 32644) ∷ []
+
+pub far_raised : raised_at 0 (negsuc 0) far ≡ far_less
+far_raised = refl
+
+-- by the lift alone, where the shelf keeps the spans as they were
+pub far_lifted : lifted (raised_lift (negsuc 0) blank_lift ∷ []) far ≡ far_less
+unfolding int_wrap
+far_lifted = refl
+
+-- what is kept of a span under a lift, and read again
+pub lowered_lifted :
+    lifted_by (negsuc 0) (lowered_by (negsuc 0) (span 0 4 1 (pos 3))) ≡ span 0 4 1 (pos 3)
+unfolding int_wrap
+lowered_lifted = refl

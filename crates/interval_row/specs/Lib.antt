@@ -1,7 +1,9 @@
 pub mod Changes
 pub mod Examples
+pub mod Lifts
 pub mod Marks
 pub mod Rows
 pub mod Stores
 pub mod Tables
+pub mod Walks
 pub mod Works

@@ -1,12 +1,11 @@
 -- What a table keeps its spans in.
-use Rattle.std.specs.Prelude.{◌≡◌, ℕ, ◌≤◌, ◌^◌, List, length, map}
+use Rattle.std.specs.Prelude.{ℕ, ◌≤◌, ◌^◌, List, length, map}
 use Rattle.slot_core.specs.declared.jobs.Span.{Span}
-use Rattle.spare_capacity.specs.Recurrence.{first_start, last_end}
 use Rattle.node_chain.specs.declared.chain.NodeId.{NodeId}
 use Rattle.node_chain.specs.declared.marks.Mark.{Mark}
+use Rattle.node_chain.specs.Laps.{Laps}
 use Rattle.node_chain.specs.Orders.{OrderParts}
-use Rattle.interval_row.specs.Marks.{AreMarked}
-use Rattle.interval_row.specs.Rows.{AreRows}
+use Rattle.interval_row.specs.Marks.{AreTimed}
 
 -- the spans of a chain without their ids
 abbrev pub spans_of : List (NodeId × Span) → List Span
@@ -17,8 +16,14 @@ pub record Stored : Type 0 where
   pub spans : List Span
   pub room : ℕ
 
--- what contracts see of a plain list: the spans, how many there is room for, and the marks
+-- what contracts see of a plain list: the spans, how many there is room for, and the laps
 pub record Listed : Type 0 where
+  pub spans : List Span
+  pub room : ℕ
+  pub laps : Laps
+
+-- what contracts see of a store: the spans, how many there is room for, and the marks
+pub record StoreParts : Type 0 where
   pub spans : List Span
   pub room : ℕ
   pub marks : List Mark
@@ -29,18 +34,10 @@ pub record FitRoom (row : OrderParts Span) (room : ℕ) : Type 0 where
   pub small : room ≤ 2 ^ 20
   pub fits : room ≤ row.places
 
--- the spans of a table in a room of at most 2 ^ 20: rows, with their first start and their last end
--- of at most 2 ^ 60
-pub record AreKept (spans : List Span) (room time end : ℕ) : Type 0 where
-  pub rows : AreRows spans
-  pub few : length spans ≤ room
-  pub small : room ≤ 2 ^ 20
-  pub starts : time ≡ first_start spans
-  pub ends : end ≡ last_end 0 spans
-  pub near : end ≤ 2 ^ 60
-
--- kept spans, and their marks
+-- the spans of a table with their first start, their last end and their marks, no more than there
+-- is room for, at most 2 ^ 20
 pub record AreKeptMarked (spans : List Span) (room : ℕ) (marks : List Mark) (time end : ℕ) :
     Type 0 where
-  pub kept : AreKept spans room time end
-  pub marked : AreMarked time spans marks
+  pub timed : AreTimed time end spans marks
+  pub few : length spans ≤ room
+  pub small : room ≤ 2 ^ 20

@@ -66,7 +66,7 @@ pub(crate) fn change_work<S: Store, L: Ledger>(
 {
     let place = find_hinted(store, times, hint, deadline, steps);
     let row = spans::changed(place.row, change);
-    set_work(store, place, row, steps);
+    set_work(store, times, place, row, steps);
     marks::change_span(store, place.row.end, change);
     place.index
 }

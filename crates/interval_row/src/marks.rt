@@ -2,7 +2,8 @@
 
 ghost use Rattle.std.specs.Prelude.{◌≡◌, ◌+◌, ◌%◌, ◌≤◌, ◌<◌, ◌^◌, List, [], length, IfSome, Some, slice_get, slice_set};
 ghost use Rattle.slot_core.specs.declared.jobs.Span.{Span};
-ghost use Rattle.interval_row.specs.Marks.{mark_of, passed, with_change, with_cut, with_end, without_end, AreMarked};
+ghost use Rattle.node_chain.specs.declared.marks.TheConstants.{LAP};
+ghost use Rattle.interval_row.specs.Marks.{mark_index, passed, with_change, with_cut, with_end, without_end, AreMarked};
 
 use crate::spans::Change;
 use crate::store::Store;
@@ -12,24 +13,31 @@ use slot_core::Span;
 /// How many slots a page has.
 pub const PAGE: u64 = 128;
 
-/// The mark of a time.
-pub(crate) fn mark_of(x: u64) -> u32
-    ensures { result ≡ mark_of x }
+/// The index of the mark of a time.
+pub(crate) fn mark_index(x: u64) -> u32
+    ensures { result ≡ mark_index x }
 {
     (x / PAGE % u64::from(LAP)) as u32
 }
 
-/// The mark of a page.
-pub(crate) fn mark_at<S: Store>(store: &S, page: u64) -> Mark
-    requires { length (S.marks store.now) ≡ 256 }
-    ensures { slice_get (S.marks store.now) (page % 256) ≡ Some result }
+/// The index of the mark of a page.
+pub(crate) fn index_of_page(page: u64) -> u32
+    ensures { result ≡ page % LAP }
 {
-    store.mark((page % u64::from(LAP)) as u32)
+    (page % u64::from(LAP)) as u32
 }
 
-/// The marks of no spans, from time 0 on.
-pub(crate) fn blank_marks<S: Store>(store: &mut S)
-    requires marks { length (S.marks store.old) ≡ 256 }
+/// The mark of a page.
+pub(crate) fn mark_at<S: Store>(store: &S, page: u64) -> Mark
+    requires { length (S.marks store.now) ≡ LAP }
+    ensures { slice_get (S.marks store.now) (page % LAP) ≡ Some result }
+{
+    store.mark(index_of_page(page))
+}
+
+/// The marks before any span, from time 0 on.
+pub(crate) fn put_first_marks<S: Store>(store: &mut S)
+    requires marks { length (S.marks store.old) ≡ LAP }
     ensures marked { AreMarked 0 [] (S.marks store.new) }
     ensures spans { S.spans store.new ≡ S.spans store.old }
     ensures room { S.room store.new ≡ S.room store.old }
@@ -46,19 +54,19 @@ pub(crate) fn blank_marks<S: Store>(store: &mut S)
 
 /// A span more ends there, with its work.
 pub(crate) fn add_span<S: Store>(store: &mut S, span: Span)
-    requires marks { length (S.marks store.old) ≡ 256 }
-    requires counts { IfSome (slice_get (S.marks store.old) (mark_of span.end))
+    requires marks { length (S.marks store.old) ≡ LAP }
+    requires counts { IfSome (slice_get (S.marks store.old) (mark_index span.end))
         (λ m. m.count ≤ 2 ^ 20) }
-    requires works { IfSome (slice_get (S.marks store.old) (mark_of span.end))
+    requires works { IfSome (slice_get (S.marks store.old) (mark_index span.end))
         (λ m. m.works ≤ 2 ^ 60) }
     requires few { span.work ≤ 2 ^ 40 }
-    ensures marks { IfSome (slice_get (S.marks store.old) (mark_of span.end)) (λ m.
-        S.marks store.new ≡ slice_set (S.marks store.old) (mark_of span.end)
+    ensures marks { IfSome (slice_get (S.marks store.old) (mark_index span.end)) (λ m.
+        S.marks store.new ≡ slice_set (S.marks store.old) (mark_index span.end)
         (with_end span.end span.work m)) }
     ensures spans { S.spans store.new ≡ S.spans store.old }
     ensures room { S.room store.new ≡ S.room store.old }
 {
-    let index = mark_of(span.end);
+    let index = mark_index(span.end);
     let mark = store.mark(index);
     let works = mark.works + span.work;
     let after = Mark {
@@ -71,14 +79,14 @@ pub(crate) fn add_span<S: Store>(store: &mut S, span: Span)
 
 /// A span less ends there, with its work.
 pub(crate) fn drop_span<S: Store>(store: &mut S, span: Span)
-    requires marks { length (S.marks store.old) ≡ 256 }
-    ensures marks { IfSome (slice_get (S.marks store.old) (mark_of span.end)) (λ m.
-        S.marks store.new ≡ slice_set (S.marks store.old) (mark_of span.end)
+    requires marks { length (S.marks store.old) ≡ LAP }
+    ensures marks { IfSome (slice_get (S.marks store.old) (mark_index span.end)) (λ m.
+        S.marks store.new ≡ slice_set (S.marks store.old) (mark_index span.end)
         (without_end span.work m)) }
     ensures spans { S.spans store.new ≡ S.spans store.old }
     ensures room { S.room store.new ≡ S.room store.old }
 {
-    let index = mark_of(span.end);
+    let index = mark_index(span.end);
     let mark = store.mark(index);
     let after = Mark {
         count: mark.count.saturating_sub(1),
@@ -90,14 +98,15 @@ pub(crate) fn drop_span<S: Store>(store: &mut S, span: Span)
 
 /// A span more ends at `at`, without work.
 pub(crate) fn cut_span<S: Store>(store: &mut S, at: u64)
-    requires marks { length (S.marks store.old) ≡ 256 }
-    requires counts { IfSome (slice_get (S.marks store.old) (mark_of at)) (λ m. m.count ≤ 2 ^ 20) }
-    ensures marks { IfSome (slice_get (S.marks store.old) (mark_of at)) (λ m.
-        S.marks store.new ≡ slice_set (S.marks store.old) (mark_of at) (with_cut m)) }
+    requires marks { length (S.marks store.old) ≡ LAP }
+    requires counts { IfSome (slice_get (S.marks store.old) (mark_index at))
+        (λ m. m.count ≤ 2 ^ 20) }
+    ensures marks { IfSome (slice_get (S.marks store.old) (mark_index at)) (λ m.
+        S.marks store.new ≡ slice_set (S.marks store.old) (mark_index at) (with_cut m)) }
     ensures spans { S.spans store.new ≡ S.spans store.old }
     ensures room { S.room store.new ≡ S.room store.old }
 {
-    let index = mark_of(at);
+    let index = mark_index(at);
     let mark = store.mark(index);
     let after = Mark {
         count: mark.count + 1,
@@ -108,15 +117,15 @@ pub(crate) fn cut_span<S: Store>(store: &mut S, at: u64)
 
 /// The work of the span that ends there changes.
 pub(crate) fn change_span<S: Store>(store: &mut S, end: u64, change: Change)
-    requires marks { length (S.marks store.old) ≡ 256 }
-    requires works { IfSome (slice_get (S.marks store.old) (mark_of end))
+    requires marks { length (S.marks store.old) ≡ LAP }
+    requires works { IfSome (slice_get (S.marks store.old) (mark_index end))
         (λ m. m.works ≤ 2 ^ 60) }
-    ensures marks { IfSome (slice_get (S.marks store.old) (mark_of end)) (λ m.
-        S.marks store.new ≡ slice_set (S.marks store.old) (mark_of end) (with_change change m)) }
+    ensures marks { IfSome (slice_get (S.marks store.old) (mark_index end)) (λ m.
+        S.marks store.new ≡ slice_set (S.marks store.old) (mark_index end) (with_change change m)) }
     ensures spans { S.spans store.new ≡ S.spans store.old }
     ensures room { S.room store.new ≡ S.room store.old }
 {
-    let index = mark_of(end);
+    let index = mark_index(end);
     let after = changed(store.mark(index), change);
     store.set_mark(index, after);
 }
@@ -141,7 +150,7 @@ fn changed(mark: Mark, change: Change) -> Mark
 
 /// The time goes on by one slot.
 pub(crate) fn pass_time<S: Store>(store: &mut S, time: u64)
-    requires marks { length (S.marks store.old) ≡ 256 }
+    requires marks { length (S.marks store.old) ≡ LAP }
     requires near { time ≤ 2 ^ 60 }
     ensures marked { (spans : List Span) → AreMarked time spans (S.marks store.old)
         → AreMarked (time + 1) spans (S.marks store.new) }
@@ -155,14 +164,14 @@ pub(crate) fn pass_time<S: Store>(store: &mut S, time: u64)
 
 /// The page of a time has passed.
 fn leave_page<S: Store>(store: &mut S, time: u64)
-    requires marks { length (S.marks store.old) ≡ 256 }
+    requires marks { length (S.marks store.old) ≡ LAP }
     requires near { time ≤ 2 ^ 60 }
-    ensures marks { IfSome (slice_get (S.marks store.old) (mark_of time)) (λ m.
-        S.marks store.new ≡ slice_set (S.marks store.old) (mark_of time) (passed time m)) }
+    ensures marks { IfSome (slice_get (S.marks store.old) (mark_index time)) (λ m.
+        S.marks store.new ≡ slice_set (S.marks store.old) (mark_index time) (passed time m)) }
     ensures spans { S.spans store.new ≡ S.spans store.old }
     ensures room { S.room store.new ≡ S.room store.old }
 {
-    let index = mark_of(time);
+    let index = mark_index(time);
     let mark = store.mark(index);
     let later = (time / PAGE + u64::from(LAP)) * PAGE;
     let after = Mark {

@@ -2,8 +2,10 @@
 
 ghost use Rattle.std.specs.Prelude.{◌≡◌, ◌+◌, ◌*◌, ◌/◌, ◌≤◌, ◌<◌, ◌^◌, ℕ, length, IsTrue, Some, slice_get};
 ghost use Rattle.slot_core.specs.declared.jobs.Span.{Span};
+ghost use Rattle.node_chain.specs.declared.marks.TheConstants.{LAP};
 ghost use Rattle.spare_capacity.specs.Laws.{work_until};
 ghost use Rattle.spare_capacity.specs.Recurrence.{last_end};
+ghost use Rattle.interval_row.specs.declared.marks.TheConstants.{PAGE};
 ghost use Rattle.interval_row.specs.Changes.{ends_before};
 ghost use Rattle.interval_row.specs.Marks.{AreTimed};
 ghost use Rattle.interval_row.specs.Tables.{IsFront};
@@ -21,11 +23,12 @@ pub struct Times {
     pub end: u64,
 }
 
-/// Whether no two pages of the spans share a mark, and there are more spans than pages.
-fn tell_pages(times: Times, count: u32) -> bool
+/// True only where no two pages of the spans share a mark. Where spans are as long as a page or
+/// longer on average it is false too, since marks would spare no reads.
+pub(crate) fn tell_pages(times: Times, count: u32) -> bool
     requires near { times.end ≤ 2 ^ 60 }
     requires rising { times.start ≤ times.end }
-    ensures { IsTrue result → times.end < (times.start / 128 + 256) * 128 }
+    ensures { IsTrue result → times.end < (times.start / PAGE + LAP) * PAGE }
 {
     times.end < (times.start / PAGE + u64::from(LAP)) * PAGE
         && times.end - times.start < u64::from(count) * PAGE
@@ -63,19 +66,20 @@ pub(crate) fn near<S: Store>(store: &S, times: Times, x: u64) -> Front
     front
 }
 
-/// Passes spans from a place on, as long as by each time so much room is left. Where none is passed
-/// the same place. No span is read.
+/// Passes spans from `span` on, the one after the front, as long as each time leaves room for
+/// `asked` slots beside the works due by then. These count from slot 0. Where none is passed the
+/// same front. No span is read.
 pub(crate) fn skip<S: Store>(
     store: &S,
     times: Times,
     front: Front,
-    place: Span,
+    span: Span,
     until: u64,
     asked: u64,
 ) -> Front
     requires timed { AreTimed times.start times.end (S.spans store.now) (S.marks store.now) }
     requires front { IsFront (S.spans store.now) front }
-    requires place { slice_get (S.spans store.now) front.count ≡ Some place }
+    requires span { slice_get (S.spans store.now) front.count ≡ Some span }
     requires until { until ≤ times.end }
     requires some { 1 ≤ asked }
     requires few { asked ≤ 2 ^ 62 }
@@ -84,15 +88,15 @@ pub(crate) fn skip<S: Store>(
     ensures within { result.count < length (S.spans store.now) }
     ensures reached { (later : Span) → slice_get (S.spans store.now) result.count ≡ Some later
         → front.count < result.count → later.start < until }
-    ensures room { (later : Span) → slice_get (S.spans store.now) result.count ≡ Some later
-        → (x : ℕ) → place.end ≤ x → x < later.end
+    ensures leaves { (later : Span) → slice_get (S.spans store.now) result.count ≡ Some later
+        → (x : ℕ) → span.end ≤ x → x < later.end
         → asked + work_until (S.spans store.now) x ≤ x }
 {
-    if place.start / PAGE == place.end / PAGE || !tell_pages(times, store.len()) {
+    if span.start / PAGE == span.end / PAGE || !tell_pages(times, store.len()) {
         return front;
     }
     let mut passed = front;
-    for page in place.end / PAGE..until / PAGE {
+    for page in span.end / PAGE..until / PAGE {
         let mark = mark_at(store, page);
         if mark.low < asked + passed.works {
             return passed;

@@ -1,20 +1,21 @@
 //! Spans in a plain list.
 
-use crate::store::Store;
+use crate::shelf::Shelf;
 use node_chain::order::Order;
-use node_chain::{Mark, Marks};
+use node_chain::{Lift, Mark, Marks};
 use slot_core::{Memory, Span, Steps};
 use std::alloc::Global;
 use std::marker::Model;
 use std::sync::ledger::Ledger;
 
-/// Spans in a list whose places are reserved once, and a lap of marks. A table over it answers as
+/// Spans in a list whose places are reserved once, and laps of marks
+/// and lifts. A table over it answers as
 /// every table does, and promises no bound on steps but that of `read`.
 #[derive(Drop)]
 pub struct Rows {
     rows: Order<Span>,
     room: u32,
-    marks: Marks,
+    laps: Marks,
 }
 
 impl Model for Rows {
@@ -22,19 +23,19 @@ impl Model for Rows {
 
     ghost Value = { Listed };
 
-    ghost view = { λ r. record { spans = r.rows.items; room = r.room; marks = r.marks } };
+    ghost view = { λ r. record { spans = r.rows.items; room = r.room; laps = r.laps } };
 
     ghost invariant = { λ r. FitRoom r.rows r.room };
 }
 
-impl Store for Rows {
+impl Shelf for Rows {
     ghost use Rattle.std.specs.Prelude.{false};
 
     ghost spans = { λ r. r.spans };
 
     ghost room = { λ r. r.room };
 
-    ghost marks = { λ r. r.marks };
+    ghost laps = { λ r. r.laps };
 
     ghost counted = { false };
 
@@ -42,7 +43,7 @@ impl Store for Rows {
         Ok(Rows {
             rows: Order::with_capacity(alloc, places)?,
             room: places,
-            marks: Marks::new(alloc)?,
+            laps: Marks::new(alloc)?,
         })
     }
 
@@ -86,10 +87,18 @@ impl Store for Rows {
     }
 
     fn mark(&self, index: u32) -> Mark {
-        self.marks.at(index)
+        self.laps.at(index)
     }
 
     fn set_mark(&mut self, index: u32, mark: Mark) {
-        self.marks.set(index, mark);
+        self.laps.set(index, mark);
+    }
+
+    fn lift(&self, index: u32) -> Lift {
+        self.laps.lift_at(index)
+    }
+
+    fn set_lift(&mut self, index: u32, lift: Lift) {
+        self.laps.set_lift(index, lift);
     }
 }

@@ -7,6 +7,7 @@ ghost use Rattle.interval_row.specs.Changes.{copies_of, ends_before, span_ending
 ghost use Rattle.interval_row.specs.Tables.{numbered, spans_of_pairs, IsTable};
 ghost use Rattle.interval_row.specs.Works.{changed_by, MayChangeBy};
 
+use crate::lifted::Lifted;
 use crate::pages::{self, Times};
 use crate::rows::Rows;
 use crate::spans::{self, Change};
@@ -23,10 +24,10 @@ use std::sync::ledger::{Blank, Ledger};
 mod tests;
 
 /// A table over a chain of spans, whose steps are bounded.
-pub type ChainTable = Table<Chain>;
+pub type ChainTable = Table<Lifted<Chain>>;
 
 /// A table over a plain list.
-pub type RowTable = Table<Rows>;
+pub type RowTable = Table<Lifted<Rows>>;
 
 /// A table over a store of spans. A spot is how many spans stand before the one that it names.
 ///
@@ -34,13 +35,13 @@ pub type RowTable = Table<Rows>;
 /// `charge`, `give_back` or `split`, or the first where that one has gone. A change of work looks
 /// there first: the job that ran in a slot mostly runs in the next, and the slots of an offer are
 /// due at the end that was made for it. Capacities are followed back from such a change only as far
-/// as they change. Each call keeps the marks of the store those of its spans: from them a search
-/// starts near its span, where all spans lie within a lap of pages, and are more than the pages.
+/// as they change, and by whole pages where those have none to give. Each call keeps the marks of the
+/// store those of its spans: from them a search starts near its span, where all spans lie within a
+/// lap of pages and are shorter than a page on average.
 #[derive(Drop)]
 pub struct Table<S: Store> {
     chain: S,
-    time: u64,
-    end: u64,
+    times: Times,
     /// How many spans stand before the one that is looked at first. Only steps depend on it.
     hint: u32,
 }
@@ -53,7 +54,8 @@ impl<S: Store> Model for Table<S> {
     ghost view = { λ t. record { spans = S.spans t.chain; room = S.room t.chain } };
 
     ghost invariant = { λ t.
-        AreKeptMarked (S.spans t.chain) (S.room t.chain) (S.marks t.chain) t.time t.end };
+        AreKeptMarked (S.spans t.chain) (S.room t.chain) (S.marks t.chain)
+        t.times.start t.times.end };
 }
 
 impl<S: Store> Table<S> {
@@ -71,13 +73,9 @@ impl<S: Store> Table<S> {
         ensures few_steps { steps.new ≤ steps.old
             + 3 * ends_before deadline self.old.spans + 3 }
     {
-        let times = Times {
-            start: self.time,
-            end: self.end,
-        };
         self.hint = changes::change_work(
             &mut self.chain,
-            times,
+            self.times,
             self.hint,
             deadline,
             change,
@@ -107,11 +105,11 @@ impl<S: Store> SpareTable for Table<S> {
     }
 
     fn time(&self) -> u64 {
-        self.time
+        self.times.start
     }
 
     fn last_end(&self) -> u64 {
-        self.end
+        self.times.end
     }
 
     fn first(&self) -> Spot {
@@ -135,19 +133,11 @@ impl<S: Store> SpareTable for Table<S> {
     }
 
     fn near(&self, x: u64) -> Front {
-        let times = Times {
-            start: self.time,
-            end: self.end,
-        };
-        pages::near(&self.chain, times, x)
+        pages::near(&self.chain, self.times, x)
     }
 
-    fn skip(&self, front: Front, place: Span, until: u64, asked: u64) -> Front {
-        let times = Times {
-            start: self.time,
-            end: self.end,
-        };
-        pages::skip(&self.chain, times, front, place, until, asked)
+    fn skip(&self, front: Front, span: Span, until: u64, asked: u64) -> Front {
+        pages::skip(&self.chain, self.times, front, span, until, asked)
     }
 
     fn read<L: Ledger>(&self, at: Spot, steps: &mut Steps<L>) -> Span {
@@ -157,8 +147,8 @@ impl<S: Store> SpareTable for Table<S> {
 
     fn pass_slot<L: Ledger>(&mut self, steps: &mut Steps<L>) {
         self.hint = changes::pass(&mut self.chain, self.hint, steps);
-        marks::pass_time(&mut self.chain, self.time);
-        self.time += 1;
+        marks::pass_time(&mut self.chain, self.times.start);
+        self.times.start += 1;
     }
 
     fn charge<L: Ledger>(&mut self, deadline: u64, slots: u32, steps: &mut Steps<L>) {
@@ -170,16 +160,12 @@ impl<S: Store> SpareTable for Table<S> {
     }
 
     fn split<L: Ledger>(&mut self, at: u64, steps: &mut Steps<L>) {
-        let times = Times {
-            start: self.time,
-            end: self.end,
-        };
-        self.hint = changes::split(&mut self.chain, times, at, steps);
+        self.hint = changes::split(&mut self.chain, self.times, at, steps);
     }
 
     fn append_cycle<L: Ledger>(&mut self, spans: &[Span], steps: &mut Steps<L>) {
-        changes::append(&mut self.chain, spans, self.end, steps);
-        self.end += spans::last_end(spans);
+        changes::append(&mut self.chain, spans, self.times.end, steps);
+        self.times.end += spans::last_end(spans);
     }
 }
 
@@ -207,7 +193,7 @@ fn filled_table<S: Store, L: Ledger>(
 {
     let mut steps: Steps<L> = Steps::new(blank);
     let mut chain = S::with_room(alloc, room)?;
-    marks::blank_marks(&mut chain);
+    marks::put_first_marks(&mut chain);
     let mut end = 0;
     let cycle = spans::last_end(spans);
     for _copy in 0..copies {
@@ -216,8 +202,7 @@ fn filled_table<S: Store, L: Ledger>(
     }
     Ok(Table {
         chain,
-        time: 0,
-        end,
+        times: Times { start: 0, end },
         hint: 0,
     })
 }

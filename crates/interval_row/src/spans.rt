@@ -2,7 +2,7 @@
 
 ghost use Rattle.std.specs.Int.{w64};
 ghost use Rattle.std.specs.Prelude.{◌≡◌, ◌+◌, ◌≤◌, ◌<◌, ◌^◌, FitsSigned, pos, neg_ℤ, ◌+ℤ◌, ◌-ℤ◌, ◌≤ℤ◌};
-ghost use Rattle.spare_capacity.specs.Lending.{repaid};
+ghost use Rattle.spare_capacity.specs.Lending.{raised, repaid};
 ghost use Rattle.spare_capacity.specs.Recurrence.{last_end, with_spare};
 ghost use Rattle.spare_capacity.specs.Refill.{IsShort};
 ghost use Rattle.interval_row.specs.Changes.{part_before, part_from, shifted};
@@ -57,6 +57,17 @@ fn raised(row: Span, slots: u64) -> Span
 {
     Span {
         spare: row.spare + slots as i64,
+        ..row
+    }
+}
+
+/// The span with so much more capacity.
+pub(crate) fn raised_by(row: Span, more: i64) -> Span
+    requires { FitsSigned w64 (row.spare +ℤ more) }
+    ensures { result ≡ raised more row }
+{
+    Span {
+        spare: row.spare + more,
         ..row
     }
 }

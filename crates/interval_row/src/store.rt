@@ -1,18 +1,21 @@
-//! What a table keeps its spans in.
+//! What a table sees of what it keeps its spans in.
 
 ghost use Rattle.std.specs.Prelude.{◌≡◌, ℕ, ◌+◌, ◌≤◌, ◌<◌, ◌^◌, Bool, List, [], ◌∷◌, ◌++◌, drop, insert, length, replicate, Some, IfOk, slice_get, slice_set};
 ghost use Rattle.slot_core.specs.declared.jobs.Span.{Span};
-ghost use Rattle.node_chain.specs.Chains.{blank_mark};
+ghost use Rattle.node_chain.specs.Laps.{blank_mark};
 ghost use Rattle.node_chain.specs.declared.marks.Mark.{Mark};
 ghost use Rattle.node_chain.specs.declared.marks.TheConstants.{LAP};
+ghost use Rattle.interval_row.specs.Lifts.{raised_at, AreAtMost, MayRaise};
 
-use node_chain::{Chain, Mark};
+use node_chain::Mark;
 use slot_core::{Memory, Span, Steps};
 use std::alloc::Global;
 use std::sync::ledger::Ledger;
 
 /// Spans in order, each found by how many stand before it, with room for at most 2^20, and a lap of
-/// marks, whose numbers are the table's. Only `with_room` takes memory, and no call but it refuses.
+/// marks, whose numbers are the table's. The capacities of all spans that end in the pages of a
+/// mark can be told of and raised at once. Only `with_room` takes memory, and no call but it
+/// refuses.
 pub trait Store: Drop {
     /// The spans in order.
     ghost spans: { Self → List Span };
@@ -52,11 +55,11 @@ pub trait Store: Drop {
         ensures marks { marks self.new ≡ marks self.old }
         ensures one_step { steps.new ≡ steps.old + 1 };
 
-    /// Gives the span there another capacity. One step.
-    fn set_spare<L: Ledger>(&mut self, index: u32, spare: i64, steps: &mut Steps<L>)
-        requires { index < length (spans self.old) }
-        ensures spans { (s : Span) → slice_get (spans self.old) index ≡ Some s
-            → spans self.new ≡ slice_set (spans self.old) index (record s { spare = spare }) }
+    /// Gives the span there, which is `row`, another capacity. One step.
+    fn set_spare<L: Ledger>(&mut self, index: u32, row: Span, spare: i64, steps: &mut Steps<L>)
+        requires { slice_get (spans self.old) index ≡ Some row }
+        ensures spans { spans self.new
+            ≡ slice_set (spans self.old) index (record row { spare = spare }) }
         ensures room { room self.new ≡ room self.old }
         ensures marks { marks self.new ≡ marks self.old }
         ensures one_step { steps.new ≡ steps.old + 1 };
@@ -98,58 +101,26 @@ pub trait Store: Drop {
         ensures spans { spans self.new ≡ spans self.old }
         ensures room { room self.new ≡ room self.old }
         ensures marks { marks self.new ≡ slice_set (marks self.old) index mark };
-}
 
-/// The chain, where each step is a node. A table over it bounds its steps.
-impl Store for Chain {
-    ghost use Rattle.std.specs.Prelude.{true};
-    ghost use Rattle.interval_row.specs.Stores.{spans_of};
+    /// A number that no capacity of the spans that end in the pages of this mark is above.
+    fn high(&self, index: u32) -> i64
+        requires { index < LAP }
+        ensures { AreAtMost index result (spans self.now) };
 
-    ghost spans = { λ c. spans_of c.pairs };
+    /// `high` may tell this number from then on.
+    fn set_high(&mut self, index: u32, high: i64)
+        requires index { index < LAP }
+        requires below { AreAtMost index high (spans self.old) }
+        ensures spans { spans self.new ≡ spans self.old }
+        ensures room { room self.new ≡ room self.old }
+        ensures marks { marks self.new ≡ marks self.old };
 
-    ghost room = { λ c. c.capacity };
-
-    ghost marks = { λ c. c.marks };
-
-    ghost counted = { true };
-
-    fn with_room(alloc: Global, places: u32) -> Result<Self, Memory> {
-        Chain::with_capacity(alloc, places)
-    }
-
-    fn len(&self) -> u32 {
-        self.len()
-    }
-
-    fn at<L: Ledger>(&self, index: u32, steps: &mut Steps<L>) -> Span {
-        self.get(self.at(index), steps)
-    }
-
-    fn set<L: Ledger>(&mut self, index: u32, span: Span, steps: &mut Steps<L>) {
-        self.set(self.at(index), span, steps);
-    }
-
-    fn set_spare<L: Ledger>(&mut self, index: u32, spare: i64, steps: &mut Steps<L>) {
-        self.set_spare(self.at(index), spare, steps);
-    }
-
-    fn insert<L: Ledger>(&mut self, index: u32, span: Span, steps: &mut Steps<L>) {
-        let _id = self.insert_at(index, span, steps);
-    }
-
-    fn push<L: Ledger>(&mut self, span: Span, steps: &mut Steps<L>) {
-        let _id = self.push_back(span, steps);
-    }
-
-    fn pop_front<L: Ledger>(&mut self, steps: &mut Steps<L>) -> Span {
-        self.pop_front(steps)
-    }
-
-    fn mark(&self, index: u32) -> Mark {
-        self.mark(index)
-    }
-
-    fn set_mark(&mut self, index: u32, mark: Mark) {
-        self.set_mark(index, mark);
-    }
+    /// All spans that end in the pages of this mark get so much more capacity. None of them is read
+    /// or written.
+    fn raise(&mut self, index: u32, more: i64)
+        requires index { index < LAP }
+        requires fits { MayRaise index more (spans self.old) }
+        ensures spans { spans self.new ≡ raised_at index more (spans self.old) }
+        ensures room { room self.new ≡ room self.old }
+        ensures marks { marks self.new ≡ marks self.old };
 }

@@ -45,7 +45,7 @@ pub trait SpareTable: Drop {
     ghost counted: { Bool };
 
     /// A table at time 0 of so many copies of a plan's spans, one after the other, with room for
-    /// `room` spans.
+    /// `room` spans, and 10 KB of marks and lifts.
     fn with_room(alloc: Global, spans: &[Span], copies: u32, room: u32) -> Result<Self, Memory>
         requires plan { ArePlanSpans spans.now }
         requires some { 1 ≤ copies }
@@ -92,11 +92,12 @@ pub trait SpareTable: Drop {
         ensures front { IsFront (spans_of_pairs (pairs self.now)) result }
         ensures early { result.count ≤ ends_before x (spans_of_pairs (pairs self.now)) };
 
-    /// Passes spans from a place on, as long as by each time so much room is left. Where none is
-    /// passed the same place. No span is read.
-    fn skip(&self, front: Front, place: Span, until: u64, asked: u64) -> Front
+    /// Passes spans from `span` on, the one after the front, as long as each time leaves room for
+    /// `asked` slots beside the works due by then. These count from slot 0, not from the time of
+    /// the table. Where none is passed the same front. No span is read.
+    fn skip(&self, front: Front, span: Span, until: u64, asked: u64) -> Front
         requires front { IsFront (spans_of_pairs (pairs self.now)) front }
-        requires place { span_at (pairs self.now) front.count ≡ Some place }
+        requires span { span_at (pairs self.now) front.count ≡ Some span }
         requires until { until ≤ last_end (time self.now) (spans_of_pairs (pairs self.now)) }
         requires some { 1 ≤ asked }
         requires few { asked ≤ 2 ^ 62 }
@@ -105,8 +106,8 @@ pub trait SpareTable: Drop {
         ensures within { result.count < length (pairs self.now) }
         ensures reached { (later : Span) → span_at (pairs self.now) result.count ≡ Some later
             → front.count < result.count → later.start < until }
-        ensures room { (later : Span) → span_at (pairs self.now) result.count ≡ Some later
-            → (x : ℕ) → place.end ≤ x → x < later.end
+        ensures leaves { (later : Span) → span_at (pairs self.now) result.count ≡ Some later
+            → (x : ℕ) → span.end ≤ x → x < later.end
             → asked + work_until (spans_of_pairs (pairs self.now)) x ≤ x };
 
     /// The span at this spot. One step.

@@ -1,16 +1,17 @@
 //! Spans of a store: how they are found, and how work changes at one.
 
-ghost use Rattle.std.specs.Int.{w64};
-ghost use Rattle.std.specs.Prelude.{◌≡◌, ℕ, ◌+◌, ◌*◌, ◌≤◌, ◌<◌, ◌^◌, ◌+ℤ◌, length, drop, FitsSigned, IfSome, IsSome, Some, slice_get, slice_set};
-ghost use Rattle.spare_capacity.specs.Lending.{raised, repaid};
+ghost use Rattle.std.specs.Prelude.{◌≡◌, ℕ, ◌+◌, ◌*◌, ◌≤◌, ◌<◌, ◌^◌, length, drop, IsSome, Some, slice_get};
 ghost use Rattle.spare_capacity.specs.Recurrence.{filled, first_spare, with_spare};
 ghost use Rattle.interval_row.specs.Changes.{span_ending};
 ghost use Rattle.interval_row.specs.Marks.{AreTimed};
 ghost use Rattle.interval_row.specs.Rows.{place_of, with_work_at, AreRows};
+ghost use Rattle.interval_row.specs.Walks.{after_walk};
 
-use crate::pages::{self, Times};
+use crate::marks::PAGE;
+use crate::pages::{self, Times, tell_pages};
 use crate::spans;
 use crate::store::Store;
+use crate::walk_back::{Followed, Walk, follow_pages, follow_spans};
 use slot_core::{Span, Steps};
 use std::sync::ledger::Ledger;
 
@@ -73,15 +74,50 @@ pub(crate) fn find_hinted<S: Store, L: Ledger>(
     find(store, times, x, steps)
 }
 
-/// The span at a place becomes this one, with another work and its capacity, and those before it
-/// follow, up to the first that is repaid nothing. At most one step, and two for each span before.
-pub(crate) fn set_work<S: Store, L: Ledger>(
+/// The span at a place becomes this one, with another work and its capacity. Those before it are
+/// yet to follow. One step.
+fn set_row<S: Store, L: Ledger>(
     store: &mut S,
     place: FoundSpan,
     row: Span,
     steps: &mut Steps<L>,
-)
+) -> Followed
     requires rows { AreRows (S.spans store.old) }
+    requires row { slice_get (S.spans store.old) place.index ≡ Some place.row }
+    requires spare { row ≡ with_spare
+        (record place.row { work = row.work })
+        (first_spare (drop (place.index + 1) (S.spans store.old))) }
+    ensures spans { after_walk result.walk (S.spans store.new)
+        ≡ filled (with_work_at place.index row.work (S.spans store.old)) }
+    ensures index { result.walk.index ≡ place.index }
+    ensures row { result.row ≡ row }
+    ensures placed { slice_get (S.spans store.new) place.index ≡ Some row }
+    ensures room { S.room store.new ≡ S.room store.old }
+    ensures marks { S.marks store.new ≡ S.marks store.old }
+    ensures one_step { steps.new ≡ steps.old + 1 }
+{
+    store.set(place.index, row, steps);
+    let more = spans::repaid(place.row.spare, row.spare);
+    Followed {
+        row,
+        walk: Walk {
+            index: place.index,
+            more,
+        },
+    }
+}
+
+/// The span at a place becomes this one, with another work and its capacity, and those before it
+/// follow, up to the first that is repaid nothing: by whole pages where the marks tell of pages. At
+/// most one step, and two for each span before.
+pub(crate) fn set_work<S: Store, L: Ledger>(
+    store: &mut S,
+    times: Times,
+    place: FoundSpan,
+    row: Span,
+    steps: &mut Steps<L>,
+)
+    requires timed { AreTimed times.start times.end (S.spans store.old) (S.marks store.old) }
     requires row { slice_get (S.spans store.old) place.index ≡ Some place.row }
     requires few { row.work ≤ 2 ^ 40 }
     requires spare { row ≡ with_spare
@@ -94,32 +130,12 @@ pub(crate) fn set_work<S: Store, L: Ledger>(
     ensures steps { steps.old ≤ steps.new }
     ensures few_steps { steps.new ≤ steps.old + 2 * place.index + 1 }
 {
-    store.set(place.index, row, steps);
-    let mut more = spans::repaid(place.row.spare, row.spare);
-    for index in (0..place.index).rev() {
-        if more == 0 {
-            return;
-        }
-        more = raise(store, index, more, steps);
+    let from = set_row(store, place, row, steps);
+    if !tell_pages(times, store.len()) {
+        follow_spans(store, from, 0, steps);
+        return;
     }
-}
-
-/// The span with so many before it gets so much more capacity. Returns what the span before it is
-/// repaid. Two steps.
-fn raise<S: Store, L: Ledger>(store: &mut S, index: u32, more: i64, steps: &mut Steps<L>) -> i64
-    requires within { index < length (S.spans store.old) }
-    requires fits { IfSome (slice_get (S.spans store.old) index)
-        (λ s. FitsSigned w64 (s.spare +ℤ more)) }
-    ensures spans { IfSome (slice_get (S.spans store.old) index) (λ s. S.spans store.new
-        ≡ slice_set (S.spans store.old) index (raised more s)) }
-    ensures repaid { IfSome (slice_get (S.spans store.old) index) (λ s.
-        result ≡ repaid s.spare (s.spare +ℤ more)) }
-    ensures room { S.room store.new ≡ S.room store.old }
-    ensures marks { S.marks store.new ≡ S.marks store.old }
-    ensures two_steps { steps.new ≡ steps.old + 2 }
-{
-    let before = store.at(index, steps);
-    let spare = before.spare + more;
-    store.set_spare(index, spare, steps);
-    spans::repaid(before.spare, spare)
+    let page = row.end / PAGE;
+    let walk = follow_spans(store, from, page * PAGE, steps);
+    follow_pages(store, times.start / PAGE, page, walk, steps);
 }

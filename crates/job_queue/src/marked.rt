@@ -3,10 +3,11 @@
 ghost use Rattle.std.specs.Prelude.{◌≡◌, ℕ, ◌+◌, ◌-◌, ◌<◌, ◌≤◌, [], false, count_by, insert, length, remove, slice_index_or, IfOk};
 ghost use Rattle.slot_core.specs.declared.jobs.Job.{Job};
 ghost use Rattle.slot_core.specs.Offline.Keys.{same_key};
-ghost use Rattle.job_queue.specs.Marks.{mark_of};
+ghost use Rattle.job_queue.specs.declared.marked.TheConstants.{COUNT_LIMIT, MARK_COUNT};
+ghost use Rattle.job_queue.specs.Marks.{key_mark};
 ghost use Rattle.job_queue.specs.Queues.{after_run_at};
 
-use slot_core::{Job, Key, Memory};
+use slot_core::{Job, Key, Memory, TASK_LIMIT};
 use std::alloc::Global;
 use std::marker::Model;
 
@@ -16,8 +17,11 @@ const TASK_MARKS: usize = 1024;
 /// How many marks there are for rows of arrivals.
 const ROW_MARKS: usize = 1024;
 
-/// A graph has at most so many tasks.
-const GRAPH_TASKS: usize = 32;
+/// How many marks there are.
+const MARK_COUNT: usize = TASK_MARKS + ROW_MARKS;
+
+/// A count that has come to this stays there, and tells nothing.
+const COUNT_LIMIT: u8 = 255;
 
 /// Some jobs, and of each mark how many of them have it. The mark of a key is a small number that
 /// other keys may share, so a key has no job here where its mark has none. Places for the jobs are
@@ -30,24 +34,25 @@ pub(crate) struct MarkedJobs {
 
 impl Model for MarkedJobs {
     ghost use Rattle.std.specs.Prelude.{vec_capacity};
-    ghost use Rattle.job_queue.specs.Marks.{AreMarked, PlacedJobs};
+    ghost use Rattle.job_queue.specs.Marks.{AreCounted, PlacedJobs};
 
     ghost Value = { PlacedJobs };
 
     ghost view = { λ m. record { items = m.jobs.items; places = vec_capacity m.jobs } };
 
-    ghost invariant = { λ m. AreMarked m.jobs.items m.counts.items };
+    ghost invariant = { λ m. AreCounted m.jobs.items m.counts.items };
 }
 
 impl MarkedJobs {
-    /// No jobs, with places for `n`. Only this call takes memory: that of the places, and 2 KB.
+    /// No jobs, with places for `n`. Only this call takes memory: that of the places, and 2 KB of
+    /// marks.
     pub(crate) fn with_capacity(alloc: Global, n: usize) -> Result<MarkedJobs, Memory>
         ensures empty { IfOk result (λ made. made.items ≡ []) }
         ensures places { IfOk result (λ made. n ≤ made.places) }
     {
         Ok(MarkedJobs {
             jobs: Vec::with_capacity(alloc, n)?,
-            counts: vec![in alloc; 0u8; TASK_MARKS + ROW_MARKS]?,
+            counts: vec![in alloc; 0u8; MARK_COUNT]?,
         })
     }
 
@@ -69,20 +74,20 @@ impl MarkedJobs {
     pub(crate) fn may_have(&self, key: Key) -> bool
         ensures { result ≡ false → count_by (λ j. same_key j.key key) self.now.items ≡ 0 }
     {
-        self.counts[mark_of(key)] > 0
+        self.counts[key_mark(key)] > 0
     }
 
     /// Puts a job at a place.
-    pub(crate) fn insert(&mut self, place: usize, job: Job)
+    pub(crate) fn insert(&mut self, place: usize, job: &Job)
         requires within { place ≤ length self.old.items }
         requires free { length self.old.items < self.old.places }
-        ensures items { self.new.items ≡ insert self.old.items place job }
+        ensures items { self.new.items ≡ insert self.old.items place job.now }
         ensures places { self.old.places ≤ self.new.places }
     {
-        let mark = mark_of(job.key);
+        let mark = key_mark(job.key);
         self.counts[mark] = one_more(self.counts[mark]);
         // There is a place for it.
-        let _ = self.jobs.insert(place, job);
+        let _ = self.jobs.insert(place, *job);
     }
 
     /// Takes out the job at a place.
@@ -90,10 +95,10 @@ impl MarkedJobs {
         requires within { place < length self.old.items }
         ensures value { result ≡ slice_index_or self.old.items place result }
         ensures items { self.new.items ≡ remove self.old.items place }
-        ensures capacity { self.new.places ≡ self.old.places }
+        ensures places { self.new.places ≡ self.old.places }
     {
         let job = self.jobs.remove(place);
-        let mark = mark_of(job.key);
+        let mark = key_mark(job.key);
         self.counts[mark] = one_less(self.counts[mark]);
         job
     }
@@ -103,20 +108,20 @@ impl MarkedJobs {
         requires within { place < length self.old.items }
         requires more { (d : Job) → 1 < (slice_index_or self.old.items place d).left }
         ensures items { self.new.items ≡ after_run_at place self.old.items }
-        ensures capacity { self.new.places ≡ self.old.places }
+        ensures places { self.new.places ≡ self.old.places }
     {
         self.jobs[place].left -= 1;
     }
 }
 
 /// The mark of a key.
-fn mark_of(key: Key) -> usize
-    ensures mark { result ≡ mark_of key }
-    ensures few { result < 2048 }
+fn key_mark(key: Key) -> usize
+    ensures mark { result ≡ key_mark key }
+    ensures few { result < MARK_COUNT }
 {
     match key {
         Key::Offline(graph, task, _) => {
-            (GRAPH_TASKS * graph as usize + task as usize) % TASK_MARKS
+            (TASK_LIMIT * graph as usize + task as usize) % TASK_MARKS
         }
         Key::Sporadic(_, row) | Key::Firm(row) | Key::Soft(row) => {
             TASK_MARKS + row as usize % ROW_MARKS
@@ -126,16 +131,16 @@ fn mark_of(key: Key) -> usize
 
 /// A count and one more, where it still tells something.
 fn one_more(count: u8) -> u8
-    ensures { result < 255 → result ≡ count + 1 }
+    ensures { result < COUNT_LIMIT → result ≡ count + 1 }
 {
     count.saturating_add(1)
 }
 
 /// A count and one less, where it tells something.
 fn one_less(count: u8) -> u8
-    ensures { result < 255 → (count < 255) × (result ≡ count - 1) }
+    ensures { result < COUNT_LIMIT → (count < COUNT_LIMIT) × (result ≡ count - 1) }
 {
-    if count == u8::MAX {
+    if count == COUNT_LIMIT {
         return count;
     }
     count.saturating_sub(1)

@@ -55,7 +55,8 @@ impl Model for JobQueue {
 }
 
 impl JobQueue {
-    /// An empty queue with places for `n` jobs. Only this call takes memory.
+    /// An empty queue with places for `n` jobs. Only this call takes memory: that of the places,
+    /// and 2 KB of marks.
     pub fn with_capacity(alloc: Global, n: u32) -> Result<JobQueue, Memory>
         requires some { 1 ≤ n }
         requires few { n ≤ 2 ^ 20 }
@@ -140,7 +141,7 @@ impl JobQueue {
             return false;
         }
         self.beside.pop();
-        put_in_order(&mut self.come, job, steps);
+        put_in_order(&mut self.come, &job, steps);
         true
     }
 
@@ -150,15 +151,15 @@ impl JobQueue {
         ensures capacity { self.new.capacity ≡ self.old.capacity }
         ensures steps { steps.old ≤ steps.new }
     {
-        let Some(job) = self.listed.front().copied() else {
+        let Some(first) = self.listed.front() else {
             return false;
         };
         steps.tick();
-        if now < job.est {
+        if now < first.est {
             return false;
         }
+        put_in_order(&mut self.come, first, steps);
         self.listed.pop_front();
-        put_in_order(&mut self.come, job, steps);
         true
     }
 
@@ -166,6 +167,7 @@ impl JobQueue {
     /// by then. One step a job looked at: those beside, those that have come up to the first that
     /// may start, and the listed ones up to the first that starts later. Where `come` has put all
     /// in order that may start, these are two at most.
+    #[inline(always)]
     pub fn earliest<L: Ledger>(&self, now: u64, steps: &mut Steps<L>) -> Option<Job>
         ensures job { result ≡ earliest (ready now self.now.jobs) }
         ensures steps { steps.old ≤ steps.new }
@@ -207,12 +209,55 @@ impl JobQueue {
         ensures steps { steps.new ≡ steps.old + search_steps key self.old.jobs }
         ensures few_steps { steps.new ≤ steps.old + length self.old.jobs }
     {
+        if self.is_first(key) {
+            steps.tick();
+            self.run_found(key, 0);
+        } else {
+            self.run_later(key, steps);
+        }
+    }
+
+    /// The same, where the job is looked for.
+    fn run_later<L: Ledger>(&mut self, key: Key, steps: &mut Steps<L>)
+        requires present { 1 ≤ count_by (λ j. same_key j.key key) self.old.jobs }
+        ensures jobs { HaveSameItems self.new.jobs (after_run key self.old.jobs) }
+        ensures capacity { self.new.capacity ≡ self.old.capacity }
+        ensures steps { steps.new ≡ steps.old + search_steps key self.old.jobs }
+    {
         if let Some(place) = self.place_of(key, steps) {
-            if self.job(place).left > 1 {
-                self.run_at(place);
-            } else {
-                self.remove(place);
-            }
+            self.run_found(key, place);
+        }
+    }
+
+    /// Whether the job of this key is the last of those that have come, and none stands beside:
+    /// then it is the first of all. This call also tells what every queue is.
+    #[inline(always)]
+    fn is_first(&self, key: Key) -> bool
+        ensures place { result ≡ true → position (λ j. same_key j.key key) self.now.jobs ≡ Some 0 }
+        ensures queue { IsQueue self.now }
+    {
+        if !self.beside.is_empty() {
+            return false;
+        }
+        match self.come.jobs().last() {
+            Some(job) => is_same_key(job.key, key),
+            None => false,
+        }
+    }
+
+    /// One slot has run of the job of this key, which is at this place. It goes where that was its
+    /// last one.
+    #[inline(always)]
+    fn run_found(&mut self, key: Key, place: usize)
+        requires place { position (λ j. same_key j.key key) self.old.jobs ≡ Some place }
+        requires queue { IsQueue self.old }
+        ensures jobs { HaveSameItems self.new.jobs (after_run key self.old.jobs) }
+        ensures capacity { self.new.capacity ≡ self.old.capacity }
+    {
+        if self.job(place).left > 1 {
+            self.run_at(place);
+        } else {
+            self.remove(place);
         }
     }
 
@@ -282,6 +327,7 @@ impl JobQueue {
     }
 
     /// The job at this place: those beside stand first, then those that have come.
+    #[inline(always)]
     fn job(&self, place: usize) -> &Job
         requires { place < length self.now.jobs }
         ensures { result.now ≡ slice_index_or self.now.jobs place result.now }
@@ -299,6 +345,7 @@ impl JobQueue {
     }
 
     /// One slot has run of the job at this place, which has another left.
+    #[inline(always)]
     fn run_at(&mut self, place: usize)
         requires within { place < length self.old.jobs }
         requires more { (d : Job) → 1 < (slice_index_or self.old.jobs place d).left }
@@ -319,6 +366,7 @@ impl JobQueue {
     }
 
     /// Removes the job at this place. Beside, the last job takes its place.
+    #[inline(always)]
     fn remove(&mut self, place: usize) -> Option<Job>
         requires within { place < length self.old.jobs }
         ensures job { (d : Job) → result ≡ Some (slice_index_or self.old.jobs place d) }
@@ -454,15 +502,15 @@ fn is_ready(job: &Job, now: u64, key: Key) -> bool
 
 /// Puts the job among these, of which the one that earliest deadline first takes first stands last.
 /// One step a job looked at.
-fn put_in_order<L: Ledger>(come: &mut MarkedJobs, job: Job, steps: &mut Steps<L>)
+fn put_in_order<L: Ledger>(come: &mut MarkedJobs, job: &Job, steps: &mut Steps<L>)
     requires order { IsEarliestLast come.old.items }
     requires place { length come.old.items < come.old.places }
-    ensures jobs { HaveSameItems come.new.items (come.old.items ++ job ∷ []) }
+    ensures jobs { HaveSameItems come.new.items (come.old.items ++ job.now ∷ []) }
     ensures order { IsEarliestLast come.new.items }
     ensures places { come.old.places ≤ come.new.places }
     ensures steps { steps.old ≤ steps.new }
 {
-    let place = place_in_order(come.jobs(), &job, steps);
+    let place = place_in_order(come.jobs(), job, steps);
     come.insert(place, job);
 }
 

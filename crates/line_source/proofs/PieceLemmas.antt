@@ -9,7 +9,7 @@ use Rattle.std.proofs.Math.Seq.{get_or-append_seam, take-append_seam}
 use Rattle.std.proofs.lemmas.Bool.{cases_Bool, cases_lt, le-leb, lt-ltb, ltb-true, leb-true}
 use Rattle.std.proofs.lemmas.List.{take-append-le, append-nil}
 use Rattle.std.proofs.lemmas.List.Elements.{All-nil, All-push}
-use Rattle.line_source.specs.declared.TheConstants.{LINE_LIMIT}
+use Rattle.line_source.specs.declared.TheConstants.{HEARD_LIMIT}
 use Rattle.line_source.specs.declared.source.Given.{Given}
 use Rattle.line_source.specs.declared.source.Given.TheVariants.{Line, TooLong, NoMore}
 use Rattle.line_source.specs.Lines.{line, too_long, ended, extended, extended_line, heard, heard_first, within_limit, GivesByte, GivesOne, IsPlain, LosesFront}
@@ -43,7 +43,7 @@ first_piece-ended front rest plain =
 -- what a line is by now, by its bytes so far
 abbrev pub given_of : List ℕ → Given
 given_of [] = NoMore
-given_of bytes = if nat_le (length bytes) LINE_LIMIT then Line else TooLong
+given_of bytes = if nat_le (length bytes) HEARD_LIMIT then Line else TooLong
 
 -- tests that fail
 not_lt : (a b : ℕ) → b ≤ a → nat_lt a b ≡ false
@@ -61,22 +61,22 @@ not_le a b lt =
     ]
 
 -- of a line that is not too long, and of one that is
-given_of-short : (b : ℕ) (bs : List ℕ) → length (b ∷ bs) ≤ LINE_LIMIT → given_of (b ∷ bs) ≡ Line
-given_of-short b bs short = rw (le-leb (length (b ∷ bs)) LINE_LIMIT short) refl
+given_of-short : (b : ℕ) (bs : List ℕ) → length (b ∷ bs) ≤ HEARD_LIMIT → given_of (b ∷ bs) ≡ Line
+given_of-short b bs short = rw (le-leb (length (b ∷ bs)) HEARD_LIMIT short) refl
 
-given_of-long : (b : ℕ) (bs : List ℕ) → LINE_LIMIT < length (b ∷ bs) → given_of (b ∷ bs) ≡ TooLong
-given_of-long b bs long = rw (not_le (length (b ∷ bs)) LINE_LIMIT long) refl
+given_of-long : (b : ℕ) (bs : List ℕ) → HEARD_LIMIT < length (b ∷ bs) → given_of (b ∷ bs) ≡ TooLong
+given_of-long b bs long = rw (not_le (length (b ∷ bs)) HEARD_LIMIT long) refl
 
 -- a line with room goes on, one without is too long, and stays so
-grows : (given : Given) (kept : List ℕ) (byte : ℕ) → given ≡ Line → length kept < LINE_LIMIT
+grows : (given : Given) (kept : List ℕ) (byte : ℕ) → given ≡ Line → length kept < HEARD_LIMIT
     → (extended given kept ≡ Line) × (extended_line given kept byte ≡ kept ++ byte ∷ [])
-grows Line kept byte is room = rw (lt-ltb (length kept) LINE_LIMIT room) (refl, refl)
+grows Line kept byte is room = rw (lt-ltb (length kept) HEARD_LIMIT room) (refl, refl)
 grows TooLong kept byte is room = cc
 grows NoMore kept byte is room = cc
 
-overflows : (given : Given) (kept : List ℕ) (byte : ℕ) → given ≡ Line → LINE_LIMIT ≤ length kept
+overflows : (given : Given) (kept : List ℕ) (byte : ℕ) → given ≡ Line → HEARD_LIMIT ≤ length kept
     → (extended given kept ≡ TooLong) × (extended_line given kept byte ≡ kept)
-overflows Line kept byte is full = rw (not_lt (length kept) LINE_LIMIT full) (refl, refl)
+overflows Line kept byte is full = rw (not_lt (length kept) HEARD_LIMIT full) (refl, refl)
 overflows TooLong kept byte is full = cc
 overflows NoMore kept byte is full = cc
 
@@ -88,28 +88,28 @@ stays NoMore kept byte is = cc
 
 -- what a line is, and what is kept of it, goes on with a byte
 pub pushed : (front : List ℕ) (byte : ℕ)
-    → (extended (given_of front) (take LINE_LIMIT front) ≡ given_of (front ++ byte ∷ []))
-    × (extended_line (given_of front) (take LINE_LIMIT front) byte ≡ take LINE_LIMIT (front ++ byte ∷ []))
+    → (extended (given_of front) (take HEARD_LIMIT front) ≡ given_of (front ++ byte ∷ []))
+    × (extended_line (given_of front) (take HEARD_LIMIT front) byte ≡ take HEARD_LIMIT (front ++ byte ∷ []))
 pushed [] byte = (refl, refl)
 pushed (b ∷ bs) byte =
     let front = b ∷ bs in
     let count : length (bs ++ byte ∷ []) ≡ length bs + 1 = length-append bs (byte ∷ []) in
-    elim (cases_lt (length front) LINE_LIMIT) [
+    elim (cases_lt (length front) HEARD_LIMIT) [
       | inl room ↦
-          let whole = take_all LINE_LIMIT front (omega (arith, room)) in
-          let (goes, kept) = grows (given_of front) (take LINE_LIMIT front) byte (given_of-short b bs (omega (arith, room))) (omega (arith, room, ap length whole)) in
-          let more = take_all LINE_LIMIT (front ++ byte ∷ []) (omega (arith, room, count)) in
+          let whole = take_all HEARD_LIMIT front (omega (arith, room)) in
+          let (goes, kept) = grows (given_of front) (take HEARD_LIMIT front) byte (given_of-short b bs (omega (arith, room))) (omega (arith, room, ap length whole)) in
+          let more = take_all HEARD_LIMIT (front ++ byte ∷ []) (omega (arith, room, count)) in
           (goes ∙ sym (given_of-short b (bs ++ byte ∷ []) (omega (arith, room, count))), kept ∙ ap (λ l. l ++ byte ∷ []) whole ∙ sym more)
       | inr full ↦
           let long = given_of-long b (bs ++ byte ∷ []) (omega (arith, full, count)) in
-          let same = take-append-le LINE_LIMIT front (byte ∷ []) full in
-          elim (cases_lt LINE_LIMIT (length front)) [
+          let same = take-append-le HEARD_LIMIT front (byte ∷ []) full in
+          elim (cases_lt HEARD_LIMIT (length front)) [
             | inl past ↦
-                let (goes, kept) = stays (given_of front) (take LINE_LIMIT front) byte (given_of-long b bs past) in
+                let (goes, kept) = stays (given_of front) (take HEARD_LIMIT front) byte (given_of-long b bs past) in
                 (goes ∙ sym long, kept ∙ sym same)
             | inr short ↦
-                let whole = take_all LINE_LIMIT front short in
-                let (goes, kept) = overflows (given_of front) (take LINE_LIMIT front) byte (given_of-short b bs short) (omega (arith, full, ap length whole)) in
+                let whole = take_all HEARD_LIMIT front short in
+                let (goes, kept) = overflows (given_of front) (take HEARD_LIMIT front) byte (given_of-short b bs short) (omega (arith, full, ap length whole)) in
                 (goes ∙ sym long, kept ∙ sym same)
           ]
     ]
@@ -126,29 +126,29 @@ heard-long Line kept is = cc
 heard-long NoMore kept is = cc
 
 begun : (b : ℕ) (bs : List ℕ) → let front = b ∷ bs in
-    (heard (given_of front) (take LINE_LIMIT front) ≡ within_limit front) × (ended (given_of front) ≡ given_of front)
+    (heard (given_of front) (take HEARD_LIMIT front) ≡ within_limit front) × (ended (given_of front) ≡ given_of front)
 begun b bs =
     let front = b ∷ bs in
-    elim (cases_lt LINE_LIMIT (length front)) [
+    elim (cases_lt HEARD_LIMIT (length front)) [
       | inl past ↦
-          let (long, same) = heard-long (given_of front) (take LINE_LIMIT front) (given_of-long b bs past) in
-          (long ∙ rw (not_le (length front) LINE_LIMIT past) refl, same)
+          let (long, same) = heard-long (given_of front) (take HEARD_LIMIT front) (given_of-long b bs past) in
+          (long ∙ rw (not_le (length front) HEARD_LIMIT past) refl, same)
       | inr short ↦
-          let (whole, same) = heard-line (given_of front) (take LINE_LIMIT front) (given_of-short b bs short) in
-          (whole ∙ ap line (take_all LINE_LIMIT front short) ∙ rw (le-leb (length front) LINE_LIMIT short) refl, same)
+          let (whole, same) = heard-line (given_of front) (take HEARD_LIMIT front) (given_of-short b bs short) in
+          (whole ∙ ap line (take_all HEARD_LIMIT front short) ∙ rw (le-leb (length front) HEARD_LIMIT short) refl, same)
     ]
 
 -- where bytes end that have no line feed, they are a line, or there is none
-pub heard-at_end : (front : List ℕ) → IsPlain front → heard (given_of front) (take LINE_LIMIT front) ≡ heard_first front
+pub heard-at_end : (front : List ℕ) → IsPlain front → heard (given_of front) (take HEARD_LIMIT front) ≡ heard_first front
 heard-at_end [] plain = refl
 heard-at_end (b ∷ bs) plain = (begun b bs).0 ∙ ap within_limit (sym (first_piece-plain (b ∷ bs) plain))
 
 -- where a line feed follows them, they are a line
-pub heard-at_feed : (front rest : List ℕ) → IsPlain front → heard (ended (given_of front)) (take LINE_LIMIT front) ≡ heard_first (front ++ 10 ∷ rest)
+pub heard-at_feed : (front rest : List ℕ) → IsPlain front → heard (ended (given_of front)) (take HEARD_LIMIT front) ≡ heard_first (front ++ 10 ∷ rest)
 heard-at_feed [] rest plain = refl
 heard-at_feed (b ∷ bs) rest plain =
     let (whole, same) = begun b bs in
-    ap (λ given. heard given (take LINE_LIMIT (b ∷ bs))) same ∙ whole ∙ ap within_limit (sym (first_piece-ended (b ∷ bs) rest plain))
+    ap (λ given. heard given (take HEARD_LIMIT (b ∷ bs))) same ∙ whole ∙ ap within_limit (sym (first_piece-ended (b ∷ bs) rest plain))
 
 -- known bytes have lost these, none a line feed, of which so many were kept
 pub record HasFront (before now : Option (List ℕ)) (given : Given) (kept : List ℕ) : Type 0 where
@@ -156,7 +156,7 @@ pub record HasFront (before now : Option (List ℕ)) (given : Given) (kept : Lis
   pub lost : Consumes before now front
   pub plain : IsPlain front
   pub is : given ≡ given_of front
-  pub most : kept ≡ take LINE_LIMIT front
+  pub most : kept ≡ take HEARD_LIMIT front
 
 -- at the start none is lost
 pub HasFront-start : (before : Option (List ℕ)) (kept : List ℕ) → kept ≡ [] → HasFront before before NoMore kept

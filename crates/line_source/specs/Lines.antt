@@ -2,7 +2,7 @@
 use Rattle.std.specs.Prelude.{◌≡◌, ◌≢◌, ℕ, List, [], ◌∷◌, ◌++◌, All, length, nat_le, nat_lt, if◌then◌else◌, Option, None, Some, IfSome}
 use Rattle.std.specs.Io.BufRead.{first_piece, drop_through}
 use Rattle.std.specs.Io.KnownBytes.{Consumes, IsAtEnd}
-use Rattle.line_source.specs.declared.TheConstants.{LINE_LIMIT}
+use Rattle.line_source.specs.declared.TheConstants.{HEARD_LIMIT}
 use Rattle.line_source.specs.declared.source.Given.{Given}
 use Rattle.line_source.specs.declared.source.Given.TheVariants.{Line, TooLong, NoMore}
 
@@ -20,7 +20,7 @@ heard NoMore bytes = no_more
 
 -- a line of these bytes, where it has no more than the limit
 abbrev pub within_limit : List ℕ → Heard
-within_limit bytes = if nat_le (length bytes) LINE_LIMIT then line bytes else too_long
+within_limit bytes = if nat_le (length bytes) HEARD_LIMIT then line bytes else too_long
 
 -- what is heard first of an input: the bytes up to its first line feed (byte 10) or its end,
 -- without that line feed; or that there are none
@@ -61,9 +61,9 @@ ended given = given
 abbrev pub extended_line : Given → List ℕ → ℕ → List ℕ
 extended_line TooLong bytes byte = bytes
 extended_line given bytes byte =
-    if nat_lt (length bytes) LINE_LIMIT then bytes ++ byte ∷ [] else bytes
+    if nat_lt (length bytes) HEARD_LIMIT then bytes ++ byte ∷ [] else bytes
 
 -- and what it is then
 abbrev pub extended : Given → List ℕ → Given
 extended TooLong bytes = TooLong
-extended given bytes = if nat_lt (length bytes) LINE_LIMIT then Line else TooLong
+extended given bytes = if nat_lt (length bytes) HEARD_LIMIT then Line else TooLong

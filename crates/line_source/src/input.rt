@@ -4,7 +4,7 @@ ghost use Rattle.std.specs.Prelude.{◌≡◌, ℕ, ◌≤◌, [], OnErr, IfOk, 
 ghost use Rattle.std.specs.Io.KnownBytes.{Keeps};
 ghost use Rattle.line_source.specs.Lines.{ended, extended, extended_line, heard, GivesByte, GivesOne, LosesFront};
 
-use crate::LINE_LIMIT;
+use crate::HEARD_LIMIT;
 use crate::source::{Given, LineSource};
 use arrayvec::ArrayVec;
 use slot_core::Failed;
@@ -15,7 +15,7 @@ use std::io::{ErrorKind, Read};
 #[derive(Drop)]
 pub struct InputLines<R> {
     reader: R,
-    line: ArrayVec<u8, LINE_LIMIT>,
+    line: ArrayVec<u8, HEARD_LIMIT>,
     faults: u64,
 }
 
@@ -76,7 +76,7 @@ impl<R: Read> LineSource for InputLines<R> {
 
 /// Reads the next line into this one, up to its line feed or the end. A line that is too long is
 /// read to its end, too.
-fn read_line<R: Read>(reader: &mut R, line: &mut ArrayVec<u8, LINE_LIMIT>) -> Result<Given, Failed>
+fn read_line<R: Read>(reader: &mut R, line: &mut ArrayVec<u8, HEARD_LIMIT>) -> Result<Given, Failed>
     ensures gives { IfOk result (λ given. GivesOne
         (R.remaining reader.old)
         (R.remaining reader.new)
@@ -125,7 +125,7 @@ fn ended(given: Given) -> Given
 }
 
 /// What is given of a line that goes on with this byte, which is appended where there is room.
-fn extended(line: &mut ArrayVec<u8, LINE_LIMIT>, given: Given, byte: u8) -> Given
+fn extended(line: &mut ArrayVec<u8, HEARD_LIMIT>, given: Given, byte: u8) -> Given
     ensures line { line.new.items ≡ extended_line given line.old.items byte }
     ensures given { result ≡ extended given line.old.items }
 {

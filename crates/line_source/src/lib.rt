@@ -7,5 +7,5 @@ pub mod source;
 pub use input::InputLines;
 pub use source::{Given, LineSource};
 
-/// Most bytes of a line, without its line feed.
-pub const LINE_LIMIT: usize = 256;
+/// Most bytes of a line that is heard, without its line feed.
+pub const HEARD_LIMIT: usize = 256;

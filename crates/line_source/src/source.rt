@@ -9,7 +9,7 @@ use slot_core::Failed;
 /// What a source gives next.
 #[derive(Clone, Copy, PartialEq, Eq)]
 pub enum Given {
-    /// A line of at most `LINE_LIMIT` bytes, which `line` has.
+    /// A line of at most `HEARD_LIMIT` bytes, which `line` has.
     Line,
     /// A line of more bytes, all of which are passed.
     TooLong,

@@ -1,8 +1,8 @@
 -- The faults of lines, and their texts.
 use Rattle.std.specs.Prelude.{ℕ, ◌-◌, List, [], ◌∷◌, ◌++◌, codes}
 use Rattle.slot_core.specs.Output.Texts.{worded}
-use Rattle.arrival_csv.specs.declared.faults.ArrivalFault.{ArrivalFault}
-use Rattle.arrival_csv.specs.declared.faults.ArrivalFault.TheVariants.{BadNumber as BadField, UnknownSporadic as UnknownName, BadKey as BadKeyField}
+use Rattle.arrival_faults.specs.declared.faults.ArrivalFault.{ArrivalFault}
+use Rattle.arrival_faults.specs.declared.faults.ArrivalFault.TheVariants.{BadNumber as BadField, UnknownSporadic as UnknownName, BadKey as BadKeyField}
 use Rattle.live_lines.specs.declared.faults.LineFault.{LineFault}
 use Rattle.live_lines.specs.declared.faults.LineFault.TheVariants.{NoCommand, BadNumber, UnknownSporadic, BadKey, TooLong, NoMoreRows, NoMoreSlots, NotUtf8}
 

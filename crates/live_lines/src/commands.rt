@@ -7,7 +7,8 @@ ghost use Rattle.arrival_csv.specs.Reading.{event_of};
 ghost use Rattle.live_lines.specs.Commands.{arrival_command, command_of_text, command_of_two, command_of_word, event_of_fields, fields_of, fits_set, live_command_of, slots_command};
 
 use crate::faults::LineFault;
-use arrival_csv::{ArrivalFault, Kind, done_of, firm_of, soft_of, sporadic_of, withdraw_of};
+use arrival_csv::{Kind, done_of, firm_of, soft_of, sporadic_of, withdraw_of};
+use arrival_faults::ArrivalFault;
 use key_texts::{cut_at, number_between};
 use slot_core::{Event, REPLAY_LIMIT, TaskSet};
 

@@ -5,7 +5,7 @@ ghost use Rattle.trace_text.specs.declared.TheConstants.{LINE_LIMIT};
 ghost use Rattle.live_lines.specs.declared.TheConstants.{FAULT_TEXT_LIMIT};
 ghost use Rattle.live_lines.specs.FaultTexts.{fault_line, line_fault, line_fault_text};
 
-use arrival_csv::ArrivalFault;
+use arrival_faults::ArrivalFault;
 use std::error::Error;
 use std::fmt;
 use trace_text::Line;
@@ -21,7 +21,7 @@ pub enum LineFault {
     UnknownSporadic,
     /// Its text is no key of the task set.
     BadKey,
-    /// It has more than `LINE_LIMIT` bytes before its line feed.
+    /// It has more than `HEARD_LIMIT` bytes before its line feed.
     TooLong,
     /// `ARRIVAL_LIMIT` arrivals were answered already.
     NoMoreRows,

@@ -5,10 +5,10 @@ use Rattle.std.proofs.lemmas.List.{length-map, length-set}
 use Rattle.slot_core.specs.declared.jobs.Span.{Span}
 use Rattle.node_chain.specs.declared.block.Node.{Node}
 use Rattle.node_chain.specs.declared.chain.NodeId.{NodeId}
-use Rattle.node_chain.specs.declared.marks.Mark.{Mark}
 use Rattle.node_chain.specs.Nodes.{node_at}
 use Rattle.node_chain.specs.Links.{next_of, prev_of, span_of, with_span, joined, parted, run, order, unused_places, times, IsLinked, Stands}
 use Rattle.node_chain.specs.Chains.{id_at, pairs_of, Chained, IsChain, IsListed}
+use Rattle.node_chain.specs.Laps.{Laps}
 use Rattle.node_chain.proofs.Counts.{some-same, times-append, times-listed, once-index, times-here}
 use Rattle.node_chain.proofs.Writes.{span-next, span-prev}
 use Rattle.node_chain.proofs.Rings.{linked-kept, run-kept, run-length, Stands-inside, IsLinked-of}
@@ -207,7 +207,7 @@ pub listed-place : (nodes : List Node) (len : ℕ) (ps : List (NodeId × Span)) 
 listed-place nodes len ps was i id e =
     id-place nodes (order nodes len) i id (subst (λ qs. id_at qs i ≡ Some id) (sym was) e)
 
-module _ {marks : List Mark} (nodes : List Node) (free len : ℕ) (l : IsLinked nodes free len) (v : Chained)
+module _ {marks : Laps} (nodes : List Node) (free len : ℕ) (l : IsLinked nodes free len) (v : Chained)
     (is : record { pairs = pairs_of nodes (order nodes len); capacity = length nodes - 1; marks = marks } ≡ v) where
   -- a chain with room has an unused place
   pub has_room : length v.pairs < v.capacity → len + 1 < length nodes

@@ -3,18 +3,14 @@ use Rattle.std.specs.Prelude.{◌≡◌, ℕ, ◌≤◌, ◌^◌, List, length, 
 use Rattle.slot_core.specs.declared.jobs.Span.{Span}
 use Rattle.node_chain.specs.declared.block.Node.{Node}
 use Rattle.node_chain.specs.declared.chain.NodeId.{NodeId}
-use Rattle.node_chain.specs.declared.marks.Mark.{Mark}
+use Rattle.node_chain.specs.Laps.{Laps}
 use Rattle.node_chain.specs.Links.{span_of}
 
--- its spans in order, each with its id, how many it has room for, and its marks
+-- its spans in order, each with its id, how many it has room for, and its laps of numbers
 pub record Chained : Type 0 where
   pub pairs : List (NodeId × Span)
   pub capacity : ℕ
-  pub marks : List Mark
-
--- a mark without numbers
-abbrev pub blank_mark : Mark
-blank_mark = record { count = 0; works = 0; low = 0 }
+  pub marks : Laps
 
 -- the id at a place of the list
 abbrev pub id_at : List (NodeId × Span) → ℕ → Option NodeId

@@ -13,6 +13,7 @@ abbrev pub ids_of : List (NodeId × Span) → List NodeId
 ids_of pairs = map (λ (p : NodeId × Span). p.0) pairs
 
 -- these are the ids of the pairs in their order, with places for so many
-pub record KeepsOrder (pairs : List (NodeId × Span)) (room : ℕ) (order : OrderParts NodeId) : Type 0 where
+pub record KeepsOrder (pairs : List (NodeId × Span)) (room : ℕ) (order : OrderParts NodeId) :
+    Type 0 where
   pub ids : order.items ≡ ids_of pairs
   pub fits : room ≤ order.places

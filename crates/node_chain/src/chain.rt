@@ -1,13 +1,14 @@
 //! The chain.
 
-ghost use Rattle.std.specs.Prelude.{◌≡◌, ℕ, ◌+◌, ◌≤◌, ◌<◌, ◌^◌, [], ◌∷◌, ◌++◌, drop, insert, length, replicate, Some, None, IfOk, slice_get, slice_set};
+ghost use Rattle.std.specs.Prelude.{◌≡◌, ℕ, ◌+◌, ◌≤◌, ◌<◌, ◌^◌, [], ◌∷◌, ◌++◌, drop, insert, length, Some, None, IfOk, slice_get, slice_set};
 ghost use Rattle.slot_core.specs.declared.jobs.Span.{Span};
 ghost use Rattle.node_chain.specs.declared.marks.TheConstants.{LAP};
-ghost use Rattle.node_chain.specs.Chains.{blank_mark, id_at, id_of, span_at, IsChain, IsListed};
+ghost use Rattle.node_chain.specs.Chains.{id_at, id_of, span_at, IsChain, IsListed};
+ghost use Rattle.node_chain.specs.Laps.{blank_laps};
 
 use crate::block::Block;
 use crate::links::{ENDS, join, part, set_next};
-use crate::marks::{Mark, Marks};
+use crate::marks::{Lift, Mark, Marks};
 use crate::order::Order;
 use slot_core::{Memory, Span, Steps};
 use std::alloc::Global;
@@ -27,7 +28,7 @@ pub struct NodeId(pub u32);
 /// through those before it where it is told an id. An append moves all of them to the front of
 /// their places where none is free behind.
 ///
-/// It also keeps a lap of marks, which no call on spans changes.
+/// It also keeps a lap of marks and one of lifts, which no call on spans changes.
 #[derive(Drop)]
 pub struct Chain {
     block: Block,
@@ -57,14 +58,14 @@ impl Model for Chain {
 }
 
 impl Chain {
-    /// An empty chain with room for `n` spans, of about 44 bytes each, and 6 KB of marks without
-    /// numbers.
+    /// An empty chain with room for `n` spans, of about 44 bytes each, and 10 KB of marks and lifts
+    /// without numbers.
     pub fn with_capacity(alloc: Global, n: u32) -> Result<Chain, Memory>
         requires some { 1 ≤ n }
         requires small { n ≤ 2 ^ 20 }
         ensures empty { IfOk result (λ made. made.pairs ≡ []) }
         ensures capacity { IfOk result (λ made. made.capacity ≡ n) }
-        ensures marks { IfOk result (λ made. made.marks ≡ replicate LAP blank_mark) }
+        ensures marks { IfOk result (λ made. made.marks ≡ blank_laps) }
     {
         let mut block = Block::new(alloc, n + 1)?;
         set_next(&mut block, ENDS, ENDS);
@@ -261,7 +262,7 @@ impl Chain {
     /// The mark at an index.
     pub fn mark(&self, index: u32) -> Mark
         requires { index < LAP }
-        ensures { slice_get self.now.marks index ≡ Some result }
+        ensures { slice_get self.now.marks.marks index ≡ Some result }
     {
         self.marks.at(index)
     }
@@ -271,9 +272,29 @@ impl Chain {
         requires { index < LAP }
         ensures pairs { self.new.pairs ≡ self.old.pairs }
         ensures capacity { self.new.capacity ≡ self.old.capacity }
-        ensures marks { self.new.marks ≡ slice_set self.old.marks index mark }
+        ensures marks { self.new.marks
+            ≡ record self.old.marks { marks = slice_set self.old.marks.marks index mark } }
     {
         self.marks.set(index, mark);
+    }
+
+    /// The lift at an index.
+    pub fn lift(&self, index: u32) -> Lift
+        requires { index < LAP }
+        ensures { slice_get self.now.marks.lifts index ≡ Some result }
+    {
+        self.marks.lift_at(index)
+    }
+
+    /// Puts another lift at an index.
+    pub fn set_lift(&mut self, index: u32, lift: Lift)
+        requires { index < LAP }
+        ensures pairs { self.new.pairs ≡ self.old.pairs }
+        ensures capacity { self.new.capacity ≡ self.old.capacity }
+        ensures marks { self.new.marks
+            ≡ record self.old.marks { lifts = slice_set self.old.marks.lifts index lift } }
+    {
+        self.marks.set_lift(index, lift);
     }
 }
 

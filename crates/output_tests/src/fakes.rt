@@ -1,5 +1,7 @@
 //! A runtime, its files and a writer whose calls answer what a script says.
 
+ghost use Rattle.std.specs.Prelude.{◌≡◌, false};
+
 use std::alloc::{Allocator, Global};
 use std::fs::{Metadata, OpenFile, OpenOptions};
 use std::io::{self, Error, ErrorKind, Read, Seek, SeekFrom, Write};
@@ -30,7 +32,11 @@ pub struct Script {
 
 impl Script {
     /// A file of which nothing was read or written.
-    pub fn new(turns: &'static [Turn], taken: Vec<u8>) -> Script {
+    pub fn new(turns: &'static [Turn], taken: Vec<u8>) -> Script
+        ensures turns { result.turns.now ≡ turns.now }
+        ensures flushes { result.flush_fails ≡ false }
+        ensures taken { result.taken ≡ taken }
+    {
         Script {
             turns,
             flush_fails: false,

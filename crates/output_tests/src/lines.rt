@@ -166,7 +166,8 @@ const LONG_ENTRIES: [(What, &str); 5] = [
     ),
     (
         What::Firm(ROW, ROW, ROW, Firm::NoRoom(MOST)),
-        "firm 4294967295 4294967295 4294967295 noroom 18446744073709551615 18446744073709551615 18446744073709551615",
+        "firm 4294967295 4294967295 4294967295 \
+        noroom 18446744073709551615 18446744073709551615 18446744073709551615",
     ),
     (
         What::Sporadic(ROW, 1, Spo::Taken(LAST)),
@@ -174,7 +175,8 @@ const LONG_ENTRIES: [(What, &str); 5] = [
     ),
     (
         What::Done(ROW, LONGEST, Done::Freed(ROW)),
-        "done 4294967295 graph-name-of-24-bytes_x.Task_name-of-24-bytes-yz#18446744073709551615 freed 4294967295",
+        "done 4294967295 graph-name-of-24-bytes_x.Task_name-of-24-bytes-yz#18446744073709551615 \
+        freed 4294967295",
     ),
     (
         What::Run(Key::Sporadic(1, ROW)),
@@ -256,8 +258,8 @@ fn job(key: Key, est: u64, dl: u64, declared: u32) -> Job {
 fn writes_the_lines_of_a_plan(rt: HostRuntime) -> Result<(), Fail> {
     let short = job(Key::Offline(0, 0, 0), 0, 7, 2);
     let long = job(LONGEST, LAST, LAST, ROW);
-    let line =
-        "job graph-name-of-24-bytes_x.Task_name-of-24-bytes-yz#18446744073709551615 18446744073709551615 18446744073709551615 4294967295\n";
+    let line = "job graph-name-of-24-bytes_x.Task_name-of-24-bytes-yz#18446744073709551615 \
+        18446744073709551615 18446744073709551615 4294967295\n";
     let tasks = long_names_set(rt.alloc())?;
     expect_job(&rt, &short, &tasks, "job g.a#0 0 7 2\n");
     expect_job(&rt, &long, &tasks, line);

@@ -1,5 +1,7 @@
 //! Refusals and their lines.
 
+ghost use Rattle.std.specs.Prelude.{◌≡◌, ◌∷◌, [], codes, IfOk};
+
 use arrival_csv::ArrivalFault;
 use run_outcome::{File, Refusal, Status, report};
 use slot_core::{Field, Part, Place, TaskFault, Window, Words};
@@ -72,7 +74,7 @@ const REFUSALS: [(Refusal, Status, &str); 11] = [
 
 #[test]
 fn tells_refusals_in_one_put(rt: HostRuntime) -> Result<(), Fail> {
-    let words = words_of(rt.alloc())?;
+    let words = replay_words(rt.alloc())?;
     for (refusal, status, line) in REFUSALS {
         assert!(rt;
             is_told(rt.alloc(), &words, refusal, status, line)?,
@@ -83,11 +85,15 @@ fn tells_refusals_in_one_put(rt: HostRuntime) -> Result<(), Fail> {
 }
 
 /// The words of a replay.
-fn words_of(alloc: Global) -> Result<Words, Fail> {
+fn replay_words(alloc: Global) -> Result<Words, Fail>
+    ensures { IfOk result (λ words. words
+        ≡ codes "replay" ∷ codes "a.toml" ∷ codes "none.csv" ∷ codes "2" ∷ []) }
+{
     let mut words = Words::new(alloc);
-    for word in "replay a.toml none.csv 2".split(' ') {
-        words.push(word)?;
-    }
+    words.push("replay")?;
+    words.push("a.toml")?;
+    words.push("none.csv")?;
+    words.push("2")?;
     Ok(words)
 }
 

@@ -67,7 +67,7 @@ held_alike apart row key other stand mine its =
     ap (λ r. row_holds r key) same ∙ row_of-holds apart key
 
 -- one more of a list is counted
-count_by-cons : {X : Type 0} (p : X → Bool) (x : X) (xs : List X) → count_by p (x ∷ xs) ≡ cond (p x) 1 0 + count_by p xs
+pub count_by-cons : {X : Type 0} (p : X → Bool) (x : X) (xs : List X) → count_by p (x ∷ xs) ≡ cond (p x) 1 0 + count_by p xs
 count_by-cons p x xs = sum_by-cons (λ y. cond (p y) 1 0) x xs
 
 -- where no row holds the job of a key, none holds a job that the row of the key would hold

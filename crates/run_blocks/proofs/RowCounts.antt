@@ -3,20 +3,16 @@ use Rattle.std.proofs.Common.{◌≡◌, ℕ, ◌+◌, ◌≤◌, Bool, true, fa
 use Rattle.std.specs.Prelude.{count_by}
 use Rattle.std.specs.List.{list_all, list_any}
 use Rattle.std.proofs.lemmas.Bool.{and_parts}
-use Rattle.std.proofs.lemmas.List.Sums.{sum_by-cons}
 use Rattle.trace_lines.specs.declared.line.KeyName.{KeyName}
 use Rattle.run_blocks.specs.declared.rows.Row.{Row}
 use Rattle.run_blocks.specs.Rows.{AreDistinct, AreRowsOf, row_holds}
-
--- the first item counts where it passes
-count-cons : {X : Type 0} (p : X → Bool) (x : X) (xs : List X) → count_by p (x ∷ xs) ≡ cond (p x) 1 0 + count_by p xs
-count-cons p x xs = sum_by-cons (λ y. cond (p y) 1 0) x xs
+use Rattle.run_blocks.proofs.DistinctRows.{count_by-cons}
 
 -- no item passes a test that none passes
 none-pass : {X : Type 0} (xs : List X) → count_by (λ (x : X). false) xs ≡ 0
 none-pass [] = refl
 none-pass (x ∷ xs) =
-    let first = count-cons (λ y. false) x xs in
+    let first = count_by-cons (λ y. false) x xs in
     let more = none-pass xs in
     omega (arith, first, more)
 
@@ -25,7 +21,7 @@ all-pass : {X : Type 0} (p : X → Bool) (xs : List X) → list_all p xs ≡ tru
 all-pass p [] all = refl
 all-pass p (x ∷ xs) all =
     let (here, rest) = and_parts (p x) (list_all p xs) all in
-    let first = count-cons p x xs in
+    let first = count_by-cons p x xs in
     let own : ◌≡◌ {A = ℕ} (cond (p x) 1 0) 1 = rw here refl in
     omega (arith, first, own, all-pass p xs rest)
 
@@ -39,9 +35,9 @@ one-passes false false = omega arith
 either-passes : {X : Type 0} (p q : X → Bool) (xs : List X) → count_by (λ x. p x || q x) xs ≤ count_by p xs + count_by q xs
 either-passes p q [] = omega arith
 either-passes p q (x ∷ xs) =
-    let either = count-cons (λ y. p y || q y) x xs in
-    let first = count-cons p x xs in
-    let second = count-cons q x xs in
+    let either = count_by-cons (λ y. p y || q y) x xs in
+    let first = count_by-cons p x xs in
+    let second = count_by-cons q x xs in
     omega (arith, either, first, second, one-passes (p x) (q x), either-passes p q xs)
 
 -- of rows of which no job has two, no more hold a job of the runs than there are runs

@@ -71,7 +71,7 @@ pub fn rows_of(alloc: Global, lines: &[TraceLine]) -> Result<Vec<Row>, Memory>
     ensures distinct { IfOk result (λ rows. AreDistinct rows.items) }
 
     // A firm job has a row of its own where few run, and else none has.
-    ensures apart { IfOk result
+    ensures firm_rows { IfOk result
         (λ rows. may_all_stand (have_few_firms (runs_of lines.now)) rows.items ≡ true) }
 {
     let apart = has_few_firm_jobs(alloc, lines)?;

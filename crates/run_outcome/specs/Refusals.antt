@@ -4,9 +4,9 @@ use Rattle.slot_core.specs.Output.FaultTexts.{task_fault_text, infeasible_text}
 use Rattle.slot_core.specs.Output.Texts.{worded}
 use Rattle.slot_core.specs.declared.faults.TaskFault.{TaskFault}
 use Rattle.slot_core.specs.declared.faults.TaskFault.TheVariants.{Memory as TasksMemory}
-use Rattle.arrival_csv.specs.FaultTexts.{arrival_fault_text}
-use Rattle.arrival_csv.specs.declared.faults.ArrivalFault.{ArrivalFault}
-use Rattle.arrival_csv.specs.declared.faults.ArrivalFault.TheVariants.{Memory as ArrivalsMemory}
+use Rattle.arrival_faults.specs.FaultTexts.{arrival_fault_text}
+use Rattle.arrival_faults.specs.declared.faults.ArrivalFault.{ArrivalFault}
+use Rattle.arrival_faults.specs.declared.faults.ArrivalFault.TheVariants.{Memory as ArrivalsMemory}
 use Rattle.table_faults.specs.FaultTexts.{table_fault_text}
 use Rattle.table_faults.specs.declared.faults.TableFault.{TableFault}
 use Rattle.table_faults.specs.declared.faults.TableFault.TheVariants.{Memory as TableMemory}

@@ -16,7 +16,7 @@ pub fn push(line: &mut Vec<u8>, bytes: &[u8]) -> Result<(), Memory>
 }
 
 /// Appends a space and the number.
-pub fn push_number(line: &mut Vec<u8>, number: u64) -> Result<(), Memory>
+pub(crate) fn push_number(line: &mut Vec<u8>, number: u64) -> Result<(), Memory>
     ensures { OnOk result (line.new.items ≡ line.old.items ++ 32 ∷ decimal number) }
 {
     let mut buffer = Buffer::new();
@@ -33,7 +33,7 @@ pub fn push_worded(line: &mut Vec<u8>, word: &[u8], number: u64) -> Result<(), M
 }
 
 /// Appends the window that fails.
-pub fn push_window(line: &mut Vec<u8>, window: Window) -> Result<(), Memory>
+pub(crate) fn push_window(line: &mut Vec<u8>, window: Window) -> Result<(), Memory>
     ensures { OnOk result (line.new.items ≡ line.old.items ++ infeasible_text window) }
 {
     push_worded(line, b"infeasible", window.from)?;

@@ -5,7 +5,7 @@ ghost use Rattle.run_outcome.specs.Refusals.{refusal_status, refusal_of_task_fau
 ghost use Rattle.run_outcome.specs.declared.refusal.Refusal.TheVariants.{WriteFault as WriteRefusal, Memory as MemoryRefusal};
 
 use crate::{File, Reason, Status};
-use arrival_csv::ArrivalFault;
+use arrival_faults::ArrivalFault;
 use slot_core::{Evidence, Failed, Memory, TaskFault, Window};
 use table_faults::TableFault;
 

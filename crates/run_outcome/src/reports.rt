@@ -3,14 +3,14 @@
 ghost use Rattle.std.specs.Prelude.{◌≡◌, ◌++◌, ℕ, List, false, IfOk, IfSome, OnOk, codes, is_some};
 ghost use Rattle.slot_core.specs.Output.FaultTexts.{task_fault_text};
 ghost use Rattle.slot_core.specs.Output.Texts.{worded};
-ghost use Rattle.arrival_csv.specs.FaultTexts.{arrival_fault_text};
+ghost use Rattle.arrival_faults.specs.FaultTexts.{arrival_fault_text};
 ghost use Rattle.table_faults.specs.FaultTexts.{table_fault_text};
 ghost use Rattle.run_outcome.specs.Refusals.{reason_of, refusal_line, has_fixed_line};
 ghost use Rattle.run_outcome.specs.Reports.{IsTold, IsReport};
 
 use crate::append::{push, push_number, push_window, push_worded};
 use crate::{OUT_OF_MEMORY, Refusal};
-use arrival_csv::ArrivalFault;
+use arrival_faults::ArrivalFault;
 use slot_core::{Evidence, Memory, TaskFault, Words};
 use slot_io::Sink;
 use std::alloc::Global;

@@ -1,4 +1,5 @@
-//! What is written of the run of an executive: its trace, the chart or the counts of it, or one row.
+//! What is written of the run of an executive: its trace, the chart or the counts of it, or one
+//! row.
 #![tactic(auto)]
 
 ghost use Rattle.std.specs.Prelude.{◌≡◌, true, []};

@@ -30,8 +30,8 @@ pub(crate) struct RefusedOffer {
 }
 
 /// Brings an executive that has just started to this row, and writes the line of its entry, and
-/// where that refuses an offer for want of room what stands against it. Both parts take their memory
-/// before their first put.
+/// where that refuses an offer for want of room what stands against it. Both parts take their
+/// memory before their first put.
 pub(crate) fn tell_row<K: Sink>(
     alloc: Global,
     exec: &mut Exec<ChainTable>,

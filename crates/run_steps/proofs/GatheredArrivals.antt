@@ -6,7 +6,7 @@ use Rattle.slot_core.specs.declared.tasks.TaskSet.{TaskSet}
 use Rattle.slot_core.specs.Runs.Arrivals.{are_fitting}
 use Rattle.slot_core.specs.Keeping.Plans.{PlanParts}
 use Rattle.slot_core.specs.Calls.Results.{◌>>=◌}
-use Rattle.arrival_csv.specs.declared.faults.ArrivalFault.{ArrivalFault}
+use Rattle.arrival_faults.specs.declared.faults.ArrivalFault.{ArrivalFault}
 use Rattle.arrival_csv.specs.Reading.{reading_of_arrivals}
 use Rattle.arrival_csv.proofs.ReadArrivals.{are_fitting-reading}
 use Rattle.load_gen.specs.LoadArrivals.{load_arrivals}

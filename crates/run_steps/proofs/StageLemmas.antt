@@ -5,7 +5,7 @@ use Rattle.std.specs.Option.{option_map_or}
 use Rattle.std.specs.Result.{result_map_both}
 use Rattle.slot_core.specs.Calls.Results.{◌>>=◌}
 use Rattle.arrival_csv.specs.Reading.{reading_of_arrivals}
-use Rattle.arrival_csv.specs.declared.faults.ArrivalFault.{ArrivalFault}
+use Rattle.arrival_faults.specs.declared.faults.ArrivalFault.{ArrivalFault}
 use Rattle.slot_core.specs.declared.events.Arrival.{Arrival}
 use Rattle.slot_core.specs.declared.faults.TaskFault.{TaskFault}
 use Rattle.slot_core.specs.declared.jobs.Window.{Window}

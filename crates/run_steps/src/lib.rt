@@ -23,8 +23,8 @@ use run_outcome::{File, Reason, Refusal};
 use slot_core::{Arrival, TaskSet, Words};
 use slot_io::{Files, ReadFault};
 use std::alloc::Global;
-use trace_verify::verify;
-use verify_faults::{VerifyFault, fault_text};
+use trace_verify::{fault_text, verify};
+use verify_faults::VerifyFault;
 
 /// The bytes of a file of the command line, where they are within its limit.
 fn read_file<F: Files>(

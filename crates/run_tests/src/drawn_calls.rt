@@ -1,4 +1,5 @@
-//! Calls that a generator draws, each time against capacities from nothing.
+//! Calls that a generator draws, each time against capacities from nothing, on spans of several
+//! pages of time.
 
 ghost use Rattle.std.specs.Prelude.{◌≡◌, ◌<◌, [], ◌∷◌, IsTrue};
 ghost use Rattle.spare_capacity.specs.Recurrence.{FollowOn};
@@ -27,13 +28,13 @@ fn drawn_calls<R: Abort, L: Ledger>(rt: &R, alloc: Global, blank: Blank) -> Resu
     requires parts { blank.parts ≡ L.parts }
     requires some { 0 < L.parts }
 {
-    let cycle = [span(0, 4, 1, 1), span(4, 10, 8, -2)];
+    let cycle = [span(0, 16, 4, 4), span(16, 40, 32, -8)];
     let mut steps: Steps<L> = Steps::new(blank);
     let mut table = RowTable::with_room(alloc, &cycle, 3, ROOM)?;
     let mut chain = ChainTable::with_room(alloc, &cycle, 3, ROOM)?;
     let mut list = Vec::new(alloc);
     for copy in 0..3 {
-        append(&mut list, 10 * copy)?;
+        append(&mut list, 40 * copy)?;
     }
     let mut word: u64 = 1;
     for _call in 0..3000 {
@@ -85,7 +86,7 @@ fn call<T: SpareTable, L: Ledger>(table: &mut T, word: u64, steps: &mut Steps<L>
         }
         4 => {
             if free && end <= 1_000_000 {
-                table.append_cycle(&[span(0, 4, 1, 1), span(4, 10, 8, -2)], steps);
+                table.append_cycle(&[span(0, 16, 4, 4), span(16, 40, 32, -8)], steps);
             }
         }
         _ => {
@@ -191,8 +192,8 @@ fn plain_pass(list: &mut Vec<Span>) {
 
 /// Appends the cycle, so many slots later.
 fn append(list: &mut Vec<Span>, by: u64) -> Result<(), Memory> {
-    list.push(span(by, by.saturating_add(4), 1, 0))?;
-    list.push(span(by.saturating_add(4), by.saturating_add(10), 8, 0))?;
+    list.push(span(by, by.saturating_add(16), 4, 0))?;
+    list.push(span(by.saturating_add(16), by.saturating_add(40), 32, 0))?;
     Ok(())
 }
 

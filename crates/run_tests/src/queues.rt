@@ -27,11 +27,13 @@ enum Call {
     TakeReady(u64, Key),
 }
 
-// Two tasks of a graph of period 8, the second after the first, in their first instances, and an
-// alarm and an offer that come before the first slot.
-#[test]
-fn answers_calls_in_a_row(rt: HostRuntime) -> Result<(), Fail> {
-    let calls = [
+/// A call, what it answers, and how many jobs it leaves.
+type Answered = (Call, Option<Job>, u32);
+
+/// Calls in the first cycle of two tasks of a graph of period 8, the second after the first, with
+/// an alarm and an offer that come before the first slot.
+fn first_calls() -> [Answered; 27] {
+    [
         (insert(first(0), 0, 7, 2), None, 1),
         (insert(second(0), 2, 8, 1), None, 2),
         (insert(first(1), 8, 15, 2), None, 3),
@@ -60,7 +62,12 @@ fn answers_calls_in_a_row(rt: HostRuntime) -> Result<(), Fail> {
         (Call::TakeReady(4, OFFER), some(OFFER, 0, 7, 3), 2),
         (Call::TakeReady(4, OFFER), None, 2),
         (Call::Earliest(7), None, 2),
-        // the ring of listed jobs begins anew
+    ]
+}
+
+/// Calls after them, by which the ring of listed jobs begins anew.
+fn later_calls() -> [Answered; 20] {
+    [
         (insert(first(2), 16, 23, 2), None, 3),
         (insert(second(2), 18, 24, 1), None, 4),
         (insert(first(3), 24, 31, 2), None, 5),
@@ -82,18 +89,16 @@ fn answers_calls_in_a_row(rt: HostRuntime) -> Result<(), Fail> {
         (Call::Ran(OFFER), None, 3),
         (Call::Take(first(2)), some(first(2), 16, 23, 2), 2),
         (Call::Earliest(30), some(second(2), 18, 24, 1), 2),
-    ];
-    each_call::<HostRuntime, Brand>(&rt, rt.alloc(), &calls, Blank::new(1))
+    ]
 }
 
-/// Makes the calls of a queue with six places, and compares what each answers and how many jobs it
-/// leaves.
-fn each_call<R: Abort, L: Ledger>(
-    rt: &R,
-    alloc: Global,
-    calls: &[(Call, Option<Job>, u32)],
-    blank: Blank,
-) -> Result<(), Fail>
+#[test]
+fn answers_calls_in_a_row(rt: HostRuntime) -> Result<(), Fail> {
+    make_calls::<HostRuntime, Brand>(&rt, rt.alloc(), Blank::new(1))
+}
+
+/// Makes the calls of a queue with six places.
+fn make_calls<R: Abort, L: Ledger>(rt: &R, alloc: Global, blank: Blank) -> Result<(), Fail>
     requires name { blank.name ≡ L.name }
     requires parts { blank.parts ≡ L.parts }
     requires some { 0 < L.parts }
@@ -101,11 +106,22 @@ fn each_call<R: Abort, L: Ledger>(
     let mut steps: Steps<L> = Steps::new(blank);
     let mut queue = JobQueue::with_capacity(alloc, 6)?;
     assert!(rt; (queue.len(), queue.capacity()) == (0, 6));
+    expect_answers(rt, &mut queue, &mut steps, &first_calls());
+    expect_answers(rt, &mut queue, &mut steps, &later_calls());
+    Ok(())
+}
+
+/// Each call answers so, and leaves so many jobs.
+fn expect_answers<R: Abort, L: Ledger>(
+    rt: &R,
+    queue: &mut JobQueue,
+    steps: &mut Steps<L>,
+    calls: &[Answered],
+) {
     for (call, answer, count) in calls {
-        assert!(rt; answer_of(&mut queue, *call, &mut steps) == *answer);
+        assert!(rt; answer_of(queue, *call, steps) == *answer);
         assert!(rt; queue.len() == *count);
     }
-    Ok(())
 }
 
 /// What the call answers.

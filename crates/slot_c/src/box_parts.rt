@@ -19,7 +19,7 @@ impl<T, A: Allocator> Model for BoxParts<T, A> {
 
 impl<T, A: Allocator> BoxParts<T, A> {
     /// The parts of a box.
-    pub fn of(whole: Box<T, A>) -> BoxParts<T, A>
+    pub(crate) fn of(whole: Box<T, A>) -> BoxParts<T, A>
     where
         T: Drop,
         ensures { result.value ≡ whole.value }
@@ -29,7 +29,7 @@ impl<T, A: Allocator> BoxParts<T, A> {
     }
 
     /// The box again.
-    pub fn into_box(self) -> Box<T, A>
+    pub(crate) fn into_box(self) -> Box<T, A>
         ensures { result.value ≡ self.value }
     {
         let BoxParts { at, alloc } = self;

@@ -71,7 +71,7 @@ pub struct Slots {
 
 impl Slots {
     /// No executive.
-    pub fn closed(alloc: Global) -> Slots
+    pub(crate) fn closed(alloc: Global) -> Slots
         ensures closed { result.open ≡ false }
         ensures valid { result.open ≡ result.handle.there }
     {
@@ -82,7 +82,7 @@ impl Slots {
     }
 
     /// This executive.
-    pub fn opened(exec: Box<Exec<ChainTable>>) -> Slots
+    pub(crate) fn opened(exec: Box<Exec<ChainTable>>) -> Slots
         ensures open { result.open ≡ true }
         ensures valid { result.open ≡ result.handle.there }
         ensures value { result.handle.value ≡ exec.value }
@@ -94,7 +94,7 @@ impl Slots {
     }
 
     /// The executive, which is taken out.
-    pub fn take(&mut self, alloc: Global) -> Box<Exec<ChainTable>>
+    pub(crate) fn take(&mut self, alloc: Global) -> Box<Exec<ChainTable>>
         requires open { self.old.open ≡ true }
         requires valid { self.old.open ≡ self.old.handle.there }
         ensures value { result.value ≡ self.old.handle.value }

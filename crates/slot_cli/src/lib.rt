@@ -3,7 +3,7 @@
 
 ghost use Rattle.std.specs.Prelude.{◌≡◌, ◌≢◌, ◌↔◌, ◌⊎◌, ℕ, true, List, None, Some, Ok, Err, IfSome};
 ghost use Rattle.std.specs.Io.KnownBytes.{Appends};
-ghost use Rattle.arrival_csv.specs.declared.faults.ArrivalFault.{ArrivalFault};
+ghost use Rattle.arrival_faults.specs.declared.faults.ArrivalFault.{ArrivalFault};
 ghost use Rattle.slot_core.specs.declared.events.Arrival.{Arrival};
 ghost use Rattle.slot_core.specs.declared.faults.TaskFault.{TaskFault};
 ghost use Rattle.slot_core.specs.declared.jobs.Window.{Window};

@@ -32,12 +32,12 @@ use Rattle.scene_steps.specs.SporadicArrivals.{arrival_answer, is_too_soon, jobs
 use Rattle.scene_steps.specs.Steps.{separation_of}
 use Rattle.scene_steps.proofs.Rows.JobWorks.{work_between-without}
 use Rattle.scene_steps.proofs.Spans.Proper.{horizon-at_most}
-use Rattle.slot_exec.specs.declared.rooms.Room.{Room}
+use Rattle.slot_exec.specs.declared.rooms.Remembered.{Remembered}
 use Rattle.slot_exec.specs.Rooms.{due_left, due_told, due_with, free_beside, Remembers, RemembersScene}
 use Rattle.slot_exec.proofs.SceneRooms.{work_by-after}
 
 -- where no more is needed, the same slots are free; and what is due by `tight` is what is said of it
-pub Remembers-changed : (need later work more : ℕ → ℕ) (t end : ℕ) (room : Room) (due : ℕ) → ((x : ℕ) → later x ≤ need x) → (room.due ≡ work room.tight → due ≡ more room.tight) → Remembers need work t end room → Remembers later more t end (record room { due = due })
+pub Remembers-changed : (need later work more : ℕ → ℕ) (t end : ℕ) (room : Remembered) (due : ℕ) → ((x : ℕ) → later x ≤ need x) → (room.due ≡ work room.tight → due ≡ more room.tight) → Remembers need work t end room → Remembers later more t end (record room { due = due })
 Remembers-changed need later work more t end room due fewer changed is =
     record {
       free = λ x low high some. omega (arith, is.free x low high (omega (arith, fewer x)), fewer x);
@@ -76,7 +76,7 @@ offered-free true dl x t free (suc n) left e later is fits some =
 offered-free false dl x t free need left e later is fits some =
     omega (arith, is (omega arith))
 
-pub Remembers-offered : (need later work more : ℕ → ℕ) (t end : ℕ) (job : Job) (room : Room) → job.est ≡ t → ((x : ℕ) → later x ≡ need x + slots_due job x) → ((x : ℕ) → more x ≡ work x + slots_due job x) → ((x : ℕ) → t < x → x ≤ end → later x ≤ x - t) → Remembers need work t end room → Remembers later more t end (record { free = free_beside job room.free; tight = room.tight; due = due_with job room.tight room.due })
+pub Remembers-offered : (need later work more : ℕ → ℕ) (t end : ℕ) (job : Job) (room : Remembered) → job.est ≡ t → ((x : ℕ) → later x ≡ need x + slots_due job x) → ((x : ℕ) → more x ≡ work x + slots_due job x) → ((x : ℕ) → t < x → x ≤ end → later x ≤ x - t) → Remembers need work t end room → Remembers later more t end (record { free = free_beside job room.free; tight = room.tight; due = due_with job room.tight room.due })
 Remembers-offered need later work more t end job room now needs works fits is =
     record {
       free = λ x low high some.
@@ -122,7 +122,7 @@ arrival-needs ss nexts index row t x s at same apart came =
     (sym job)
     held
 
-module _ (exec : Executive) (plan : IsPlan exec.plan) (stands : StandsForSome exec) (room : Room) (is : RemembersScene exec.plan.tasks.sporadics exec.plan.cycle exec.scene exec.scene.time room) where
+module _ (exec : Executive) (plan : IsPlan exec.plan) (stands : StandsForSome exec) (room : Remembered) (is : RemembersScene exec.plan.tasks.sporadics exec.plan.cycle exec.scene exec.scene.time room) where
   abbrev set : TaskSet
   set = exec.plan.tasks
 
@@ -151,7 +151,7 @@ module _ (exec : Executive) (plan : IsPlan exec.plan) (stands : StandsForSome ex
 
   module _ (scene : Scene) (now : scene.time ≡ t) where
     -- what is remembered of the scene at this time is so at its own
-    at_now : (kept : Room) → Remembers (need_by set.sporadics scene t) (work_by scene.jobs) t (horizon cycle t) kept → RemembersScene set.sporadics cycle scene scene.time kept
+    at_now : (kept : Remembered) → Remembers (need_by set.sporadics scene t) (work_by scene.jobs) t (horizon cycle t) kept → RemembersScene set.sporadics cycle scene scene.time kept
     at_now kept =
         subst (λ u. Remembers (need_by set.sporadics scene u) (work_by scene.jobs) u (horizon cycle u) kept) (sym now)
 

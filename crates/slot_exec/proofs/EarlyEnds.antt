@@ -21,13 +21,13 @@ use Rattle.scene_steps.proofs.Ends.EndedSpans.{spans-ended, AreDueInSpans-scene}
 use Rattle.scene_steps.proofs.Ends.Started.{ending_job-listed}
 use Rattle.scene_steps.proofs.Ends.EndEvents.{Does-done}
 use Rattle.scene_steps.proofs.Slots.NewParts.{parts-same}
-use Rattle.slot_exec.specs.declared.rooms.Room.{Room}
+use Rattle.slot_exec.specs.declared.rooms.Remembered.{Remembered}
 use Rattle.slot_exec.specs.Rooms.{due_left, RemembersScene}
 use Rattle.slot_exec.specs.Parts.{executive, IsExecutive}
 use Rattle.slot_exec.proofs.EventParts.{IsExecutive-after}
 use Rattle.slot_exec.proofs.ChangedRooms.{RemembersScene-left}
 
-module _ (exec now : Executive) (rows : List Span) (reserved : List Sporadic) (limit capacity most row : ℕ) (key : Key) {known : Room} (is : IsExecutive exec rows reserved limit capacity most known) (same : exec ≡ now) where
+module _ (exec now : Executive) (rows : List Span) (reserved : List Sporadic) (limit capacity most row : ℕ) (key : Key) {known : Remembered} (is : IsExecutive exec rows reserved limit capacity most known) (same : exec ≡ now) where
   -- all that the jobs have left is due in the spans
   pub due-before : AreDueInSpans exec.scene.jobs rows
   due-before =

@@ -10,12 +10,12 @@ use Rattle.slot_core.specs.Runs.Spans.{spans_of}
 use Rattle.slot_core.specs.Runs.Traces.{Occurrence}
 use Rattle.sporadic_reserve.specs.Reserves.{without_name}
 use Rattle.scene_steps.proofs.Same.Events.{StandsForSome-from_does}
-use Rattle.slot_exec.specs.declared.rooms.Room.{Room}
+use Rattle.slot_exec.specs.declared.rooms.Remembered.{Remembered}
 use Rattle.slot_exec.specs.Rooms.{RemembersScene}
 use Rattle.slot_exec.specs.Parts.{span_room, job_room, IsExecutive}
 
 -- where the table has the spans of the new scene, the time is within its bound, the room stays, and what is remembered is so, the parts agree again
-pub IsExecutive-after : (before after : Executive) (next : Occurrence) (what : What) (rows later : List Span) (reserved : List Sporadic) (limit capacity most places room ring : ℕ) (known kept : Room) → IsExecutive before rows reserved limit capacity most known → Does before after next what → after.scene.time ≤ 2 ^ 32 → later ≡ spans_of before.plan.cycle after.scene → places ≡ limit → room ≡ capacity → ring ≡ most → RemembersScene before.plan.tasks.sporadics before.plan.cycle after.scene after.scene.time kept → IsExecutive after later reserved places room ring kept
+pub IsExecutive-after : (before after : Executive) (next : Occurrence) (what : What) (rows later : List Span) (reserved : List Sporadic) (limit capacity most places room ring : ℕ) (known kept : Remembered) → IsExecutive before rows reserved limit capacity most known → Does before after next what → after.scene.time ≤ 2 ^ 32 → later ≡ spans_of before.plan.cycle after.scene → places ≡ limit → room ≡ capacity → ring ≡ most → RemembersScene before.plan.tasks.sporadics before.plan.cycle after.scene after.scene.time kept → IsExecutive after later reserved places room ring kept
 IsExecutive-after before after next what rows later reserved limit capacity most places room ring known kept is does early spans same_places same_room same_ring remembers =
     let stays : before.plan ≡ after.plan = sym does.plan in
     record {

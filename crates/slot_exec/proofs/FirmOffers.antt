@@ -34,7 +34,7 @@ use Rattle.scene_steps.proofs.Same.Events.{StandsForSome-from_does}
 use Rattle.scene_steps.proofs.Slots.NewParts.{parts-same}
 use Rattle.scene_steps.proofs.Spans.Executives.{deadline-by_last_end, first_spare-positive, last_end-early}
 use Rattle.slot_exec.specs.Offers.{answer_in_reach, offer_answer}
-use Rattle.slot_exec.specs.declared.rooms.Room.{Room}
+use Rattle.slot_exec.specs.declared.rooms.Remembered.{Remembered}
 use Rattle.slot_exec.specs.Rooms.{due_with, free_beside}
 use Rattle.slot_exec.specs.Parts.{executive, job_room, span_room, IsExecutive}
 use Rattle.slot_exec.proofs.EventParts.{IsExecutive-after}
@@ -47,7 +47,7 @@ answer_in_reach-first evidence None = refl
 answer_in_reach-first evidence (Some x) = refl
 
 -- the answer by the spans of an executive's scene is that of the model
-offer_answer-scene : (exec : Executive) (reserve : Reserved) (rows : List Span) (limit capacity most slots within : ℕ) {known : Room} → IsExecutive exec rows reserve.sporadics limit capacity most known → reserve.nexts ≡ exec.scene.nexts → offer_answer rows reserve exec.scene.time exec.plan.cycle slots within ≡ firm_answer exec.plan.tasks.sporadics exec.plan.cycle exec.scene slots within
+offer_answer-scene : (exec : Executive) (reserve : Reserved) (rows : List Span) (limit capacity most slots within : ℕ) {known : Remembered} → IsExecutive exec rows reserve.sporadics limit capacity most known → reserve.nexts ≡ exec.scene.nexts → offer_answer rows reserve exec.scene.time exec.plan.cycle slots within ≡ firm_answer exec.plan.tasks.sporadics exec.plan.cycle exec.scene slots within
 offer_answer-scene exec reserve rows limit capacity most slots within is nexts =
     let set = exec.plan.tasks in
     let scene = exec.scene in
@@ -56,7 +56,7 @@ offer_answer-scene exec reserve rows limit capacity most slots within is nexts =
     let in_reach = ap answer_in_reach by_spans ∙ answer_in_reach-first (evidence_at set.sporadics scene slots) (first_overload set.sporadics cycle scene slots (scene.time + within)) in
     ap (λ a. cond (within == 0) Late (cond (nat_lt cycle within) Far a)) in_reach
 
-module _ {plan : PlanParts} {time : ℕ} {rows : List Span} {jobs : List Job} (reserve : Reserved) {soft : List SoftJob} {row limit capacity most : ℕ} {known : Room} (is : IsExecutive (executive plan time rows jobs reserve.nexts soft row) rows reserve.sporadics limit capacity most known) where
+module _ {plan : PlanParts} {time : ℕ} {rows : List Span} {jobs : List Job} (reserve : Reserved) {soft : List SoftJob} {row limit capacity most : ℕ} {known : Remembered} (is : IsExecutive (executive plan time rows jobs reserve.nexts soft row) rows reserve.sporadics limit capacity most known) where
   -- the executive of the parts
   abbrev exec : Executive
   exec = executive plan time rows jobs reserve.nexts soft row

@@ -25,7 +25,7 @@ use Rattle.slot_core.specs.Runs.Traces.{arrive}
 use Rattle.scene_steps.specs.Withdrawals.{jobs_without, spans_without, withdrawn, withdrawn_job}
 use Rattle.scene_steps.proofs.Ends.Withdrawals.{left_by, Does-withdraw, NoJob-counted, spans-withdrawn, withdrawn-some, withdrawn_job-listed}
 use Rattle.scene_steps.proofs.Slots.NewParts.{parts-same}
-use Rattle.slot_exec.specs.declared.rooms.Room.{Room}
+use Rattle.slot_exec.specs.declared.rooms.Remembered.{Remembered}
 use Rattle.slot_exec.specs.Rooms.{due_left}
 use Rattle.slot_exec.specs.Parts.{executive, IsExecutive}
 use Rattle.slot_exec.proofs.EventParts.{IsExecutive-after}
@@ -66,7 +66,7 @@ jobs-taken firm jobs left None is some none f =
     ap (sum_by f) (none refl ∙ sym stays)
 jobs-taken firm jobs left (Some job) is some none f = some job refl f
 
-module _ (exec now : Executive) (rows : List Span) (reserved : List Sporadic) (limit capacity most row firm : ℕ) {known : Room} (is : IsExecutive exec rows reserved limit capacity most known) (same : exec ≡ now) where
+module _ (exec now : Executive) (rows : List Span) (reserved : List Sporadic) (limit capacity most row firm : ℕ) {known : Remembered} (is : IsExecutive exec rows reserved limit capacity most known) (same : exec ≡ now) where
   -- what is told is the answer
   pub answer-withdrawn : (result : Gone) → result ≡ withdrawn firm exec.scene.jobs → result ≡ withdraw_answer now.scene firm
   answer-withdrawn result told = told ∙ ap (λ (e : Executive). withdraw_answer e.scene firm) same

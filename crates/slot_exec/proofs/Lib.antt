@@ -5,7 +5,7 @@ pub mod FirmOffers
 pub mod FirmWithdrawals
 pub mod FirstExecutives
 pub mod OfferReasons
-pub mod Remembered
+pub mod RememberedRoom
 pub mod SceneOffers
 pub mod SceneRooms
 pub mod ShownExecutives

@@ -34,16 +34,16 @@ use Rattle.scene_steps.proofs.Facts.AfterChoice.{later-after_choice}
 use Rattle.scene_steps.proofs.Facts.ProperScenes.{proper_scene}
 use Rattle.scene_steps.proofs.Rows.JobWorks.{work_between-after_run}
 use Rattle.scene_steps.proofs.Spans.Proper.{last_end-proper, work_until-proper}
-use Rattle.slot_exec.specs.declared.rooms.Room.{Room}
+use Rattle.slot_exec.specs.declared.rooms.Remembered.{Remembered}
 use Rattle.slot_exec.specs.declared.runs.Chosen.{Chosen}
 use Rattle.slot_exec.specs.declared.runs.Chosen.TheVariants.{Nothing, Soft, Guaranteed}
 use Rattle.slot_exec.specs.Rooms.{room_after, RemembersScene, RemembersSpans}
-use Rattle.slot_exec.proofs.Remembered.{ran_due, Remembers-next, Remembers-same}
+use Rattle.slot_exec.proofs.RememberedRoom.{ran_due, Remembers-next, Remembers-same}
 use Rattle.slot_exec.proofs.SlotChoice.{choice_of, IsChosen, jobs_after-choice}
 use Rattle.slot_exec.proofs.SpanOffers.{need_until-proper}
 
 -- nothing remembered
-abbrev pub nothing : Room
+abbrev pub nothing : Remembered
 nothing = record { free = 0; tight = 0; due = 0 }
 
 -- what is needed fits, so nothing may be remembered of any executive
@@ -55,7 +55,7 @@ Remembers-nothing exec plan stands =
       due = λ later. absurd (omega arith);
     }
 
-module _ (exec : Executive) (reserve : Reserved) (room : Room) (plan : IsPlan exec.plan) (stands : StandsForSome exec) (tasks : reserve.sporadics ≡ map without_name exec.plan.tasks.sporadics) (nexts : reserve.nexts ≡ exec.scene.nexts) where
+module _ (exec : Executive) (reserve : Reserved) (room : Remembered) (plan : IsPlan exec.plan) (stands : StandsForSome exec) (tasks : reserve.sporadics ≡ map without_name exec.plan.tasks.sporadics) (nexts : reserve.nexts ≡ exec.scene.nexts) where
   -- what is remembered of the scene is remembered of its spans
   pub RemembersSpans-from_scene : RemembersScene exec.plan.tasks.sporadics exec.plan.cycle exec.scene (exec.scene.time + 1) room → RemembersSpans (spans_of exec.plan.cycle exec.scene) reserve exec.scene.time room
   RemembersSpans-from_scene =
@@ -169,7 +169,7 @@ module _ (exec : Executive) (plan : IsPlan exec.plan) (stands : StandsForSome ex
       omega (arith, work_by-after jobs t x later, work_by-after after t x left_later, ran, slot, both)
 
   -- after the slot, what is then remembered of the next scene
-  pub RemembersScene-slot : (scene : Scene) (chosen : Chosen) (turned : Bool) (room : Room) → IsChosen exec chosen → scene.time ≡ t + 1 → scene.nexts ≡ exec.scene.nexts → HaveSameItems scene.jobs (after_ran set cycle (choice_of exec) exec.scene).jobs → KeepsBounds set cycle (scene.time / cycle + 3) scene → turned ≡ ((t + 1) % cycle == 0) → RemembersScene set.sporadics cycle exec.scene (t + 1) room → RemembersScene set.sporadics cycle scene scene.time (room_after chosen turned room)
+  pub RemembersScene-slot : (scene : Scene) (chosen : Chosen) (turned : Bool) (room : Remembered) → IsChosen exec chosen → scene.time ≡ t + 1 → scene.nexts ≡ exec.scene.nexts → HaveSameItems scene.jobs (after_ran set cycle (choice_of exec) exec.scene).jobs → KeepsBounds set cycle (scene.time / cycle + 3) scene → turned ≡ ((t + 1) % cycle == 0) → RemembersScene set.sporadics cycle exec.scene (t + 1) room → RemembersScene set.sporadics cycle scene scene.time (room_after chosen turned room)
   RemembersScene-slot scene chosen turned room is next nexts same bounds turns =
       let works = λ (x : ℕ) (within : x ≤ horizon cycle t). same (λ (j : Job). cond (nat_le j.dl x) j.left 0) ∙ work_by-turn x within in
       Remembers-next (need_by set.sporadics exec.scene (t + 1)) (need_by set.sporadics scene scene.time) (work_by exec.scene.jobs) (work_by scene.jobs) t scene.time (horizon cycle t) (horizon cycle scene.time) chosen turned room next further stays

@@ -26,11 +26,11 @@ use Rattle.interval_row.specs.declared.table.Spot.{Spot}
 use Rattle.interval_row.specs.Tables.{spans_of_pairs}
 use Rattle.guarantee.proofs.Tables.{length-spans_of_pairs}
 use Rattle.scene_steps.proofs.Same.Events.{Shows-from_scene}
-use Rattle.slot_exec.specs.declared.rooms.Room.{Room}
+use Rattle.slot_exec.specs.declared.rooms.Remembered.{Remembered}
 use Rattle.slot_exec.specs.Parts.{IsExecutive}
 
 -- the first spans of its table are those that are shown at each history for which it stands
-pub Shows-parts : (exec : Executive) (pairs : List (Spot × Span)) (reserved : List Sporadic) (limit capacity most : ℕ) (shown : ShownSpans) {known : Room} → IsExecutive exec (spans_of_pairs pairs) reserved limit capacity most known → shown ≡ record { spans = take SHOWN_LIMIT (spans_of_pairs pairs); more = length pairs - SHOWN_LIMIT } → Shows exec shown
+pub Shows-parts : (exec : Executive) (pairs : List (Spot × Span)) (reserved : List Sporadic) (limit capacity most : ℕ) (shown : ShownSpans) {known : Remembered} → IsExecutive exec (spans_of_pairs pairs) reserved limit capacity most known → shown ≡ record { spans = take SHOWN_LIMIT (spans_of_pairs pairs); more = length pairs - SHOWN_LIMIT } → Shows exec shown
 Shows-parts exec pairs reserved limit capacity most shown parts is =
     let scene = exec.scene in
     let more = ap (λ n. n - SHOWN_LIMIT) (sym (length-spans_of_pairs pairs)) in

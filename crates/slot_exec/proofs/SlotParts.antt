@@ -26,14 +26,14 @@ use Rattle.scene_steps.proofs.Spans.Executives.{last_end-early, pass_slot-before
 use Rattle.slot_exec.proofs.SceneOffers.{soft_fits-scene}
 use Rattle.slot_exec.specs.declared.runs.Chosen.{Chosen}
 use Rattle.slot_exec.specs.Changes.{chosen_of, HasPlaces, jobs_after, jobs_at, MayRun, ran_of, soft_after, spans_after, spans_at}
-use Rattle.slot_exec.specs.declared.rooms.Room.{Room}
+use Rattle.slot_exec.specs.declared.rooms.Remembered.{Remembered}
 use Rattle.slot_exec.specs.Parts.{executive, IsExecutive}
 use Rattle.slot_exec.specs.Rooms.{room_after, RemembersSpans}
-use Rattle.slot_exec.proofs.Remembered.{RemembersScene-later}
+use Rattle.slot_exec.proofs.RememberedRoom.{RemembersScene-later}
 use Rattle.slot_exec.proofs.SceneRooms.{RemembersScene-from_spans, RemembersScene-slot, RemembersSpans-from_scene}
 use Rattle.slot_exec.proofs.SlotChoice.{choice_of, IsChosen, IsChosen-from_parts, jobs_after-choice, MayRun-from_choice, ran_of-choice, soft_after-choice, spans_after-choice}
 
-module _ {plan : PlanParts} {time : ℕ} {rows : List Span} {jobs : List Job} (reserve : Reserved) {soft : List SoftJob} {row limit capacity most : ℕ} {known : Room} (is : IsExecutive (executive plan time rows jobs reserve.nexts soft row) rows reserve.sporadics limit capacity most known) where
+module _ {plan : PlanParts} {time : ℕ} {rows : List Span} {jobs : List Job} (reserve : Reserved) {soft : List SoftJob} {row limit capacity most : ℕ} {known : Remembered} (is : IsExecutive (executive plan time rows jobs reserve.nexts soft row) rows reserve.sporadics limit capacity most known) where
   -- the executive of the parts
   abbrev exec : Executive
   exec = executive plan time rows jobs reserve.nexts soft row
@@ -158,7 +158,7 @@ module _ {plan : PlanParts} {time : ℕ} {rows : List Span} {jobs : List Job} (r
             (subst (λ r. Does exec next slot (told_of_slot r)) (sym (runs ∙ ran_of-parts)) Does-parts)
 
         -- and the parts agree after it
-        pub IsExecutive-parts : (room : Room) (turned : Bool) → RemembersSpans rows reserve time room → turned ≡ ((run_time + 1) % plan.cycle == 0) → time < 2 ^ 32 → IsExecutive next next_rows reserve.sporadics limit capacity most (room_after chosen turned room)
+        pub IsExecutive-parts : (room : Remembered) (turned : Bool) → RemembersSpans rows reserve time room → turned ≡ ((run_time + 1) % plan.cycle == 0) → time < 2 ^ 32 → IsExecutive next next_rows reserve.sporadics limit capacity most (room_after chosen turned room)
         IsExecutive-parts room turned remembered turns early =
             let stands = StandsForSome-from_does exec next slot (told_of_slot (choice_of exec)) Does-parts in
             let of_scene = RemembersScene-from_spans exec reserve room is.plan is.stands is.sporadics refl (subst (λ xs. RemembersSpans xs reserve time room) is.spans remembered) in

@@ -13,7 +13,7 @@ use Rattle.slot_core.specs.Runs.Traces.{arrive}
 use Rattle.slot_facts.proofs.Legal.Executives.{every_executive_is_kept}
 use Rattle.circular_buffer.specs.Buffer.{keep_last}
 use Rattle.scene_steps.proofs.Ends.EndEvents.{Does-soft_full, Does-soft_taken}
-use Rattle.slot_exec.specs.declared.rooms.Room.{Room}
+use Rattle.slot_exec.specs.declared.rooms.Remembered.{Remembered}
 use Rattle.slot_exec.specs.Parts.{IsExecutive}
 use Rattle.slot_exec.proofs.EventParts.{IsExecutive-after}
 
@@ -29,14 +29,14 @@ keep_last-whole n xs few =
     ap (λ k. drop k xs) none
 
 -- a ring with a place keeps all its jobs
-pub keep_last-free : (exec : Executive) (rows : List Span) (reserved : List Sporadic) (limit capacity most : ℕ) (job : SoftJob) {known : Room} → IsExecutive exec rows reserved limit capacity most known → (length exec.scene.soft == most) ≡ false → keep_last most (exec.scene.soft ++ job ∷ []) ≡ exec.scene.soft ++ job ∷ []
+pub keep_last-free : (exec : Executive) (rows : List Span) (reserved : List Sporadic) (limit capacity most : ℕ) (job : SoftJob) {known : Remembered} → IsExecutive exec rows reserved limit capacity most known → (length exec.scene.soft == most) ≡ false → keep_last most (exec.scene.soft ++ job ∷ []) ≡ exec.scene.soft ++ job ∷ []
 keep_last-free exec rows reserved limit capacity most job is free =
     let few = (every_executive_is_kept exec is.plan is.stands).soft.few in
     let fewer = eqb-false (length exec.scene.soft) most free in
     keep_last-whole most (exec.scene.soft ++ job ∷ []) (omega (arith, length-append exec.scene.soft (job ∷ []), is.ring))
 
 -- a full ring: soft work is refused, and the parts agree
-pub refused-soft : (exec now : Executive) (rows : List Span) (reserved : List Sporadic) (limit capacity most row slots n : ℕ) {known : Room} → IsExecutive exec rows reserved limit capacity most known → exec ≡ now → now.last_row < row → 1 ≤ slots → slots ≤ OFFER_LIMIT → (length exec.scene.soft == most) ≡ true → n ≡ exec.plan.tasks.soft_limit → let after = with_waiting exec exec.scene.soft row in Does now after (arrive row (SoftEvent slots)) (Soft row slots (Full n)) × IsExecutive after rows reserved limit capacity most known
+pub refused-soft : (exec now : Executive) (rows : List Span) (reserved : List Sporadic) (limit capacity most row slots n : ℕ) {known : Remembered} → IsExecutive exec rows reserved limit capacity most known → exec ≡ now → now.last_row < row → 1 ≤ slots → slots ≤ OFFER_LIMIT → (length exec.scene.soft == most) ≡ true → n ≡ exec.plan.tasks.soft_limit → let after = with_waiting exec exec.scene.soft row in Does now after (arrive row (SoftEvent slots)) (Soft row slots (Full n)) × IsExecutive after rows reserved limit capacity most known
 refused-soft exec now rows reserved limit capacity most row slots n is same later some few full e =
     let after = with_waiting exec exec.scene.soft row in
     let last : exec.last_row < row = subst (λ (b : Executive). b.last_row < row) (sym same) later in
@@ -49,7 +49,7 @@ refused-soft exec now rows reserved limit capacity most row slots n is same late
     )
 
 -- a ring with a place: one more waits, and the parts agree
-pub taken-soft : (exec now : Executive) (rows : List Span) (reserved : List Sporadic) (limit capacity most row slots room : ℕ) (waiting : List SoftJob) {known : Room} → IsExecutive exec rows reserved limit capacity most known → exec ≡ now → now.last_row < row → 1 ≤ slots → slots ≤ OFFER_LIMIT → (length exec.scene.soft == most) ≡ false → waiting ≡ keep_last most (exec.scene.soft ++ record { row = row; left = slots; declared = slots } ∷ []) → room ≡ most → let after = with_waiting exec waiting row in Does now after (arrive row (SoftEvent slots)) (Soft row slots Taken) × IsExecutive after rows reserved limit capacity room known
+pub taken-soft : (exec now : Executive) (rows : List Span) (reserved : List Sporadic) (limit capacity most row slots room : ℕ) (waiting : List SoftJob) {known : Remembered} → IsExecutive exec rows reserved limit capacity most known → exec ≡ now → now.last_row < row → 1 ≤ slots → slots ≤ OFFER_LIMIT → (length exec.scene.soft == most) ≡ false → waiting ≡ keep_last most (exec.scene.soft ++ record { row = row; left = slots; declared = slots } ∷ []) → room ≡ most → let after = with_waiting exec waiting row in Does now after (arrive row (SoftEvent slots)) (Soft row slots Taken) × IsExecutive after rows reserved limit capacity room known
 taken-soft exec now rows reserved limit capacity most row slots room waiting is same later some few free e stays =
     let after = with_waiting exec waiting row in
     let job : SoftJob = record { row = row; left = slots; declared = slots } in

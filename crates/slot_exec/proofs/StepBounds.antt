@@ -20,7 +20,7 @@ use Rattle.sporadic_reserve.specs.Reserves.{without_name}
 use Rattle.interval_row.specs.Changes.{cut, ends_before, part_before, part_from}
 use Rattle.scene_steps.specs.Withdrawals.{withdrawn_job}
 use Rattle.scene_steps.proofs.Ends.Withdrawals.{withdrawn_job-listed}
-use Rattle.slot_exec.specs.declared.rooms.Room.{Room}
+use Rattle.slot_exec.specs.declared.rooms.Remembered.{Remembered}
 use Rattle.slot_exec.specs.Parts.{IsExecutive}
 
 -- of spans, the first and the others
@@ -48,7 +48,7 @@ ends_before-cut at (s ∷ ss) =
 pub ends_before-split : (at : ℕ) (spans : List Span) → ends_before at (filled (cut at spans)) ≡ ends_before at spans
 ends_before-split at spans = ends_before-filled at (cut at spans) ∙ ends_before-cut at spans
 
-module _ (exec now : Executive) (rows : List Span) (reserved : List Sporadic) (limit capacity most : ℕ) {known : Room} (is : IsExecutive exec rows reserved limit capacity most known) (same : exec ≡ now) where
+module _ (exec now : Executive) (rows : List Span) (reserved : List Sporadic) (limit capacity most : ℕ) {known : Remembered} (is : IsExecutive exec rows reserved limit capacity most known) (same : exec ≡ now) where
   -- an accepted offer takes the steps of the test, of the split and of the charge
   pub few_steps-offer : (at slots within row old middle new : ℕ) (job : Job) → at ≡ exec.scene.time → job ≡ offered_job row at slots within → now.plan.tasks.sporadics ≡ [] → (reserved ≡ [] → middle ≤ old + ends_before (exec.scene.time + within) rows + 1) → new ≤ middle + 4 * ends_before job.dl rows + 9 → new ≤ old + 5 * ends_before (now.scene.time + within) (spans_of now.plan.cycle now.scene) + 13
   few_steps-offer at slots within row old middle new job at_is job_at none test joins =

@@ -24,7 +24,7 @@ use Rattle.scene_steps.specs.SporadicArrivals.{arrival_answer, is_too_soon, jobs
 use Rattle.scene_steps.specs.Steps.{separation_of}
 use Rattle.scene_steps.proofs.Arrivals.SporadicArrivals.{arrived, arriving_job, Does-sporadic, HavePlace-arrival, spans-arrived}
 use Rattle.scene_steps.proofs.Slots.NewParts.{parts-same}
-use Rattle.slot_exec.specs.declared.rooms.Room.{Room}
+use Rattle.slot_exec.specs.declared.rooms.Remembered.{Remembered}
 use Rattle.slot_exec.specs.Rooms.{due_told}
 use Rattle.slot_exec.specs.Parts.{executive, job_room, span_room, IsExecutive}
 use Rattle.slot_exec.proofs.EventParts.{IsExecutive-after}
@@ -67,7 +67,7 @@ nexts-taken sporadics nexts time index n = by_soon (is_too_soon nexts time index
     by_soon true e = absurd (cc e)
     by_soon false e = refl
 
-module _ (exec now : Executive) (rows : List Span) (reserved : List Sporadic) (limit capacity most row index : ℕ) {kept : Room} (is : IsExecutive exec rows reserved limit capacity most kept) (same : exec ≡ now) (later : now.last_row < row) (known : index < length now.plan.tasks.sporadics) where
+module _ (exec now : Executive) (rows : List Span) (reserved : List Sporadic) (limit capacity most row index : ℕ) {kept : Remembered} (is : IsExecutive exec rows reserved limit capacity most kept) (same : exec ≡ now) (later : now.last_row < row) (known : index < length now.plan.tasks.sporadics) where
   -- the row is later than the last, and the set has the task
   later-own : exec.last_row < row
   later-own = subst (λ (e : Executive). e.last_row < row) (sym same) later

@@ -8,7 +8,7 @@ use Rattle.slot_core.specs.Keeping.Plans.{PlanParts, IsPlan}
 use Rattle.slot_core.specs.Runs.Spans.{spans_of}
 use Rattle.slot_core.specs.Keeping.Executives.{Executive, StandsForSome}
 use Rattle.sporadic_reserve.specs.Reserves.{without_name}
-use Rattle.slot_exec.specs.declared.rooms.Room.{Room}
+use Rattle.slot_exec.specs.declared.rooms.Remembered.{Remembered}
 use Rattle.slot_exec.specs.Rooms.{RemembersScene}
 
 -- the points at which spans end
@@ -38,7 +38,7 @@ job_room cycle = 3 * cycle
 -- and what is remembered of the room for soft work is so
 pub record IsExecutive
     (exec : Executive) (rows : List Span) (reserved : List Sporadic)
-    (limit capacity most : ℕ) (room : Room) : Type 0 where
+    (limit capacity most : ℕ) (room : Remembered) : Type 0 where
   pub plan : IsPlan exec.plan
   pub stands : StandsForSome exec
   pub early : exec.scene.time ≤ 2 ^ 32

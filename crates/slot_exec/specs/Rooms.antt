@@ -12,18 +12,18 @@ use Rattle.spare_capacity.specs.Laws.{work_until}
 use Rattle.spare_capacity.specs.Recurrence.{last_end}
 use Rattle.sporadic_reserve.specs.Reserves.{Reserved}
 use Rattle.guarantee.specs.Offers.{need_until}
-use Rattle.slot_exec.specs.declared.rooms.Room.{Room}
+use Rattle.slot_exec.specs.declared.rooms.Remembered.{Remembered}
 use Rattle.slot_exec.specs.declared.runs.Chosen.{Chosen}
 use Rattle.slot_exec.specs.declared.runs.Chosen.TheVariants.{Guaranteed}
 
 -- so many slots are free up to each later time by which something is needed; and so much work is
 -- due by `tight`, while that time is still to come
-pub record Remembers (need work : ℕ → ℕ) (time end : ℕ) (room : Room) : Type 0 where
+pub record Remembers (need work : ℕ → ℕ) (time end : ℕ) (room : Remembered) : Type 0 where
   pub free : (x : ℕ) → time < x → x ≤ end → 1 ≤ need x → room.free + need x ≤ x - time
   pub due : time < room.tight → (room.tight ≤ end) × (room.due ≡ work room.tight)
 
 -- this is remembered of a scene, where sporadic tasks arrive from `from` on
-abbrev pub RemembersScene : List Sporadic → ℕ → Scene → ℕ → Room → Type 0
+abbrev pub RemembersScene : List Sporadic → ℕ → Scene → ℕ → Remembered → Type 0
 RemembersScene sporadics cycle scene from room =
     Remembers
     (need_by sporadics scene from)
@@ -33,7 +33,7 @@ RemembersScene sporadics cycle scene from room =
     room
 
 -- this is remembered of spans and a reserve, where sporadic tasks arrive after this slot
-abbrev pub RemembersSpans : List Span → Reserved → ℕ → Room → Type 0
+abbrev pub RemembersSpans : List Span → Reserved → ℕ → Remembered → Type 0
 RemembersSpans spans reserve time room =
     Remembers
     (need_until spans reserve (time + 1))
@@ -45,20 +45,20 @@ RemembersSpans spans reserve time room =
 -- the spans may be searched in this slot: the last one ends after it and before 2^41, and this is
 -- remembered
 pub record MaySearch
-    (spans : List Span) (reserve : Reserved) (time : ℕ) (kept : Room) : Type 0 where
+    (spans : List Span) (reserve : Reserved) (time : ℕ) (kept : Remembered) : Type 0 where
   pub after : time < last_end time spans
   pub near : last_end time spans < 2 ^ 41
   pub room : RemembersSpans spans reserve time kept
 
 -- the work due by `tight` after this has run a slot: one less where it is a job that is due by then
-abbrev pub due_after : Chosen → Room → ℕ
+abbrev pub due_after : Chosen → Remembered → ℕ
 due_after (Guaranteed job) room =
     if nat_le job.dl room.tight then room.due - 1 else room.due
 due_after _ room = room.due
 
 -- what is remembered after a slot in which this ran: a slot less is free, or none where a cycle has
 -- turned
-abbrev pub room_after : Chosen → Bool → Room → Room
+abbrev pub room_after : Chosen → Bool → Remembered → Remembered
 room_after chosen turned room = record {
   free = if turned then 0 else room.free - 1;
   tight = room.tight;

@@ -68,7 +68,7 @@ pub(crate) fn pass<T: SpareTable, L: Ledger>(
     ensures spans { spans_of_pairs (T.pairs table.new)
         ≡ spans_at plan.now (T.time table.old + 1) (spans_of_pairs (T.pairs table.old)) }
     ensures time { T.time table.new ≡ T.time table.old + 1 }
-    ensures room { T.limit table.new ≡ T.limit table.old }
+    ensures places { T.limit table.new ≡ T.limit table.old }
     ensures jobs { HaveSameItems
         queue.new.jobs
         (jobs_at plan.now (T.time table.old + 1) queue.old.jobs) }
@@ -91,7 +91,7 @@ pub(crate) fn pass<T: SpareTable, L: Ledger>(
 /// The plan's jobs of this cycle come in, in the order in which they start.
 pub fn insert_cycle<L: Ledger>(queue: &mut JobQueue, plan: &Plan, n: u64, steps: &mut Steps<L>)
     requires few { n ≤ CYCLES_LIMIT }
-    requires room { length queue.old.jobs + length plan.now.jobs ≤ queue.old.capacity }
+    requires free { length queue.old.jobs + length plan.now.jobs ≤ queue.old.capacity }
     requires apart { AreApart (queue.old.jobs ++ jobs_in_cycle plan.now n) }
     ensures jobs { HaveSameItems queue.new.jobs (queue.old.jobs ++ jobs_in_cycle plan.now n) }
     ensures capacity { queue.new.capacity ≡ queue.old.capacity }

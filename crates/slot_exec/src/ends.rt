@@ -50,10 +50,16 @@ pub(crate) fn end_early<T: SpareTable, L: Ledger>(
     ensures ring { soft.new.capacity ≡ soft.old.capacity }
     ensures steps { steps.old ≤ steps.new }
 {
-    match key {
-        Key::Soft(row) => end_soft(soft, row),
-        _ => end_job(table, queue, key, tight, due, steps),
+    if let Key::Soft(row) = key {
+        return end_soft(soft, row);
     }
+    let Some(job) = started_job(queue, table.time(), key, steps) else {
+        return Done::NotRunning;
+    };
+    queue.take(key, steps);
+    table.give_back(job.dl, job.left, steps);
+    *due = due_without(job, tight, *due);
+    Done::Freed(job.left)
 }
 
 /// The soft job of this row ends, where it is the first and has started. Only the first can have.
@@ -71,48 +77,6 @@ fn end_soft(soft: &mut HeapCircularBuffer<SoftJob>, row: u32) -> Done
             Done::Freed(first.left)
         }
         _ => Done::NotRunning,
-    }
-}
-
-/// The guaranteed job of this key ends, where it has started.
-fn end_job<T: SpareTable, L: Ledger>(
-    table: &mut T,
-    queue: &mut JobQueue,
-    key: Key,
-    tight: u64,
-    due: &mut u64,
-    steps: &mut Steps<L>,
-) -> Done
-    requires { AreDueInSpans queue.old.jobs (spans_of_pairs (T.pairs table.old)) }
-    ensures freed { result
-        ≡ option_map_or (λ (j : Job). Done.Freed j.left)
-        (ending_job (T.time table.old) key queue.old.jobs)
-        Done.NotRunning }
-    ensures spans { spans_of_pairs (T.pairs table.new)
-        ≡ spans_left
-        (T.time table.old)
-        key
-        queue.old.jobs
-        (spans_of_pairs (T.pairs table.old)) }
-    ensures time { T.time table.new ≡ T.time table.old }
-    ensures places { T.limit table.new ≡ T.limit table.old }
-    ensures jobs { HaveSameItems
-        queue.new.jobs
-        (jobs_left (T.time table.old) key queue.old.jobs) }
-    ensures due { due.new
-        ≡ due_left (ending_job (T.time table.old) key queue.old.jobs) tight due.old }
-    ensures stays { result ≡ Done.NotRunning → queue.new ≡ queue.old }
-    ensures capacity { queue.new.capacity ≡ queue.old.capacity }
-    ensures steps { steps.old ≤ steps.new }
-{
-    match started_job(queue, table.time(), key, steps) {
-        Some(job) => {
-            queue.take(key, steps);
-            table.give_back(job.dl, job.left, steps);
-            *due = due_without(job, tight, *due);
-            Done::Freed(job.left)
-        }
-        None => Done::NotRunning,
     }
 }
 

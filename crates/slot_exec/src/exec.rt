@@ -33,7 +33,7 @@ mod tests;
 use crate::cycles::{first_jobs, pass};
 use crate::ends::end_early;
 use crate::offers::{admit, answer_offer, offered};
-use crate::rooms::{Room, after_slot, due_told, due_with, free_beside};
+use crate::rooms::{Remembered, after_slot, due_told, due_with, free_beside};
 use crate::runs::{choose, run};
 use crate::shown::{first_spans, spot_of};
 use crate::sporadic_arrivals::{arriving_job, take_arrival};
@@ -418,7 +418,7 @@ impl<T: SpareTable> Exec<T> {
         ensures time { self.new.scene.time ≡ self.old.scene.time + 1 }
         ensures steps { steps.old ≤ steps.new }
     {
-        let room = Room {
+        let room = Remembered {
             free: self.free,
             tight: self.tight,
             due: self.due,

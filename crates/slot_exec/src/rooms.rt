@@ -14,7 +14,7 @@ use std::sync::ledger::Ledger;
 
 /// What is remembered of the room for soft work.
 #[derive(Clone, Copy, PartialEq, Eq)]
-pub struct Room {
+pub struct Remembered {
     /// Up to each later time by which something is needed, so many slots are free.
     pub free: u64,
     /// A time that a search found short of room, which counts while it is to come, or 0.
@@ -28,9 +28,9 @@ pub struct Room {
 pub(crate) fn may_run<T: SpareTable, L: Ledger>(
     table: &T,
     reserve: &Reserve,
-    room: Room,
+    room: Remembered,
     steps: &mut Steps<L>,
-) -> (bool, Room)
+) -> (bool, Remembered)
     requires { MaySearch
         (spans_of_pairs (T.pairs table.now))
         reserve.now
@@ -58,7 +58,7 @@ pub(crate) fn may_run<T: SpareTable, L: Ledger>(
 }
 
 /// Whether up to the time that was short there is still no room for a slot more.
-fn is_short<T: SpareTable>(table: &T, reserve: &Reserve, room: Room) -> bool
+fn is_short<T: SpareTable>(table: &T, reserve: &Reserve, room: Remembered) -> bool
     requires { MaySearch
         (spans_of_pairs (T.pairs table.now))
         reserve.now
@@ -78,9 +78,9 @@ fn is_short<T: SpareTable>(table: &T, reserve: &Reserve, room: Room) -> bool
 fn search<T: SpareTable, L: Ledger>(
     table: &T,
     reserve: &Reserve,
-    room: Room,
+    room: Remembered,
     steps: &mut Steps<L>,
-) -> (bool, Room)
+) -> (bool, Remembered)
     requires { MaySearch
         (spans_of_pairs (T.pairs table.now))
         reserve.now
@@ -96,10 +96,10 @@ fn search<T: SpareTable, L: Ledger>(
     ensures steps { steps.old ≤ steps.new }
 {
     match soft_room(table, reserve, steps) {
-        SoftRoom::Free(free) => (true, Room { free, ..room }),
+        SoftRoom::Free(free) => (true, Remembered { free, ..room }),
         SoftRoom::Short { until, due } => (
             false,
-            Room {
+            Remembered {
                 tight: until,
                 due,
                 ..room
@@ -109,7 +109,7 @@ fn search<T: SpareTable, L: Ledger>(
 }
 
 /// What is remembered after a slot in which this ran, and after which a cycle turned or not.
-pub(crate) fn after_slot(room: Room, chosen: Chosen, turned: bool) -> Room
+pub(crate) fn after_slot(room: Remembered, chosen: Chosen, turned: bool) -> Remembered
     ensures { result ≡ room_after chosen turned room }
 {
     let free = if turned {
@@ -121,7 +121,7 @@ pub(crate) fn after_slot(room: Room, chosen: Chosen, turned: bool) -> Room
         Chosen::Guaranteed(job) if job.dl <= room.tight => room.due.saturating_sub(1),
         _ => room.due,
     };
-    Room { free, due, ..room }
+    Remembered { free, due, ..room }
 }
 
 /// How many slots are free beside an offer that is accepted, where so many are free now.

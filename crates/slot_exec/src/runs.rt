@@ -8,7 +8,7 @@ ghost use Rattle.guarantee.specs.Offers.{soft_fits};
 ghost use Rattle.slot_exec.specs.Rooms.{MaySearch, RemembersSpans};
 ghost use Rattle.slot_exec.specs.Changes.{chosen_job, chosen_of, front_run, jobs_after, ran_of, soft_after, spans_after, MayRun};
 
-use crate::rooms::{Room, may_run};
+use crate::rooms::{Remembered, may_run};
 use circular_buffer::HeapCircularBuffer;
 use interval_row::SpareTable;
 use job_queue::JobQueue;
@@ -29,7 +29,7 @@ pub enum Chosen {
 
 impl Chosen {
     /// What runs.
-    pub fn ran(self) -> Ran
+    pub(crate) fn ran(self) -> Ran
         ensures { result ≡ ran_of self }
     {
         match self {
@@ -47,9 +47,9 @@ pub(crate) fn choose<T: SpareTable, L: Ledger>(
     reserve: &Reserve,
     queue: &JobQueue,
     soft: &HeapCircularBuffer<SoftJob>,
-    room: Room,
+    room: Remembered,
     steps: &mut Steps<L>,
-) -> (Chosen, Room)
+) -> (Chosen, Remembered)
     requires { MaySearch
         (spans_of_pairs (T.pairs table.now))
         reserve.now

@@ -1,7 +1,6 @@
 -- The law of lending: a change after some spans reaches them by what it repays alone.
-use Rattle.std.proofs.Common.{◌≡◌, ℤ, pos, ◌+ℤ◌, ◌≤ℤ◌, List, [], ◌∷◌, ◌++◌, map, refl, sym, ap, ◌∙◌, arith}
+use Rattle.std.proofs.Common.{◌≡◌, ℤ, pos, ◌+ℤ◌, List, [], ◌∷◌, ◌++◌, refl, sym, ap, ◌∙◌, arith}
 use Rattle.std.specs.Int.{int_min}
-use Rattle.std.specs.List.{AllByRecursion}
 use Rattle.std.proofs.lemmas.Int.{ints, clamps}
 use Rattle.slot_core.specs.declared.jobs.Span.{Span}
 use Rattle.spare_capacity.specs.Recurrence.{filled, first_spare, room, with_spare}
@@ -44,19 +43,3 @@ moved-zero [] = refl
 moved-zero (s ∷ ss) =
     let same : s.spare +ℤ carry (pos 0) ss ≡ s.spare = omega (arith, ints, carry-zero ss) in
     ap (λ z. record s { spare = z } ∷ moved (pos 0) ss) same ∙ ap (λ zs. s ∷ zs) (moved-zero ss)
-
--- the spans have nothing to give, before and after so much more
-abbrev pub GiveNothing : ℤ → List Span → Type 0
-GiveNothing more spans = AllByRecursion (λ (s : Span). (s.spare ≤ℤ pos 0) × ((s.spare +ℤ more) ≤ℤ pos 0)) spans
-
--- such spans pass on all of it
-pub carry-whole : (more : ℤ) (xs : List Span) → GiveNothing more xs → carry more xs ≡ more
-carry-whole more [] h = refl
-carry-whole more (s ∷ ss) h =
-    let rest : carry more ss ≡ more = carry-whole more ss h.1 in
-    omega (arith, ints, clamps, h.0.0, h.0.1)
-
-pub moved-whole : (more : ℤ) (xs : List Span) → GiveNothing more xs → moved more xs ≡ map (raised more) xs
-moved-whole more [] h = refl
-moved-whole more (s ∷ ss) h =
-    ap (λ c. raised c s ∷ moved more ss) (carry-whole more ss h.1) ∙ ap (λ zs. raised more s ∷ zs) (moved-whole more ss h.1)

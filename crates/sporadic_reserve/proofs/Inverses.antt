@@ -4,7 +4,7 @@ use Rattle.std.specs.Int.{div_ceil}
 use Rattle.std.proofs.lemmas.Grind.{div_ceil_times}
 use Rattle.std.proofs.Math.Nat.{add-mul, div-lt_iff_lt-mul, div-mul-le_self, le-div_iff_mul-le, lt-div-mul-add, lt_of_mul-lt-mul_right, mul-add, mul-le-mul, mul-le-mul_left, mul-le-mul_right, mul_assoc, mul_comm, mul_right_comm}
 use Rattle.slot_core.specs.declared.TheConstants.{SLOT_LIMIT}
-use Rattle.sporadic_reserve.specs.declared.rows.TheConstants.{INVERSE_REACH, INVERSE_SCALE}
+use Rattle.sporadic_reserve.specs.declared.rates.TheConstants.{INVERSE_REACH, INVERSE_SCALE}
 
 -- with an inverse that is not too small the product reaches the quotient
 product_reaches : (scale inverse s n q : ℕ) → scale ≤ inverse * s → q * s ≤ n → q * scale ≤ n * inverse

@@ -1,6 +1,6 @@
 pub mod Arrivals
 pub mod Counts
 pub mod Demands
-pub mod FirstRows
+pub mod FirstRates
 pub mod Inverses
 pub mod Rises

@@ -1,2 +1,2 @@
 pub mod Reserves
-pub mod Rows
+pub mod Rates

@@ -6,7 +6,7 @@
 //! job may only use what the densest of those arrivals leave. All times are in slots.
 #![tactic(auto)]
 
+mod rates;
 pub mod reserve;
-mod rows;
 
 pub use reserve::Reserve;

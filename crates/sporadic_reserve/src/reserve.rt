@@ -7,9 +7,9 @@ ghost use Rattle.slot_core.specs.declared.tasks.Sporadic.{Sporadic};
 ghost use Rattle.slot_core.specs.Sets.Ranges.{sporadic_in_range};
 ghost use Rattle.slot_core.specs.Feasibility.Sporadics.{sporadic_demand};
 ghost use Rattle.sporadic_reserve.specs.Reserves.{demand_limit, without_name, IsNextRise};
-ghost use Rattle.sporadic_reserve.specs.Rows.{first_row};
+ghost use Rattle.sporadic_reserve.specs.Rates.{first_rate};
 
-use crate::rows::{Row, demand_and_rise, demand_of, inverse_of, move_next, next_rise};
+use crate::rates::{Rate, demand_and_rise, demand_of, inverse_of, move_next, next_rise};
 use arrayvec::ArrayVec;
 use slot_core::{SPORADIC_LIMIT, Sporadic};
 use std::marker::Model;
@@ -18,36 +18,36 @@ use std::marker::Model;
 /// memory.
 #[derive(Drop)]
 pub struct Reserve {
-    rows: ArrayVec<Row, SPORADIC_LIMIT>,
+    rates: ArrayVec<Rate, SPORADIC_LIMIT>,
 }
 
 impl Model for Reserve {
     ghost use Rattle.sporadic_reserve.specs.Reserves.{Reserved};
-    ghost use Rattle.sporadic_reserve.specs.Rows.{reserved, AreSporadicRows};
+    ghost use Rattle.sporadic_reserve.specs.Rates.{reserved, AreSporadicRates};
 
     ghost Value = { Reserved };
 
-    ghost view = { λ r. reserved r.rows.items };
+    ghost view = { λ r. reserved r.rates.items };
 
-    ghost invariant = { λ r. AreSporadicRows r.rows.items };
+    ghost invariant = { λ r. AreSporadicRates r.rates.items };
 }
 
 impl Reserve {
     /// The reserve of these tasks, which may all arrive from slot 0 on.
-    pub fn new(rows: &[Sporadic]) -> Reserve
-        requires few { length rows.now ≤ SPORADIC_LIMIT }
-        requires in_range { list_all sporadic_in_range rows.now ≡ true }
+    pub fn new(tasks: &[Sporadic]) -> Reserve
+        requires few { length tasks.now ≤ SPORADIC_LIMIT }
+        requires in_range { list_all sporadic_in_range tasks.now ≡ true }
         ensures { result
             ≡ record {
-              sporadics = map without_name rows.now;
-              nexts = map (λ (s : Sporadic). 0) rows.now;
+              sporadics = map without_name tasks.now;
+              nexts = map (λ (s : Sporadic). 0) tasks.now;
             } }
     {
         let mut kept = ArrayVec::new();
-        for task in rows {
-            kept.push(row_of(task));
+        for task in tasks {
+            kept.push(rate_of(task));
         }
-        Reserve { rows: kept }
+        Reserve { rates: kept }
     }
 
     /// Whether it has no task. Each task has one next legal arrival.
@@ -55,7 +55,7 @@ impl Reserve {
         ensures empty { IsTrue result ↔ (self.now.sporadics ≡ []) }
         ensures as_many { length self.now.nexts ≡ length self.now.sporadics }
     {
-        self.rows.is_empty()
+        self.rates.is_empty()
     }
 
     /// The task of this index arrives at `t`. Ok is the deadline of its job, and its next legal
@@ -75,16 +75,16 @@ impl Reserve {
         ensures stays { OnErr result (self.new ≡ self.old) }
         ensures tasks { self.new.sporadics ≡ self.old.sporadics }
     {
-        let row = self.rows[index as usize];
-        if t < row.next {
-            return Err(row.next);
+        let rate = self.rates[index as usize];
+        if t < rate.next {
+            return Err(rate.next);
         }
         move_next(
-            &mut self.rows,
+            &mut self.rates,
             index as usize,
-            t + u64::from(row.separation),
+            t + u64::from(rate.separation),
         );
-        Ok(t + u64::from(row.deadline))
+        Ok(t + u64::from(rate.deadline))
     }
 
     /// The next legal arrival of the task of this index.
@@ -92,7 +92,7 @@ impl Reserve {
         requires { index < length self.now.nexts }
         ensures { slice_get self.now.nexts index ≡ Some result }
     {
-        self.rows[usize::from(index)].next
+        self.rates[usize::from(index)].next
     }
 
     /// The slots that the densest legal arrivals from `r` on need by `x`.
@@ -104,7 +104,7 @@ impl Reserve {
         ensures most { (z : ℕ) → z ≤ x
             → sporadic_demand self.now.sporadics self.now.nexts r z ≤ result }
     {
-        demand_of(&self.rows, r, x)
+        demand_of(&self.rates, r, x)
     }
 
     /// The first time after `x` at which that demand rises. None exactly where there is no task.
@@ -115,7 +115,7 @@ impl Reserve {
             (self.now.sporadics ≡ [])
             (λ y. IsNextRise (λ z. sporadic_demand self.now.sporadics self.now.nexts r z) x y) }
     {
-        next_rise(&self.rows, r, x)
+        next_rise(&self.rates, r, x)
     }
 
     /// That demand, and the first time after `x` at which it rises, in one pass over the tasks. No
@@ -129,16 +129,16 @@ impl Reserve {
             (self.now.sporadics ≡ [])
             (λ y. IsNextRise (λ z. sporadic_demand self.now.sporadics self.now.nexts r z) x y) }
     {
-        demand_and_rise(&self.rows, r, x)
+        demand_and_rise(&self.rates, r, x)
     }
 }
 
-/// The row of a task that may arrive from slot 0 on.
-fn row_of(task: &Sporadic) -> Row
+/// The rate of a task that may arrive from slot 0 on.
+fn rate_of(task: &Sporadic) -> Rate
     requires { 1 ≤ task.now.separation }
-    ensures { result ≡ first_row task.now }
+    ensures { result ≡ first_rate task.now }
 {
-    Row {
+    Rate {
         wcet: task.wcet,
         separation: task.separation,
         deadline: task.deadline,

@@ -36,7 +36,7 @@ pub struct Layout {
 
 impl Layout {
     /// The first version.
-    pub fn first() -> Layout
+    pub(crate) fn first() -> Layout
         ensures { result ≡ layout_1 }
     {
         Layout {
@@ -47,7 +47,7 @@ impl Layout {
     }
 
     /// The second version.
-    pub fn second() -> Layout
+    pub(crate) fn second() -> Layout
         ensures { result ≡ layout_2 }
     {
         Layout {
@@ -58,7 +58,7 @@ impl Layout {
     }
 
     /// The layout of a version.
-    pub fn of(version: u16) -> Result<Layout, TableFault>
+    pub(crate) fn of(version: u16) -> Result<Layout, TableFault>
         ensures { result ≡ layout_of version }
     {
         match version {

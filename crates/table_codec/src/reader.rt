@@ -31,7 +31,7 @@ impl<'a> Model for Input<'a> {
 
 impl<'a> Input<'a> {
     /// All bytes of a table.
-    pub fn of(bytes: &'a [u8]) -> Input<'a>
+    pub(crate) fn of(bytes: &'a [u8]) -> Input<'a>
         ensures { result ≡ record { whole = length bytes.now; left = bytes.now } }
     {
         Input {
@@ -41,7 +41,7 @@ impl<'a> Input<'a> {
     }
 
     /// The next bytes, so many.
-    pub fn bytes(&mut self, count: usize) -> Result<&'a [u8], TableFault>
+    pub(crate) fn bytes(&mut self, count: usize) -> Result<&'a [u8], TableFault>
         ensures reading { ReadsAs (λ bytes. bytes.now) (bytes_at count) result self.old self.new }
         ensures count { IfOk result (λ bytes. length bytes.now ≡ count) }
     {
@@ -62,7 +62,7 @@ impl<'a> Input<'a> {
     }
 
     /// An index, a count or the version: a number of two bytes.
-    pub fn index(&mut self) -> Result<u16, TableFault>
+    pub(crate) fn index(&mut self) -> Result<u16, TableFault>
         ensures { Reads index_form.read result self.old self.new }
     {
         let bytes = self.bytes(2)?;
@@ -70,7 +70,7 @@ impl<'a> Input<'a> {
     }
 
     /// A number of four bytes, as the count of jobs or spans.
-    pub fn many(&mut self) -> Result<u32, TableFault>
+    pub(crate) fn many(&mut self) -> Result<u32, TableFault>
         ensures { Reads (number_form w32).read result self.old self.new }
     {
         let bytes = self.bytes(4)?;
@@ -78,7 +78,7 @@ impl<'a> Input<'a> {
     }
 
     /// A length or a time, in slots.
-    pub fn slots(&mut self, layout: Layout) -> Result<u32, TableFault>
+    pub(crate) fn slots(&mut self, layout: Layout) -> Result<u32, TableFault>
         ensures { Reads (slots_form layout).read result self.old self.new }
     {
         match layout.number {
@@ -107,7 +107,7 @@ impl<'a> Input<'a> {
     }
 
     /// A spare capacity, in slots.
-    pub fn capacity(&mut self, layout: Layout) -> Result<i64, TableFault>
+    pub(crate) fn capacity(&mut self, layout: Layout) -> Result<i64, TableFault>
         ensures { Reads (spare_form layout).read result self.old self.new }
     {
         match layout.spare {
@@ -117,7 +117,7 @@ impl<'a> Input<'a> {
     }
 
     /// Refuses bytes that follow.
-    pub fn end(&self) -> Result<(), TableFault>
+    pub(crate) fn end(&self) -> Result<(), TableFault>
         ensures { ReadsAs (λ _. tt) end_at result self.now self.now }
     {
         if !self.left.is_empty() {
@@ -127,7 +127,7 @@ impl<'a> Input<'a> {
     }
 
     /// A length or a time of the task set, from `low` to `high`.
-    pub fn within(
+    pub(crate) fn within(
         &mut self,
         layout: Layout,
         part: Part,
@@ -148,7 +148,12 @@ impl<'a> Input<'a> {
     }
 
     /// A count of no more than `limit`.
-    pub fn count(&mut self, part: Part, field: Field, limit: usize) -> Result<u16, TableFault>
+    pub(crate) fn count(
+        &mut self,
+        part: Part,
+        field: Field,
+        limit: usize,
+    ) -> Result<u16, TableFault>
         ensures reading { Reads (up_to part field limit).read result self.old self.new }
         ensures few { IfOk result (λ n. n ≤ limit) }
     {
@@ -161,7 +166,7 @@ impl<'a> Input<'a> {
     }
 
     /// A count of one or more, and no more than `limit`.
-    pub fn some(&mut self, part: Part, field: Field, limit: usize) -> Result<u16, TableFault>
+    pub(crate) fn some(&mut self, part: Part, field: Field, limit: usize) -> Result<u16, TableFault>
         ensures { Reads (one_up_to part field limit).read result self.old self.new }
     {
         let count = self.count(part, field, limit)?;
@@ -173,7 +178,7 @@ impl<'a> Input<'a> {
     }
 
     /// A name.
-    pub fn name(&mut self, part: Part) -> Result<Name, TableFault>
+    pub(crate) fn name(&mut self, part: Part) -> Result<Name, TableFault>
         ensures { Reads (name_form part).read result self.old self.new }
     {
         let length = usize::from(self.byte()?);

@@ -6,7 +6,7 @@ use Rattle.std.specs.List.{position_or_len}
 use Rattle.toml.specs.Data.{Data, string, array, table, Items, no_items, item, Members}
 use Rattle.toml.specs.Parse.{parse_document}
 use Rattle.slot_core.specs.Calls.Results.{◌>>=◌}
-use Rattle.slot_core.specs.declared.TheConstants.{GRAPH_LIMIT, TASK_LIMIT, AFTER_LIMIT, SPORADIC_LIMIT, SLOT_LIMIT, SOFT_LIMIT, SOFT_DEFAULT}
+use Rattle.slot_core.specs.declared.TheConstants.{GRAPH_LIMIT, TASK_LIMIT, AFTER_LIMIT, SPORADIC_LIMIT, SLOT_LIMIT, SOFT_LIMIT, SOFT_DEFAULT, NUMBER_LIMIT}
 use Rattle.slot_core.specs.declared.tasks.Task.{Task}
 use Rattle.slot_core.specs.declared.tasks.Graph.{Graph}
 use Rattle.slot_core.specs.declared.tasks.Sporadic.{Sporadic as SporadicTask}
@@ -35,7 +35,7 @@ all_texts (item _ rest) = None
 -- number of them
 abbrev pub at_most : {X : Type 0} → Place → ℕ → List X → Read (List X)
 at_most place limit xs =
-    if nat_lt limit (length xs) then Err (TooMany place (min (length xs) 4294967295))
+    if nat_lt limit (length xs) then Err (TooMany place (min (length xs) NUMBER_LIMIT))
     else Ok xs
 
 -- the items of the array at a key, none where the key is not there

@@ -2,6 +2,7 @@
 
 ghost use Rattle.std.specs.Prelude.{◌≡◌, ◌≤◌, ◌++◌, [], ◌∷◌, length, map, min, nat_lt, true, false};
 ghost use Rattle.std.specs.Prelude.{IfOk, IfErr, OnOk, MatchResult};
+ghost use Rattle.slot_core.specs.declared.TheConstants.{NUMBER_LIMIT};
 ghost use Rattle.task_toml.specs.Reading.{all_tables, all_texts};
 ghost use Rattle.task_toml.specs.Reading.{items_at, tables_at, some_tables_at, texts_at};
 ghost use Rattle.task_toml.specs.TomlFields.{AnswersAs, at_key, or_fault};
@@ -55,7 +56,7 @@ fn check_count(place: Place, limit: usize, count: usize) -> Result<(), TaskFault
     ensures { MatchResult result
         (λ _. nat_lt limit count ≡ false)
         (λ e. (nat_lt limit count ≡ true)
-        × (e ≡ TaskFault.TooMany place (min count 4294967295))) }
+        × (e ≡ TaskFault.TooMany place (min count NUMBER_LIMIT))) }
 {
     if limit < count {
         let told = u32::try_from(count).unwrap_or(u32::MAX);

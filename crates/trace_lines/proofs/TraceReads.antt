@@ -7,7 +7,7 @@ use Rattle.std.proofs.lemmas.Grind.{flat_map-append}
 use Rattle.key_texts.specs.KeyTexts.{cut_at}
 use Rattle.key_texts.proofs.CutLemmas.{cut_at-Some, cut_at-append}
 use Rattle.key_texts.proofs.PlaceLemmas.{Some_same}
-use Rattle.trace_lines.specs.declared.TheConstants.{LINE_LIMIT}
+use Rattle.trace_lines.specs.declared.TheConstants.{READ_LINE_LIMIT}
 use Rattle.trace_lines.specs.declared.line.TraceLine.{TraceLine}
 use Rattle.trace_lines.specs.declared.trace.Reached.{Reached}
 use Rattle.trace_lines.specs.declared.trace.Reached.TheVariants.{Nothing, Slot as AtSlot, End as AtEnd}
@@ -30,18 +30,18 @@ Leads-more from mid to (first ∷ lines) line (stands, (next, step, leads)) may 
 -- a line that is read has these bytes, and may stand in a trace
 short_line-from : (bytes : List ℕ) (line : TraceLine) → short_line bytes ≡ Some line → MayStand line × (bytes ≡ line_text line)
 short_line-from bytes line h =
-    elim (cases_Bool (nat_lt LINE_LIMIT (length bytes))) [
+    elim (cases_Bool (nat_lt READ_LINE_LIMIT (length bytes))) [
       | inl long ↦ absurd (let none = rw long at h in cc)
       | inr short ↦
           let (fits, is) = line_of-from bytes line (rw short at h) in
-          let few : length (line_text line) ≤ LINE_LIMIT = grind (arith, nat_tests, short, ap length is) in
+          let few : length (line_text line) ≤ READ_LINE_LIMIT = grind (arith, nat_tests, short, ap length is) in
           ((fits, few), is)
     ]
 
 -- a line that may stand in a trace is read from its bytes
 short_line-to : (line : TraceLine) → MayStand line → short_line (line_text line) ≡ Some line
 short_line-to line (fits, few) =
-    let short : nat_lt LINE_LIMIT (length (line_text line)) ≡ false = grind (arith, nat_tests, few) in
+    let short : nat_lt READ_LINE_LIMIT (length (line_text line)) ≡ false = grind (arith, nat_tests, few) in
     rw short (line_of-to line fits)
 
 -- a line feed between two texts

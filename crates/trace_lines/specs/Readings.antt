@@ -18,7 +18,7 @@ use Rattle.slot_core.specs.Sets.Names.{is_name}
 use Rattle.key_texts.specs.KeyTexts.{cut_at}
 use Rattle.key_texts.specs.Numbers.{number_between, number_of, row_number}
 use Rattle.key_texts.specs.Options.{◌>>=◌}
-use Rattle.trace_lines.specs.declared.TheConstants.{LINE_LIMIT}
+use Rattle.trace_lines.specs.declared.TheConstants.{READ_LINE_LIMIT}
 use Rattle.trace_lines.specs.declared.line.KeyName.{KeyName}
 use Rattle.trace_lines.specs.declared.line.KeyName.TheVariants.{Offline, Sporadic as SporadicKey, Firm as FirmKey, Soft as SoftKey}
 use Rattle.trace_lines.specs.declared.line.Words.{Words}
@@ -302,4 +302,4 @@ line_of text = do
 
 -- a line whose bytes are not too many
 abbrev pub short_line : List ℕ → Option TraceLine
-short_line text = if nat_lt LINE_LIMIT (length text) then None else line_of text
+short_line text = if nat_lt READ_LINE_LIMIT (length text) then None else line_of text

@@ -2,7 +2,7 @@
 use Rattle.std.specs.Prelude.{◌≡◌, ◌≤◌, ◌≢◌, ℕ, ◌+◌, ◌-◌, Bool, true, false, ◌&&◌, ◌==◌, List, [], ◌∷◌, ◌++◌, length, flat_map, slice_get, if◌then◌else◌, Option, Some, None, ⊤, is_none}
 use Rattle.std.specs.List.{list_all}
 use Rattle.std.specs.Option.{option_map_or}
-use Rattle.trace_lines.specs.declared.TheConstants.{LINE_LIMIT}
+use Rattle.trace_lines.specs.declared.TheConstants.{READ_LINE_LIMIT}
 use Rattle.trace_lines.specs.declared.line.KeyName.{KeyName}
 use Rattle.trace_lines.specs.declared.line.Words.{Words}
 use Rattle.trace_lines.specs.declared.line.Words.TheVariants.{Start, Soft, Firm, Sporadic, Done, Withdraw, Run, Idle, End}
@@ -37,7 +37,7 @@ reached_after AtEnd line = None
 
 -- a line that a trace may have: its numbers and names fit, and it is short
 abbrev pub MayStand : TraceLine → Type 0
-MayStand line = (line_fits line ≡ true) × (length (line_text line) ≤ LINE_LIMIT)
+MayStand line = (line_fits line ≡ true) × (length (line_text line) ≤ READ_LINE_LIMIT)
 
 -- the lines lead from one point of a trace to another
 abbrev pub Leads : Reached → List TraceLine → Reached → Type 0

@@ -1,13 +1,14 @@
 //! Keys by the names that a text has.
 
 ghost use Rattle.std.specs.Prelude.{◌≡◌, ◌≤◌, ◌+◌, ◌↔◌, [], ◌++◌, true, length, codes, decimal, Some};
-ghost use Rattle.trace_lines.specs.declared.TheConstants.{KEY_LIMIT};
+ghost use Rattle.key_texts.specs.declared.TheConstants.{DIGIT_LIMIT};
+ghost use Rattle.trace_lines.specs.declared.TheConstants.{KEY_NAME_LIMIT};
 ghost use Rattle.trace_lines.specs.declared.line.KeyName.{KeyName};
 ghost use Rattle.trace_lines.specs.Ranges.{key_fits};
 ghost use Rattle.trace_lines.specs.Readings.{firm_row, key_named, offline_key, row_key, sporadic_key, worded_key};
 ghost use Rattle.trace_lines.specs.Texts.{key_text};
 
-use crate::KEY_LIMIT;
+use crate::KEY_NAME_LIMIT;
 use crate::line::KeyName;
 use arrayvec::ArrayVec;
 use itoa::Buffer;
@@ -79,11 +80,11 @@ pub(crate) fn firm_row(text: &[u8]) -> Option<u32>
     }
 }
 
-/// The text of a key, of at most `KEY_LIMIT` bytes, which contracts see as a list. It takes no
-/// memory.
+/// The text of a key, of at most `KEY_NAME_LIMIT` bytes, which contracts see as a list. It takes
+/// no memory.
 #[derive(Drop)]
 pub struct KeyText {
-    text: ArrayVec<u8, KEY_LIMIT>,
+    text: ArrayVec<u8, KEY_NAME_LIMIT>,
 }
 
 impl Model for KeyText {
@@ -98,14 +99,14 @@ impl KeyText {
     /// The bytes of the text.
     pub fn bytes(&self) -> &[u8]
         ensures bytes { result.now ≡ self.now }
-        ensures short { length self.now ≤ KEY_LIMIT }
+        ensures short { length self.now ≤ KEY_NAME_LIMIT }
     {
         self.text.as_slice()
     }
 
     /// Appends the bytes.
     fn push(&mut self, bytes: &[u8])
-        requires { length self.old + length bytes.now ≤ KEY_LIMIT }
+        requires { length self.old + length bytes.now ≤ KEY_NAME_LIMIT }
         ensures { self.new ≡ self.old ++ bytes.now }
     {
         for byte in bytes {
@@ -115,7 +116,7 @@ impl KeyText {
 
     /// Appends the number in decimal digits.
     fn number(&mut self, n: u32)
-        requires { length self.old + 10 ≤ KEY_LIMIT }
+        requires { length self.old + DIGIT_LIMIT ≤ KEY_NAME_LIMIT }
         ensures text { self.new ≡ self.old ++ decimal n }
     {
         let mut buffer = Buffer::new();

@@ -10,14 +10,16 @@ mod spans;
 pub mod trace;
 mod words;
 
+use key_texts::DIGIT_LIMIT;
 pub use keys::{KeyText, key_named, key_text};
 pub use laws::entries_are_lines;
 pub use line::{KeyName, ShownSpan, SpanList, TraceLine, Words};
 pub use reading::line_of;
+use slot_core::NAME_LIMIT;
 pub use trace::{Reached, TraceFault, read_trace, time_of_last};
 
-/// Most bytes of a line of a trace, without its line feed.
-pub const LINE_LIMIT: usize = 1024;
+/// Most bytes of a line that is read, without its line feed.
+pub const READ_LINE_LIMIT: usize = 1024;
 
-/// Most bytes of the text of a key.
-pub const KEY_LIMIT: usize = 64;
+/// Most bytes of the text of a `KeyName`: two names, the signs after them, and a number.
+pub const KEY_NAME_LIMIT: usize = 2 * NAME_LIMIT + 2 + DIGIT_LIMIT;

@@ -78,7 +78,7 @@ impl SpanList {
     }
 
     /// Appends a span.
-    pub fn push(&mut self, span: ShownSpan)
+    pub(crate) fn push(&mut self, span: ShownSpan)
         requires { length self.old < SHOWN_LIMIT }
         ensures { self.new ≡ self.old ++ span ∷ [] }
     {

@@ -7,7 +7,7 @@ ghost use Rattle.trace_lines.specs.Readings.{end_line, line_of, shown_line, told
 ghost use Rattle.trace_lines.specs.Texts.{line_text};
 
 use crate::line::{SpanList, TraceLine, Words};
-use crate::spans::{after_space, before_space, shown_and_more, spans_of};
+use crate::spans::{after_space, before_space, shown_and_more, span_list};
 use crate::words::words_of;
 use key_texts::{cut_at, number_of};
 
@@ -52,7 +52,7 @@ fn shown_line(time: u32, told: &[u8]) -> Option<TraceLine>
     let (words, shown) = told_and_shown(told)?;
     let (spans, more) = shown_and_more(shown)?;
     let words = words_of(words)?;
-    let spans = spans_of(spans)?;
+    let spans = span_list(spans)?;
     Some(TraceLine {
         time,
         words,

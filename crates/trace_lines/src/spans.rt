@@ -31,7 +31,7 @@ fn span_of(text: &[u8]) -> Option<ShownSpan>
 }
 
 /// The spans of the text, of which there are 1 to `SHOWN_LIMIT`, with one space between two.
-pub(crate) fn spans_of(text: &[u8]) -> Option<SpanList>
+pub(crate) fn span_list(text: &[u8]) -> Option<SpanList>
     ensures { result ≡ spans_within SHOWN_LIMIT text.now }
 {
     let mut spans = SpanList::new();

@@ -8,7 +8,7 @@ ghost use Rattle.trace_lines.specs.Readings.{short_line};
 ghost use Rattle.trace_lines.specs.Texts.{lines_text};
 ghost use Rattle.trace_lines.specs.Traces.{AreTrace, Breaks, follows, IsRead, reached_after, reached_by, reached_by_start, time_of_last};
 
-use crate::LINE_LIMIT;
+use crate::READ_LINE_LIMIT;
 use crate::line::{TraceLine, Words};
 use crate::reading::line_of;
 use key_texts::cut_at;
@@ -176,7 +176,7 @@ pub fn time_of_last(lines: &[TraceLine]) -> u32
 fn short_line(bytes: &[u8]) -> Option<TraceLine>
     ensures { result ≡ short_line bytes.now }
 {
-    if bytes.len() > LINE_LIMIT {
+    if bytes.len() > READ_LINE_LIMIT {
         return None;
     }
     line_of(bytes)

@@ -1,7 +1,7 @@
 //! The extents of spans, which are their starts and ends, and their spare capacities, as texts that
 //! are kept from line to line.
 
-ghost use Rattle.std.specs.Prelude.{◌≡◌, ◌≤◌, ◌<◌, ◌+◌, ◌++◌, drop, length, true};
+ghost use Rattle.std.specs.Prelude.{◌≡◌, ◌≤◌, ◌<◌, ◌+◌, ◌++◌, decimal, drop, length, true};
 ghost use Rattle.std.specs.Fmt.{signed_decimal};
 ghost use Rattle.trace_text.specs.declared.TheConstants.{DECIMAL_LIMIT, EXTENT_LIMIT, LINE_LIMIT, SPAN_LIMIT};
 ghost use Rattle.trace_text.specs.declared.extents.TheConstants.{EXTENT_COUNT, EXTENT_SIZE, SPARE_COUNT, SPARE_SIZE};
@@ -18,8 +18,8 @@ const EXTENT_COUNT: usize = 64;
 /// How many texts of spare capacities are kept.
 const SPARE_COUNT: usize = 128;
 
-/// Most bytes of the text of an extent that is kept: two numbers of ten digits each.
-const EXTENT_SIZE: usize = 24;
+/// Most bytes of the text of an extent that is kept: two numbers of six digits each.
+const EXTENT_SIZE: usize = 16;
 
 /// Most bytes of the text of a spare capacity that is kept.
 const SPARE_SIZE: usize = 8;
@@ -32,6 +32,12 @@ pub(crate) trait SpanWriter {
         ensures text { line.new ≡ line.old ++ extent_text span.now.start span.now.end
             ++ signed_decimal span.now.spare }
         ensures short { length line.new ≤ length line.old + SPAN_LIMIT };
+
+    /// Appends the number of the spans that are not shown.
+    fn push_more(&mut self, line: &mut Line, more: u32)
+        requires { length line.old + DECIMAL_LIMIT ≤ LINE_LIMIT }
+        ensures text { line.new ≡ line.old ++ decimal more }
+        ensures short { length line.new ≤ length line.old + DECIMAL_LIMIT };
 }
 
 /// Appends the extent of the span, made anew.
@@ -55,6 +61,10 @@ impl SpanWriter for Anew {
     fn push_span(&mut self, line: &mut Line, span: &Span) {
         push_extent(line, span);
         line.signed_number(span.spare);
+    }
+
+    fn push_more(&mut self, line: &mut Line, more: u32) {
+        line.number(u64::from(more));
     }
 }
 
@@ -181,6 +191,21 @@ impl SpareCell {
         self.spare == spare
     }
 
+    /// Appends the spare capacity, of which the text is made anew where it is not the one that is
+    /// kept.
+    #[inline]
+    fn push_spare(&mut self, line: &mut Line, spare: i64)
+        requires { length line.old + DECIMAL_LIMIT ≤ LINE_LIMIT }
+        ensures text { line.new ≡ line.old ++ signed_decimal spare }
+        ensures short { length line.new ≤ length line.old + DECIMAL_LIMIT }
+    {
+        if self.is_of(spare) {
+            line.push_block(self.bytes, self.len);
+        } else {
+            self.renew(line, spare);
+        }
+    }
+
     /// Appends the spare capacity, and keeps its text.
     fn renew(&mut self, line: &mut Line, spare: i64)
         requires { length line.old + DECIMAL_LIMIT ≤ LINE_LIMIT }
@@ -234,12 +259,12 @@ fn extent_place(span: &Span) -> usize
     span.end as usize % EXTENT_COUNT
 }
 
-/// The place of the cell of the spare capacity of the span.
+/// The place of the cell of a spare capacity.
 #[inline]
-fn spare_place(span: &Span) -> usize
+fn spare_place(spare: i64) -> usize
     ensures { result < SPARE_COUNT }
 {
-    span.spare.cast_unsigned() as usize % SPARE_COUNT
+    spare.cast_unsigned() as usize % SPARE_COUNT
 }
 
 impl SpanWriter for Cells {
@@ -247,12 +272,19 @@ impl SpanWriter for Cells {
     fn push_span(&mut self, line: &mut Line, span: &Span) {
         let Cells { extents, spares } = self;
         let extent = &mut extents[extent_place(span)];
-        let spare = &mut spares[spare_place(span)];
+        let spare = &mut spares[spare_place(span.spare)];
         if extent.is_of(span) && spare.is_of(span.spare) {
             extent.push_with(spare, line);
         } else {
             extent.renew(line, span);
-            spare.renew(line, span.spare);
+            spare.push_spare(line, span.spare);
         }
+    }
+
+    /// A number of spans has the text of so many slots, which may be kept.
+    #[inline]
+    fn push_more(&mut self, line: &mut Line, more: u32) {
+        let spare = i64::from(more);
+        self.spares[spare_place(spare)].push_spare(line, spare);
     }
 }

@@ -57,6 +57,18 @@ impl Line {
         self.len = start + bytes.len();
     }
 
+    /// Appends the first `count` bytes of a block, for all of which there is room.
+    #[inline]
+    pub(crate) fn push_block<const N: usize>(&mut self, block: [u8; N], count: usize)
+        requires counted { count ≤ N }
+        requires room { length self.old + N ≤ LINE_LIMIT }
+        ensures { self.new ≡ self.old ++ take count block.entry }
+    {
+        let start = self.len;
+        self.bytes[start..start + N].copy_from_slice(&block);
+        self.len = start + count;
+    }
+
     /// Appends the first `count` bytes of one block and then the first `more` of another, for all
     /// of which there is room. The length is written once.
     #[inline]

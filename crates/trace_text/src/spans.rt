@@ -42,6 +42,6 @@ pub(crate) fn push_shown<W: SpanWriter>(line: &mut Line, writer: &mut W, shown: 
     let more = shown.more();
     if more > 0 {
         line.push(b" +");
-        line.number(u64::from(more));
+        writer.push_more(line, more);
     }
 }

@@ -15,7 +15,9 @@ mod offers;
 mod points;
 mod shown;
 mod soft;
+pub mod texts;
 pub mod walk;
 
+pub use texts::{FAULT_LIMIT, fault_text};
 pub use verify_faults::VerifyFault;
 pub use walk::verify;

@@ -40,7 +40,7 @@ pub fn verify(
         → ¬ (IsLawfulText plan.now.tasks arrivals.now slots text.now)) }
     ensures named { IfErr result (λ fault. names_known plan.now.tasks fault ≡ true) }
 {
-    // The plan's set is sound, which the clauses stand on.
+    // (so that the prover knows that the plan's set is sound)
     let _tasks = plan.tasks();
     checked(alloc, plan, arrivals, slots, text)
 }

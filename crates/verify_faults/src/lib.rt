@@ -1,8 +1,7 @@
-//! Why a recorded trace is no lawful one, and the texts that tell it.
+//! Why a recorded trace is no lawful one, with the numbers of the faults, and their texts as
+//! definitions.
 #![tactic(auto)]
 
 pub mod faults;
-pub mod texts;
 
 pub use faults::VerifyFault;
-pub use texts::{FAULT_LIMIT, fault_text};

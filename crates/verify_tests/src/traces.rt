@@ -5,8 +5,7 @@ use sample_sets::pair_set;
 use std::alloc::Global;
 use std::test::Fail;
 use trace_text::Line;
-use trace_verify::verify;
-use verify_faults::fault_text;
+use trace_verify::{fault_text, verify};
 
 /// Texts of one slot of a set of two tasks, and the words of their faults.
 const PAIR_TEXTS: [(&[u8], &[u8]); 6] = [

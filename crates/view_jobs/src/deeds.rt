@@ -72,7 +72,7 @@ pub(crate) fn deeds_of(
 }
 
 /// What the line does, or None where it names a task that the set does not have.
-pub fn deed_of(tasks: &TaskSet, line: &TraceLine) -> Option<Deed>
+pub(crate) fn deed_of(tasks: &TaskSet, line: &TraceLine) -> Option<Deed>
     requires { is_sound tasks.now ≡ true }
     ensures { result ≡ deed_of tasks.now line.now }
 {

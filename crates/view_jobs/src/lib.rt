@@ -9,8 +9,5 @@ mod put;
 mod rows;
 mod tallies;
 
-pub use deeds::{Arrived, Deed, Does, deed_of};
 pub use faults::JobsFault;
-pub use jobs::Listed;
 pub use put::put_jobs;
-pub use tallies::Tally;

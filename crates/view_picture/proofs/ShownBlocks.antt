@@ -1,106 +1,90 @@
--- A block that stands in a drawing stands in what the drawing is a part of.
-use Rattle.std.proofs.Common.{◌≡◌, ◌≤◌, ◌+◌, ◌*◌, ℕ, List, [], ◌∷◌, ◌++◌, codes, flat_map, ap, append_assoc, append-nil, arith, sym, ◌∙◌}
-use Rattle.std.specs.List.{All}
-use Rattle.std.proofs.lemmas.List.Elements.{All-weaker}
+-- What is drawn behind the blocks, and block after block.
+use Rattle.std.proofs.Common.{◌≡◌, ◌≤◌, ◌<◌, ◌+◌, ◌*◌, ℕ, Bool, List, [], ◌∷◌, ◌++◌, length, length-append, take, ap, append_assoc, append-nil, arith, subst, sym, ◌∙◌, inl, inr}
+use Rattle.std.specs.Prelude.{Err, Ok, OnErr, OnOk, Result, get_or}
+use Rattle.std.proofs.Math.Nat.{min-eq_left}
+use Rattle.std.proofs.lemmas.List.{take_more}
 use Rattle.run_blocks.specs.declared.blocks.Block.{Block}
-use Rattle.svg_text.specs.Content.{attribute_text, closing, escaped, opening}
-use Rattle.svg_text.specs.Shapes.{document_text, line_text, rect_text, sized}
+use Rattle.run_blocks.specs.declared.rows.Row.{Row}
+use Rattle.run_blocks.specs.Rows.{AreRowsOf}
+use Rattle.run_blocks.proofs.RowCounts.{rows-few}
 use Rattle.trace_lines.specs.declared.line.TraceLine.{TraceLine}
+use Rattle.trace_lines.specs.Traces.{runs_of, time_of_last}
+use Rattle.trace_lines.proofs.LineMoves.{trace-runs-few}
+use Rattle.view_picture.specs.declared.TheConstants.{PICTURE_LIMIT}
+use Rattle.view_picture.specs.declared.layout.TheConstants.{FAR, ROW, TOP_LIMIT}
 use Rattle.view_picture.specs.declared.layout.Times.{Times}
-use Rattle.view_picture.specs.Blocks.{HasBlock, ShowsRuns, block_frame}
-use Rattle.view_picture.specs.Titles.{block_title}
+use Rattle.view_picture.specs.Backdrops.{HasNoBlock}
+use Rattle.view_picture.specs.Blocks.{AreDrawn, AreFewRows, after_steps, block_text, blocks_text}
 
--- rows that are not too many end no further than a place may be
-pub rows-near : (top rows : ℕ) → top ≤ 4000 → rows ≤ 10000 → top + rows * 18 ≤ 1000000
-rows-near top rows high few = omega (arith, high, few)
+-- a drawing with no block that becomes another one with none, or stays
+pub HasNoBlock-drawn :
+    {T E : Type 0} {before whole after : List ℕ} (result : Result T E)
+    → OnOk result (after ≡ whole) → OnErr result (after ≡ before) → HasNoBlock before
+    → HasNoBlock whole → HasNoBlock after
+HasNoBlock-drawn (Ok value) grown same old new = subst HasNoBlock (sym grown) new
+HasNoBlock-drawn (Err e) grown same old new = subst HasNoBlock (sym same) old
 
--- a piece between others lies between more
-between : (f b p a k : List ℕ) → (f ++ ((b ++ p) ++ a)) ++ k ≡ ((f ++ b) ++ p) ++ (a ++ k)
-between f b p a k = search append_assoc
+-- few rows, as those of a trace are, end no further than a place may be
+pub rows-near :
+    (lines : List TraceLine) (rows : List Row) (top : ℕ) → top ≤ TOP_LIMIT
+    → time_of_last lines ≤ PICTURE_LIMIT → AreRowsOf rows (runs_of lines) → AreFewRows rows lines
+    → top + length rows * ROW ≤ FAR
+rows-near lines rows top high short own (inl few) = omega (arith, high, few)
+rows-near lines rows top high short own (inr trace) =
+    let few = rows-few rows (runs_of lines) own in
+    let run = trace-runs-few lines trace in
+    omega (arith, high, short, few, run)
 
--- a block between what is drawn before and after
-pub HasBlock-between :
-    (times : Times) (top : ℕ) (front drawing back whole : List ℕ) (block : Block)
-    → whole ≡ (front ++ drawing) ++ back → HasBlock times top drawing block
-    → HasBlock times top whole block
-HasBlock-between times top front drawing back whole block is has =
-    let piece = rect_text has.shade (block_frame times top block) (block_title block) in
-    record {
-      shade = has.shade;
-      before = front ++ has.before;
-      after = has.after ++ back;
+-- steps that no place cuts off, and that end inside
+pub steps-inside :
+    (from count step edge : ℕ) → from + count * step ≤ FAR → after_steps from count step ≤ edge
+    → from + count * step ≤ edge
+steps-inside from count step edge near inside =
+    subst (λ place. place ≤ edge) (min-eq_left near) inside
+
+-- the text of blocks and one more
+blocks_text-more :
+    (times : Times) (top : ℕ) (blocks : List Block) (seconds : List Bool) (block : Block)
+    (second : Bool) → length seconds ≡ length blocks
+    → blocks_text times top (blocks ++ block ∷ []) (seconds ++ second ∷ [])
+    ≡ blocks_text times top blocks seconds ++ block_text times top block second
+blocks_text-more times top [] [] block second each = append-nil (block_text times top block second)
+blocks_text-more times top (b ∷ blocks) (s ∷ seconds) block second each =
+    let rest : length seconds ≡ length blocks = omega (arith, each) in
+    ap
+    (λ xs. block_text times top b s ++ xs)
+    (blocks_text-more times top blocks seconds block second rest)
+    ∙ sym
+    (append_assoc
+    (block_text times top b s)
+    (blocks_text times top blocks seconds)
+    (block_text times top block second))
+blocks_text-more times top [] (s ∷ seconds) block second each = absurd (omega (arith, each))
+blocks_text-more times top (b ∷ blocks) [] block second each = absurd (omega (arith, each))
+
+-- blocks that are drawn, and one more
+pub AreDrawn-more :
+    (times : Times) (top : ℕ) (blocks : List Block) (place : ℕ) (block : Block) (second : Bool)
+    (before between after : List ℕ) → place < length blocks → block ≡ get_or blocks place block
+    → AreDrawn times top (take place blocks) before between
+    → after ≡ between ++ block_text times top block second
+    → AreDrawn times top (take (place + 1) blocks) before after
+AreDrawn-more times top blocks place block second before between after low is old grown =
+    let front = take place blocks in
+    let piece = block_text times top block second in
+    let longer = length-append old.seconds (second ∷ []) in
+    let more = length-append front (block ∷ []) in
+    subst
+    (λ bs. AreDrawn times top bs before after)
+    (sym (take_more blocks place block low ∙ ap (λ b. front ++ b ∷ []) (sym is)))
+    (record {
+      seconds = old.seconds ++ second ∷ [];
+      each = omega (arith, longer, more, old.each);
       drawn =
-          is
-          ∙ ap (λ xs. (front ++ xs) ++ back) has.drawn
-          ∙ between front has.before piece has.after back;
-    }
-
--- where more is drawn, all blocks stay
-pub blocks-kept :
-    (times : Times) (top : ℕ) (before after more : List ℕ) (blocks : List Block)
-    → after ≡ before ++ more → All (HasBlock times top before) blocks
-    → All (HasBlock times top after) blocks
-blocks-kept times top before after more blocks is all =
-    All-weaker
-    (HasBlock times top before)
-    (HasBlock times top after)
-    (λ block has. HasBlock-between times top [] before more after block is has)
-    blocks
-    all
-
--- a block that is drawn now
-pub HasBlock-drawn :
-    (times : Times) (top : ℕ) (shade before after : List ℕ) (block : Block)
-    → after ≡ before ++ rect_text shade (block_frame times top block) (block_title block)
-    → HasBlock times top after block
-HasBlock-drawn times top shade before after block is = record {
-  shade = shade;
-  before = before;
-  after = [];
-  drawn = is ∙ sym (append-nil (before ++ rect_text shade (block_frame times top block) (block_title block)));
-}
-
--- a document has its drawing between a front and a back
-parts : (o s d c n : List ℕ) → ((o ++ (s ++ d)) ++ c) ++ n ≡ ((o ++ s) ++ d) ++ (c ++ n)
-parts o s d c n = search append_assoc
-
--- what a drawing shows, its document shows
-pub ShowsRuns-document :
-    (lines : List TraceLine) (width height : ℕ) (style drawing document : List ℕ)
-    → document ≡ document_text width height style drawing → ShowsRuns lines drawing
-    → ShowsRuns lines document
-ShowsRuns-document lines width height style drawing document is shows =
-    let opens = opening (codes "svg") (flat_map attribute_text (sized width height)) in
-    let styled = 10 ∷ line_text (codes "style") [] (escaped style) in
-    let front = opens ++ styled in
-    let back = closing (codes "svg") ++ 10 ∷ [] in
-    record {
-      rows = shows.rows;
-      blocks = shows.blocks;
-      times = shows.times;
-      top = shows.top;
-      own = shows.own;
-      stands = shows.stands;
-      placed = shows.placed;
-      apart = shows.apart;
-      wide = shows.wide;
-      whole = shows.whole;
-      low = shows.low;
-      drawn =
-          All-weaker
-          (HasBlock shows.times shows.top drawing)
-          (HasBlock shows.times shows.top document)
-          (λ block has.
-          HasBlock-between
-          shows.times
-          shows.top
-          front
-          drawing
-          back
-          document
-          block
-          (is ∙ parts opens styled drawing (closing (codes "svg")) (10 ∷ []))
-          has)
-          shows.blocks
-          shows.drawn;
-    }
+          grown
+          ∙ ap (λ xs. xs ++ piece) old.drawn
+          ∙ append_assoc before (blocks_text times top front old.seconds) piece
+          ∙ ap
+          (λ xs. before ++ xs)
+          (sym (blocks_text-more times top front old.seconds block second old.each));
+    })

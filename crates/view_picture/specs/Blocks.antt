@@ -1,20 +1,34 @@
 -- The blocks of a picture, and the runs that they stand for.
-use Rattle.std.specs.Prelude.{◌≡◌, ℕ, ◌+◌, ◌-◌, ◌*◌, ◌≤◌, true, List, ◌++◌, length, min, All}
+use Rattle.std.specs.Prelude.{◌≡◌, ◌⊎◌, ℕ, ◌+◌, ◌-◌, ◌*◌, ◌≤◌, Bool, true, false, List, [], ◌∷◌, ◌++◌, codes, length, min}
 use Rattle.run_blocks.specs.declared.blocks.Block.{Block}
 use Rattle.run_blocks.specs.declared.rows.Row.{Row}
 use Rattle.run_blocks.specs.Blocks.{AreApart, are_placed, blocks_runs}
-use Rattle.run_blocks.specs.Rows.{AreRowsOf}
+use Rattle.run_blocks.specs.Rows.{AreRowsOf, have_few_firms, may_all_stand}
 use Rattle.svg_text.specs.declared.drawing.Frame.{Frame}
-use Rattle.svg_text.specs.Shapes.{rect_text}
+use Rattle.svg_text.specs.Shapes.{document_text, rect_text}
+use Rattle.trace_lines.specs.declared.line.KeyName.{KeyName}
+use Rattle.trace_lines.specs.declared.line.KeyName.TheVariants.{Offline, Sporadic, Firm, Soft}
 use Rattle.trace_lines.specs.declared.line.TraceLine.{TraceLine}
-use Rattle.trace_lines.specs.Traces.{runs_of}
+use Rattle.trace_lines.specs.Traces.{AreTrace, runs_of, time_of_last}
 use Rattle.view_picture.specs.declared.TheConstants.{PICTURE_LIMIT}
-use Rattle.view_picture.specs.declared.layout.TheConstants.{FAR, ROW}
+use Rattle.view_picture.specs.declared.layout.TheConstants.{ABOVE, BLOCK, FAR, LEAST_SLOT, ROW}
 use Rattle.view_picture.specs.declared.layout.Times.{Times}
-use Rattle.view_picture.specs.Lengths.{slots_of}
+use Rattle.view_picture.specs.declared.style.TheConstants.{STYLE}
+use Rattle.view_picture.specs.Backdrops.{HasNoBlock}
 use Rattle.view_picture.specs.Titles.{block_title}
 
--- so many steps further, but no place is further than 1,000,000 pixels
+-- the shade of a block, which is its class: the kind of its job has a first one and a second one
+abbrev pub shade_of : KeyName → Bool → List ℕ
+shade_of (Offline graph task instance) false = codes "task-a"
+shade_of (Offline graph task instance) true = codes "task-b"
+shade_of (Sporadic name row) false = codes "alarm-a"
+shade_of (Sporadic name row) true = codes "alarm-b"
+shade_of (Firm row) false = codes "firm-a"
+shade_of (Firm row) true = codes "firm-b"
+shade_of (Soft row) false = codes "soft-a"
+shade_of (Soft row) true = codes "soft-b"
+
+-- so many steps further, but no place is further than FAR pixels
 abbrev pub after_steps : ℕ → ℕ → ℕ → ℕ
 after_steps from count step = min (from + count * step) FAR
 
@@ -23,37 +37,64 @@ abbrev pub x_of : Times → ℕ → ℕ
 x_of times time = after_steps times.left time times.slot
 
 -- where a block lies: from the left edge of its first slot up to a pixel before that of the slot
--- after it, in its row, which are 18 high from the top of the first one on
+-- after it, in its row, which are counted from the top of the first one on
 abbrev pub block_frame : Times → ℕ → Block → Frame
 block_frame times top block = record {
   x = x_of times block.start;
-  y = after_steps top block.row 18 + 3;
+  y = after_steps top block.row ROW + ABOVE;
   width = x_of times block.end - x_of times block.start - 1;
-  height = 13;
+  height = BLOCK;
 }
 
--- a block stands in a drawing: a rectangle of some shade that has its place and its title
-pub record HasBlock (times : Times) (top : ℕ) (drawing : List ℕ) (block : Block) : Type 0 where
-  pub shade : List ℕ
-  pub before : List ℕ
-  pub after : List ℕ
-  pub drawn :
-      drawing ≡ before ++ rect_text shade (block_frame times top block) (block_title block) ++ after
+-- a block, in the first or in the second shade of the kind of its job, with its title
+abbrev pub block_text : Times → ℕ → Block → Bool → List ℕ
+block_text times top block second =
+    rect_text (shade_of block.key.now second) (block_frame times top block) (block_title block)
 
--- a document shows what lines run: blocks that stand for a job and a slot exactly where a line runs
--- that job in that slot, each in the row of its job and joined where they go on, all stand in it,
--- over rows of the jobs that run, one for each, and over slots that are at least 3 pixels wide; the
--- last slot ends no further than a place may be, and the last row where there are not too many
+-- blocks one after the other, each in its shade
+abbrev pub blocks_text : Times → ℕ → List Block → List Bool → List ℕ
+blocks_text times top (block ∷ blocks) (second ∷ seconds) =
+    block_text times top block second ++ blocks_text times top blocks seconds
+blocks_text times top blocks seconds = []
+
+-- a drawing grows by these blocks, each in one of its two shades, and by nothing else
+pub record AreDrawn (times : Times) (top : ℕ) (blocks : List Block) (before after : List ℕ)
+    : Type 0 where
+  pub seconds : List Bool
+  pub each : length seconds ≡ length blocks
+  pub drawn : after ≡ before ++ blocks_text times top blocks seconds
+
+-- the rows are few: no more than a picture may have slots, or the lines are those of a trace, which
+-- has a slot for each row
+abbrev pub AreFewRows : List Row → List TraceLine → Type 0
+AreFewRows rows lines = (length rows ≤ PICTURE_LIMIT) ⊎ AreTrace lines
+
+-- a document shows what lines run: it is a backdrop in which no element is a block, and then the
+-- blocks, which stand for a job and a slot exactly where a line runs that job in that slot, each in
+-- the row of its job and joined where they go on, over rows of the jobs that run, one for each, but
+-- one for all firm jobs where many run, and over slots of a least width; each slot lies whole
+-- inside the document, and so does each row where they are few, as those of a trace are
 pub record ShowsRuns (lines : List TraceLine) (document : List ℕ) : Type 0 where
   pub rows : List Row
   pub blocks : List Block
+  pub seconds : List Bool
   pub times : Times
   pub top : ℕ
+  pub width : ℕ
+  pub height : ℕ
+  pub backdrop : List ℕ
   pub own : AreRowsOf rows (runs_of lines)
+  pub firms : may_all_stand (have_few_firms (runs_of lines)) rows ≡ true
   pub stands : blocks_runs blocks ≡ runs_of lines
   pub placed : are_placed rows blocks ≡ true
   pub apart : AreApart blocks
-  pub wide : 3 ≤ times.slot
-  pub whole : times.left + slots_of lines * times.slot ≤ FAR
-  pub low : length rows ≤ PICTURE_LIMIT → top + length rows * ROW ≤ FAR
-  pub drawn : All (HasBlock times top document) blocks
+  pub wide : LEAST_SLOT ≤ times.slot
+  pub whole : times.left + time_of_last lines * times.slot ≤ FAR
+  pub right : times.left + time_of_last lines * times.slot ≤ width
+  pub low : AreFewRows rows lines → top + length rows * ROW ≤ FAR
+  pub bottom : AreFewRows rows lines → top + length rows * ROW ≤ height
+  pub bare : HasNoBlock backdrop
+  pub each : length seconds ≡ length blocks
+  pub drawn :
+      document ≡
+      document_text width height STYLE.now (backdrop ++ blocks_text times top blocks seconds)

@@ -1,4 +1,5 @@
+pub mod Backdrops
 pub mod Blocks
+pub mod Examples
 pub mod FaultTexts
-pub mod Lengths
 pub mod Titles

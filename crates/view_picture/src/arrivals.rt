@@ -1,15 +1,16 @@
 //! What arrived, in lanes above the rows.
 
+use crate::backdrop::Backdrop;
 use crate::layout::{Heights, LANE, MARGIN, Times, down};
 use crate::marks::{GROUPS, Group, Mark};
 use crate::titles::arrival_title;
 use slot_core::Memory;
 use std::alloc::Global;
-use svg_text::{Drawing, Frame};
+use svg_text::Frame;
 use trace_lines::{TraceLine, Words};
 
 /// Most lanes of a group: where more things overlap, they are drawn over one another.
-const LANES: usize = 4;
+const LANES: usize = 20;
 
 /// The width of a mark.
 const MARK: u32 = 8;
@@ -115,7 +116,7 @@ fn due_of(line: &TraceLine) -> Option<u64> {
 /// Draws what arrives.
 pub(crate) fn draw_arrivals(
     alloc: Global,
-    drawing: &mut Drawing,
+    backdrop: &mut Backdrop,
     times: &Times,
     heights: &Heights,
     arrivals: &Arrivals<'_>,
@@ -123,7 +124,7 @@ pub(crate) fn draw_arrivals(
     let x = times.left.saturating_sub(MARGIN);
     for lanes in &arrivals.labels {
         let y = down(heights.lanes, lanes.first, LANE);
-        drawing.label(
+        backdrop.label(
             "what",
             x,
             y.saturating_add(13),
@@ -131,7 +132,7 @@ pub(crate) fn draw_arrivals(
         )?;
     }
     for arrived in &arrivals.arrived {
-        draw_arrived(alloc, drawing, times, heights, arrived)?;
+        draw_arrived(alloc, backdrop, times, heights, arrived)?;
     }
     Ok(())
 }
@@ -139,7 +140,7 @@ pub(crate) fn draw_arrivals(
 /// Draws an arrival.
 fn draw_arrived(
     alloc: Global,
-    drawing: &mut Drawing,
+    backdrop: &mut Backdrop,
     times: &Times,
     heights: &Heights,
     arrived: &Arrived<'_>,
@@ -150,10 +151,11 @@ fn draw_arrived(
     if let Some(due) = due_of(arrived.line) {
         let end = times.x(due.min(u64::from(times.slots)));
         draw_due(
-            drawing,
+            backdrop,
             x,
             y.saturating_add(3),
             end.saturating_sub(x),
+            due <= u64::from(times.slots),
             title.as_slice(),
         )?;
     }
@@ -162,15 +164,17 @@ fn draw_arrived(
         y.saturating_add(3),
         arrived.mark,
     );
-    drawing.path(mark.class(), x, y, mark.strokes(), title.as_slice())
+    backdrop.path(mark.class(), x, y, mark.strokes(), title.as_slice())
 }
 
-/// Draws the line of this width to the deadline of an accepted offer.
+/// Draws the line of this width to the deadline of an accepted offer, with a foot where that lies in
+/// the picture.
 pub(crate) fn draw_due(
-    drawing: &mut Drawing,
+    backdrop: &mut Backdrop,
     x: u32,
     y: u32,
     width: u32,
+    foot: bool,
     title: &[u8],
 ) -> Result<(), Memory> {
     let long = Frame {
@@ -179,12 +183,15 @@ pub(crate) fn draw_due(
         width,
         height: 2,
     };
-    drawing.rect("due", long, title)?;
+    backdrop.rect("due", long, title)?;
+    if !foot {
+        return Ok(());
+    }
     let tick = Frame {
         x: x.saturating_add(width).saturating_sub(1),
         y,
         width: 2,
         height: 10,
     };
-    drawing.rect("due", tick, title)
+    backdrop.rect("due", tick, title)
 }

@@ -2,10 +2,11 @@
 
 ghost use Rattle.std.specs.Prelude.{◌<◌};
 
+use crate::backdrop::Backdrop;
 use crate::layout::{Heights, MARGIN, Times};
 use itoa::Buffer;
 use slot_core::Memory;
-use svg_text::{Drawing, Frame};
+use svg_text::Frame;
 
 /// The distances between ticks, of which the first is taken that leaves room for numbers.
 const STEPS: [u32; 8] = [1, 2, 5, 10, 20, 50, 100, 200];
@@ -15,22 +16,22 @@ const ROOM: u32 = 36;
 
 /// Draws a line down the picture at each tick, and its time above and below.
 pub(crate) fn draw_axis(
-    drawing: &mut Drawing,
+    backdrop: &mut Backdrop,
     times: &Times,
     heights: &Heights,
 ) -> Result<(), Memory> {
     let x = times.left.saturating_sub(MARGIN);
-    drawing.label("what", x, heights.lanes.saturating_sub(5), b"slot")?;
+    backdrop.label("what", x, heights.lanes.saturating_sub(5), b"slot")?;
     let step = step_of(times.slot);
     for tick in 0..=times.slots / step {
-        draw_tick(drawing, times, heights, tick.saturating_mul(step))?;
+        draw_tick(backdrop, times, heights, tick.saturating_mul(step))?;
     }
     Ok(())
 }
 
 /// Draws the tick of this time.
 fn draw_tick(
-    drawing: &mut Drawing,
+    backdrop: &mut Backdrop,
     times: &Times,
     heights: &Heights,
     time: u32,
@@ -42,11 +43,11 @@ fn draw_tick(
         width: 1,
         height: heights.bottom.saturating_sub(heights.lanes),
     };
-    drawing.rect("grid", frame, b"")?;
+    backdrop.fill("grid", frame)?;
     let mut buffer = Buffer::new();
     let number = buffer.format(time).as_bytes();
-    drawing.label("tick", x, heights.lanes.saturating_sub(5), number)?;
-    drawing.label("tick", x, heights.bottom.saturating_add(14), number)
+    backdrop.label("tick", x, heights.lanes.saturating_sub(5), number)?;
+    backdrop.label("tick", x, heights.bottom.saturating_add(14), number)
 }
 
 /// The distance between ticks where a slot is so wide.

@@ -1,26 +1,22 @@
 //! The blocks of slots in which one job runs.
 
-ghost use Rattle.std.specs.Prelude.{◌≡◌, ◌+◌, ◌*◌, ◌≤◌, ◌++◌, All, OnOk};
-ghost use Rattle.run_blocks.specs.Rows.{AreRowsOf};
-ghost use Rattle.svg_text.specs.Shapes.{rect_text};
-ghost use Rattle.trace_lines.specs.Traces.{runs_of};
-ghost use Rattle.view_picture.specs.declared.layout.TheConstants.{FAR};
-ghost use Rattle.view_picture.specs.Blocks.{HasBlock, ShowsRuns, block_frame};
-ghost use Rattle.view_picture.specs.Lengths.{slots_of};
-ghost use Rattle.view_picture.specs.Titles.{block_title};
+ghost use Rattle.std.specs.Prelude.{◌≡◌, ◌+◌, ◌*◌, ◌≤◌, ◌++◌, ℕ, true, length, OnOk};
+ghost use Rattle.run_blocks.specs.Rows.{AreRowsOf, have_few_firms, may_all_stand};
+ghost use Rattle.svg_text.specs.Shapes.{document_text};
+ghost use Rattle.trace_lines.specs.Traces.{runs_of, time_of_last};
+ghost use Rattle.view_picture.specs.declared.TheConstants.{PICTURE_LIMIT};
+ghost use Rattle.view_picture.specs.declared.layout.TheConstants.{FAR, LEAST_SLOT, ROW, TOP_LIMIT};
+ghost use Rattle.view_picture.specs.declared.style.TheConstants.{STYLE};
+ghost use Rattle.view_picture.specs.Backdrops.{HasNoBlock};
+ghost use Rattle.view_picture.specs.Blocks.{AreDrawn, ShowsRuns, after_steps, block_text, shade_of, x_of};
 
-use crate::layout::{ROW, Times, down};
+use crate::layout::{ABOVE, BLOCK, ROW, Times, down};
 use crate::titles::block_title;
 use run_blocks::{Block, Row, blocks_of};
 use slot_core::Memory;
 use std::alloc::Global;
 use svg_text::{Drawing, Frame};
 use trace_lines::{KeyName, TraceLine};
-
-/// The height of a block, and the place of its upper edge in a row.
-const BLOCK: u32 = 13;
-
-const ABOVE: u32 = 3;
 
 /// The last job that was drawn in a row, and whether it has the second shade.
 #[derive(Clone, Copy)]
@@ -29,7 +25,7 @@ struct Last<'a> {
     second: bool,
 }
 
-/// Draws the blocks of what the lines run.
+/// Draws the blocks of what the lines run on a drawing that has none.
 pub(crate) fn draw_runs(
     alloc: Global,
     drawing: &mut Drawing,
@@ -39,18 +35,24 @@ pub(crate) fn draw_runs(
     top: u32,
 ) -> Result<(), Memory>
     requires own { AreRowsOf rows.now (runs_of lines.now) }
-    requires wide { 3 ≤ times.now.slot }
-    requires high { top ≤ 4000 }
-    requires whole { times.now.left + slots_of lines.now * times.now.slot ≤ FAR }
-    ensures { OnOk result (ShowsRuns lines.now drawing.new) }
+    requires firms { may_all_stand (have_few_firms (runs_of lines.now)) rows.now ≡ true }
+    requires count { times.now.slots ≡ time_of_last lines.now }
+    requires wide { LEAST_SLOT ≤ times.now.slot }
+    requires high { top ≤ TOP_LIMIT }
+    requires whole { times.now.left + time_of_last lines.now * times.now.slot ≤ FAR }
+    requires short { time_of_last lines.now ≤ PICTURE_LIMIT }
+    requires bare { HasNoBlock drawing.old }
+    ensures { OnOk result ((width height : ℕ) → x_of times.now times.now.slots ≤ width
+        → after_steps top (length rows.now) ROW ≤ height
+        → ShowsRuns lines.now (document_text width height STYLE.now drawing.new)) }
 {
     let blocks = blocks_of(alloc, lines, rows)?;
     draw_blocks(alloc, drawing, times, top, rows.len(), blocks.as_slice())?;
     Ok(())
 }
 
-/// Draws the blocks in rows from this place on, those of the jobs of a row in one shade and in the
-/// other.
+/// Draws the blocks in rows from this place on. The first block of a row has the first shade, and
+/// after that the shade of a row changes where its job does.
 fn draw_blocks(
     alloc: Global,
     drawing: &mut Drawing,
@@ -59,7 +61,7 @@ fn draw_blocks(
     rows: usize,
     blocks: &[Block<'_>],
 ) -> Result<(), Memory>
-    ensures { OnOk result (All (HasBlock times.now top drawing.new) blocks.now) }
+    ensures { OnOk result (AreDrawn times.now top blocks.now drawing.old drawing.new) }
 {
     let none = Last {
         key: None,
@@ -68,7 +70,7 @@ fn draw_blocks(
     let mut last = vec![in alloc; none; rows]?;
     for block in blocks {
         let second = is_second(&mut last, block);
-        draw_block(alloc, drawing, times, top, shade(block.key, second), block)?;
+        draw_block(alloc, drawing, times, top, block, second)?;
     }
     Ok(())
 }
@@ -86,17 +88,16 @@ fn is_second<'a>(last: &mut [Last<'a>], block: &Block<'a>) -> bool {
     }
 }
 
-/// Draws a block.
+/// Draws a block in the first or in the second shade.
 fn draw_block(
     alloc: Global,
     drawing: &mut Drawing,
     times: &Times,
     top: u32,
-    class: &str,
     block: &Block<'_>,
+    second: bool,
 ) -> Result<(), Memory>
-    ensures { OnOk result (drawing.new ≡ drawing.old
-        ++ rect_text class.now (block_frame times.now top block.now) (block_title block.now)) }
+    ensures { OnOk result (drawing.new ≡ drawing.old ++ block_text times.now top block.now second) }
 {
     let title = block_title(alloc, block)?;
     let frame = Frame {
@@ -105,11 +106,13 @@ fn draw_block(
         width: times.width(block.start, block.end).saturating_sub(1),
         height: BLOCK,
     };
-    drawing.rect(class, frame, title.as_slice())
+    drawing.rect(shade_of(block.key, second), frame, title.as_slice())
 }
 
-/// The class of a block: the kind of its job, in the first or the second shade.
-fn shade(key: &KeyName, second: bool) -> &'static str {
+/// The first or the second shade of the kind of a job, as the class of its block.
+fn shade_of(key: &KeyName, second: bool) -> &'static str
+    ensures { result.now ≡ shade_of key.now second }
+{
     match (key, second) {
         (KeyName::Offline(_, _, _), false) => "task-a",
         (KeyName::Offline(_, _, _), true) => "task-b",

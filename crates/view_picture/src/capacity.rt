@@ -1,10 +1,11 @@
 //! The spare capacity of the first span after each slot, and the least that is shown.
 
+use crate::backdrop::Backdrop;
 use crate::layout::{CAPACITIES, Heights, MARGIN, Times};
 use crate::titles::{level_title, push_signed};
 use slot_core::Memory;
 use std::alloc::Global;
-use svg_text::{Drawing, Frame};
+use svg_text::Frame;
 use trace_lines::{TraceLine, Words};
 
 /// Slots after each of which the first capacity and the least one are the same.
@@ -90,24 +91,24 @@ impl Scale {
 /// Draws the capacities.
 pub(crate) fn draw_capacities(
     alloc: Global,
-    drawing: &mut Drawing,
+    backdrop: &mut Backdrop,
     times: &Times,
     heights: &Heights,
     levels: &[Level],
 ) -> Result<(), Memory> {
     let scale = Scale::new(levels, heights);
     for level in levels {
-        draw_first(alloc, drawing, times, &scale, level)?;
+        draw_first(alloc, backdrop, times, &scale, level)?;
     }
-    draw_zero(drawing, times, &scale)?;
-    draw_least(alloc, drawing, times, &scale, levels)?;
-    draw_numbers(alloc, drawing, times, &scale)
+    draw_zero(backdrop, times, &scale)?;
+    draw_least(alloc, backdrop, times, &scale, levels)?;
+    draw_numbers(alloc, backdrop, times, &scale)
 }
 
 /// Draws the first capacity of a level, from the zero line on.
 fn draw_first(
     alloc: Global,
-    drawing: &mut Drawing,
+    backdrop: &mut Backdrop,
     times: &Times,
     scale: &Scale,
     level: &Level,
@@ -120,24 +121,24 @@ fn draw_first(
         width: times.width(level.start, level.end),
         height: zero.abs_diff(value),
     };
-    drawing.rect("first", frame, title.as_slice())
+    backdrop.rect("first", frame, title.as_slice())
 }
 
 /// Draws the zero line.
-fn draw_zero(drawing: &mut Drawing, times: &Times, scale: &Scale) -> Result<(), Memory> {
+fn draw_zero(backdrop: &mut Backdrop, times: &Times, scale: &Scale) -> Result<(), Memory> {
     let frame = Frame {
         x: times.left,
         y: scale.y(0),
         width: times.right().saturating_sub(times.left),
         height: 1,
     };
-    drawing.rect("zero", frame, b"")
+    backdrop.fill("zero", frame)
 }
 
 /// Draws the least capacities as a line of steps.
 fn draw_least(
     alloc: Global,
-    drawing: &mut Drawing,
+    backdrop: &mut Backdrop,
     times: &Times,
     scale: &Scale,
     levels: &[Level],
@@ -152,15 +153,15 @@ fn draw_least(
             width: times.width(level.start, level.end),
             height: 2,
         };
-        drawing.rect("least", flat, title.as_slice())?;
-        draw_rise(drawing, x, before.unwrap_or(y), y)?;
+        backdrop.rect("least", flat, title.as_slice())?;
+        draw_rise(backdrop, x, before.unwrap_or(y), y)?;
         before = Some(y);
     }
     Ok(())
 }
 
 /// Draws a step from one height to another.
-fn draw_rise(drawing: &mut Drawing, x: u32, from: u32, to: u32) -> Result<(), Memory> {
+fn draw_rise(backdrop: &mut Backdrop, x: u32, from: u32, to: u32) -> Result<(), Memory> {
     if from == to {
         return Ok(());
     }
@@ -170,20 +171,20 @@ fn draw_rise(drawing: &mut Drawing, x: u32, from: u32, to: u32) -> Result<(), Me
         width: 2,
         height: from.abs_diff(to).saturating_add(2),
     };
-    drawing.rect("least", frame, b"")
+    backdrop.fill("least", frame)
 }
 
 /// Draws the numbers at the upper edge, at the zero line and at the lower edge.
 fn draw_numbers(
     alloc: Global,
-    drawing: &mut Drawing,
+    backdrop: &mut Backdrop,
     times: &Times,
     scale: &Scale,
 ) -> Result<(), Memory> {
-    draw_number(alloc, drawing, times, scale, "capacity ", scale.high)?;
-    draw_number(alloc, drawing, times, scale, "", 0)?;
+    draw_number(alloc, backdrop, times, scale, "capacity ", scale.high)?;
+    draw_number(alloc, backdrop, times, scale, "", 0)?;
     if scale.low < 0 {
-        draw_number(alloc, drawing, times, scale, "", scale.low)?;
+        draw_number(alloc, backdrop, times, scale, "", scale.low)?;
     }
     Ok(())
 }
@@ -191,7 +192,7 @@ fn draw_numbers(
 /// Draws the number of a capacity beside it, after words.
 fn draw_number(
     alloc: Global,
-    drawing: &mut Drawing,
+    backdrop: &mut Backdrop,
     times: &Times,
     scale: &Scale,
     words: &str,
@@ -201,5 +202,5 @@ fn draw_number(
     push_signed(&mut text, words, capacity)?;
     let x = times.left.saturating_sub(MARGIN);
     let y = scale.y(capacity).saturating_add(4);
-    drawing.label("what", x, y, text.as_slice())
+    backdrop.label("what", x, y, text.as_slice())
 }

@@ -1,11 +1,14 @@
 //! Where the parts of a picture lie, in pixels.
 
-ghost use Rattle.std.specs.Prelude.{◌≡◌, ◌≤◌, ◌-◌};
-ghost use Rattle.view_picture.specs.declared.layout.TheConstants.{MOST_LETTERS};
+ghost use Rattle.std.specs.Prelude.{◌≡◌, ◌≤◌, ◌+◌, ◌-◌, ◌*◌};
+ghost use Rattle.view_picture.specs.declared.layout.TheConstants.{FAR, GREATEST_SLOT, LEAST_SLOT, LETTER, MARGIN, MOST_LETTERS, ROW, TOP_LIMIT};
 ghost use Rattle.view_picture.specs.Blocks.{after_steps, x_of};
 
 /// No place is further to the right or below.
 pub(crate) const FAR: u64 = 1_000_000;
+
+/// The first row is no further below.
+pub(crate) const TOP_LIMIT: u32 = 4_000;
 
 /// No label is given room for more letters.
 pub(crate) const MOST_LETTERS: usize = 100;
@@ -19,8 +22,10 @@ const PAGE: u32 = 1_040;
 /// Between the edge and what is drawn.
 pub(crate) const MARGIN: u32 = 12;
 
-/// The least and the greatest width of a slot.
-const SLOT_WIDTHS: (u32, u32) = (3, 16);
+/// The least width of a slot, and the greatest.
+pub(crate) const LEAST_SLOT: u32 = 3;
+
+pub(crate) const GREATEST_SLOT: u32 = 16;
 
 /// The width of a letter.
 pub(crate) const LETTER: u32 = 7;
@@ -31,6 +36,11 @@ pub(crate) const LEGEND: u32 = 18;
 pub(crate) const LANE: u32 = 16;
 
 pub(crate) const ROW: u32 = 18;
+
+/// The height of a block, and the place of its upper edge in a row.
+pub(crate) const BLOCK: u32 = 13;
+
+pub(crate) const ABOVE: u32 = 3;
 
 pub(crate) const CAPACITIES: u32 = 96;
 
@@ -46,24 +56,24 @@ impl Times {
     /// So many slots to the right of labels of at most so many letters.
     pub(crate) fn new(slots: u32, letters: usize) -> Times
         requires { letters ≤ MOST_LETTERS }
-        ensures wide { 3 ≤ result.slot }
-        ensures narrow { result.slot ≤ 16 }
-        ensures left { result.left ≤ 724 }
+        ensures count { result.slots ≡ slots }
+        ensures wide { LEAST_SLOT ≤ result.slot }
+        ensures narrow { result.slot ≤ GREATEST_SLOT }
+        ensures left { result.left ≤ 2 * MARGIN + MOST_LETTERS * LETTER }
     {
         let left = down(2 * MARGIN, letters, LETTER);
         let room = PAGE.saturating_sub(left + MARGIN);
-        let (least, greatest) = SLOT_WIDTHS;
         Times {
             slots,
             left,
-            slot: (room / slots.max(1)).clamp(least, greatest),
+            slot: (room / slots.max(1)).clamp(LEAST_SLOT, GREATEST_SLOT),
         }
     }
 
     /// The left edge of the slot of this time.
     pub(crate) fn x(&self, time: u64) -> u32
         ensures place { result ≡ x_of self.now time }
-        ensures near { result ≤ 1000000 }
+        ensures near { result ≤ FAR }
     {
         steps(self.left, time, self.slot)
     }
@@ -77,7 +87,8 @@ impl Times {
 
     /// The right edge of the last slot.
     pub(crate) fn right(&self) -> u32
-        ensures { result ≤ 1000000 }
+        ensures place { result ≡ x_of self.now self.now.slots }
+        ensures near { result ≤ FAR }
     {
         self.x(u64::from(self.slots))
     }
@@ -95,7 +106,8 @@ pub(crate) struct Heights {
 impl Heights {
     /// The heights with so many lines of the legend, lanes of arrivals and rows.
     pub(crate) fn new(legend: usize, lanes: usize, rows: usize) -> Heights
-        ensures { result.rows ≤ 4000 }
+        ensures high { result.rows ≤ TOP_LIMIT }
+        ensures below { after_steps result.rows rows ROW ≤ result.bottom }
     {
         let first = down(MARGIN, legend.min(MOST_LINES), LEGEND) + 22;
         let second = down(first, lanes.min(MOST_LINES), LANE) + 8;
@@ -112,7 +124,7 @@ impl Heights {
 /// The place after so many steps from a place on.
 pub(crate) fn down(from: u32, count: usize, step: u32) -> u32
     ensures place { result ≡ after_steps from count step }
-    ensures near { result ≤ 1000000 }
+    ensures near { result ≤ FAR }
 {
     steps(from, count as u64, step)
 }
@@ -120,7 +132,7 @@ pub(crate) fn down(from: u32, count: usize, step: u32) -> u32
 /// The place after so many steps from a place on.
 fn steps(from: u32, count: u64, step: u32) -> u32
     ensures place { result ≡ after_steps from count step }
-    ensures near { result ≤ 1000000 }
+    ensures near { result ≤ FAR }
 {
     let way = count.saturating_mul(u64::from(step));
     let place = way.saturating_add(u64::from(from)).min(FAR);

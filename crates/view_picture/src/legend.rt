@@ -1,13 +1,16 @@
 //! The legend: what the shades and marks stand for.
 
-ghost use Rattle.std.specs.Prelude.{◌≤◌};
+ghost use Rattle.std.specs.Prelude.{◌≡◌, ◌≤◌, true, nat_lt};
+ghost use Rattle.view_picture.specs.declared.layout.TheConstants.{BLOCK};
+ghost use Rattle.view_picture.specs.declared.legend.TheConstants.{SIGN};
 
 use crate::arrivals::draw_due;
+use crate::backdrop::Backdrop;
 use crate::layout::{LEGEND, LETTER, MARGIN, down};
 use crate::marks::{MARKS, Mark};
 use slot_core::Memory;
 use std::alloc::Global;
-use svg_text::{Drawing, Frame};
+use svg_text::Frame;
 use trace_lines::TraceLine;
 
 /// What is explained.
@@ -36,7 +39,7 @@ impl Sign {
 
     /// The width of its drawn part.
     fn drawn(self) -> u32
-        ensures { result ≤ 26 }
+        ensures { result ≤ SIGN }
     {
         match self {
             Sign::Mark(Mark::Accepted) | Sign::Jobs | Sign::First | Sign::Least => SIGN,
@@ -111,48 +114,50 @@ impl Legend {
     }
 
     /// Draws the signs.
-    pub(crate) fn draw(&self, drawing: &mut Drawing) -> Result<(), Memory> {
+    pub(crate) fn draw(&self, backdrop: &mut Backdrop) -> Result<(), Memory> {
         for explained in &self.signs {
             let y = down(MARGIN, explained.line.saturating_sub(1), LEGEND);
-            draw_sign(drawing, explained.sign, explained.x, y)?;
+            draw_sign(backdrop, explained.sign, explained.x, y)?;
             let words = explained.sign.words().as_bytes();
             let x = explained.x.saturating_add(explained.sign.drawn() + LETTER);
-            drawing.label("sign", x, y.saturating_add(10), words)?;
+            backdrop.label("sign", x, y.saturating_add(10), words)?;
         }
         Ok(())
     }
 }
 
 /// Draws a sign.
-fn draw_sign(drawing: &mut Drawing, sign: Sign, x: u32, y: u32) -> Result<(), Memory> {
+fn draw_sign(backdrop: &mut Backdrop, sign: Sign, x: u32, y: u32) -> Result<(), Memory> {
     match sign {
         Sign::Jobs => {
-            draw_box(drawing, "task-a", (x, y), (12, 12))?;
-            draw_box(drawing, "task-b", (x.saturating_add(13), y), (12, 12))
+            draw_box(backdrop, "task-a", (x, y), (12, 12))?;
+            draw_box(backdrop, "task-b", (x.saturating_add(13), y), (12, 12))
         }
         Sign::Mark(mark) => {
             if mark == Mark::Accepted {
-                draw_due(drawing, x.saturating_add(5), y, 21, b"")?;
+                draw_due(backdrop, x.saturating_add(5), y, 21, true, b"")?;
             }
-            drawing.path(mark.class(), x.saturating_add(1), y, mark.strokes(), b"")
+            backdrop.path(mark.class(), x.saturating_add(1), y, mark.strokes(), b"")
         }
-        Sign::First => draw_box(drawing, "first", (x, y), (SIGN, 12)),
-        Sign::Least => draw_box(drawing, "least", (x, y.saturating_add(5)), (SIGN, 2)),
+        Sign::First => draw_box(backdrop, "first", (x, y), (SIGN, 12)),
+        Sign::Least => draw_box(backdrop, "least", (x, y.saturating_add(5)), (SIGN, 2)),
     }
 }
 
-/// Draws a box of this class, place and size.
+/// Draws a box of this class, place and size, which is lower than a block.
 fn draw_box(
-    drawing: &mut Drawing,
+    backdrop: &mut Backdrop,
     class: &str,
-    (x, y): (u32, u32),
-    (width, height): (u32, u32),
-) -> Result<(), Memory> {
+    place: (u32, u32),
+    size: (u32, u32),
+) -> Result<(), Memory>
+    requires { nat_lt size.1 BLOCK ≡ true }
+{
     let frame = Frame {
-        x,
-        y,
-        width,
-        height,
+        x: place.0,
+        y: place.1,
+        width: size.0,
+        height: size.1,
     };
-    drawing.rect(class, frame, b"")
+    backdrop.sample(class, frame)
 }

@@ -4,6 +4,7 @@
 
 mod arrivals;
 mod axis;
+mod backdrop;
 mod blocks;
 mod capacity;
 mod faults;

@@ -1,5 +1,8 @@
 //! The marks of what arrives.
 
+ghost use Rattle.std.specs.Prelude.{◌≡◌, true};
+ghost use Rattle.svg_text.specs.Content.{is_name};
+
 use slot_core::{Done, Firm, Gone, Soft, Spo};
 use trace_lines::Words;
 
@@ -112,7 +115,9 @@ impl Mark {
     }
 
     /// The class of its strokes.
-    pub(crate) fn class(self) -> &'static str {
+    pub(crate) fn class(self) -> &'static str
+        ensures { is_name result.now ≡ true }
+    {
         match self {
             Mark::Alarm | Mark::Soft | Mark::Ended => "mark",
             Mark::Accepted | Mark::Refused | Mark::TooSoon => "open",

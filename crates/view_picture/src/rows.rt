@@ -1,49 +1,47 @@
 //! The rows of tasks.
 
+ghost use Rattle.std.specs.Prelude.{◌≡◌, true};
+ghost use Rattle.svg_text.specs.Content.{is_name};
+
+use crate::backdrop::Backdrop;
 use crate::layout::{Heights, MARGIN, ROW, Times, down};
 use crate::titles::row_label;
 use run_blocks::Row;
 use slot_core::Memory;
 use std::alloc::Global;
-use svg_text::{Drawing, Frame};
-
-/// The height of a block, and the place of its upper edge in a row.
-const BLOCK: u32 = 13;
-
-const ABOVE: u32 = 3;
+use svg_text::Frame;
 
 /// Draws the labels and edges of the rows.
 pub(crate) fn draw_rows(
     alloc: Global,
-    drawing: &mut Drawing,
+    backdrop: &mut Backdrop,
     times: &Times,
     heights: &Heights,
     rows: &[Row],
 ) -> Result<(), Memory> {
     for (place, row) in rows.iter().enumerate() {
         let y = down(heights.rows, place, ROW);
-        draw_label(alloc, drawing, times, y, row)?;
-        draw_edge(drawing, times, y, begins_group(rows, place))?;
+        draw_label(alloc, backdrop, times, y, row)?;
+        draw_edge(backdrop, times, y, begins_group(rows, place))?;
     }
-    draw_edge(drawing, times, down(heights.rows, rows.len(), ROW), true)
+    draw_edge(backdrop, times, down(heights.rows, rows.len(), ROW), true)
 }
 
 /// Draws the label of a row.
 fn draw_label(
     alloc: Global,
-    drawing: &mut Drawing,
+    backdrop: &mut Backdrop,
     times: &Times,
     y: u32,
     row: &Row,
 ) -> Result<(), Memory> {
     let label = row_label(alloc, row)?;
     let x = times.left.saturating_sub(MARGIN);
-    drawing.label("name", x, y.saturating_add(13), label.as_slice())
+    backdrop.label("name", x, y.saturating_add(13), label.as_slice())
 }
 
 /// Draws the upper edge of a row, strong where another graph or kind begins.
-fn draw_edge(drawing: &mut Drawing, times: &Times, y: u32, strong: bool) -> Result<(), Memory> {
-    let class = if strong { "edge" } else { "grid" };
+fn draw_edge(backdrop: &mut Backdrop, times: &Times, y: u32, strong: bool) -> Result<(), Memory> {
     let width = times.right().saturating_sub(times.left);
     let frame = Frame {
         x: times.left,
@@ -51,7 +49,14 @@ fn draw_edge(drawing: &mut Drawing, times: &Times, y: u32, strong: bool) -> Resu
         width,
         height: 1,
     };
-    drawing.rect(class, frame, b"")
+    backdrop.fill(class_of_edge(strong), frame)
+}
+
+/// The class of an edge.
+fn class_of_edge(strong: bool) -> &'static str
+    ensures { is_name result.now ≡ true }
+{
+    if strong { "edge" } else { "grid" }
 }
 
 /// Whether a row is the first of its graph or kind.

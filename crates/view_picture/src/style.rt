@@ -1,5 +1,5 @@
 //! How each class of elements looks. Colours are those that Okabe and Ito chose to be told apart by
-//! the colour-blind, each with a shade that is far lighter, also in grey.
+//! the colour-blind, two of them darker, each with a shade that is far lighter, also in grey.
 
 /// The style sheet of a picture.
 pub(crate) const STYLE: &str = "

@@ -1,16 +1,16 @@
 //! The picture.
 
-ghost use Rattle.std.specs.Prelude.{◌≡◌, ◌≤◌, ◌<◌, Err, IfOk, IsOk, List};
+ghost use Rattle.std.specs.Prelude.{◌≡◌, ◌≤◌, ◌<◌, Err, IfOk, IsOk};
 ghost use Rattle.svg_text.specs.Content.{IsDocument};
-ghost use Rattle.trace_lines.specs.declared.line.TraceLine.{TraceLine};
+ghost use Rattle.trace_lines.specs.Traces.{time_of_last};
 ghost use Rattle.view_picture.specs.declared.TheConstants.{PICTURE_LIMIT};
 ghost use Rattle.view_picture.specs.declared.layout.TheConstants.{MOST_LETTERS};
-ghost use Rattle.view_picture.specs.Blocks.{ShowsRuns};
-ghost use Rattle.view_picture.specs.Lengths.{slots_of};
+ghost use Rattle.view_picture.specs.Blocks.{ShowsRuns, x_of};
 
 use crate::PICTURE_LIMIT;
-use crate::arrivals::{Arrivals, arrivals_of, draw_arrivals};
+use crate::arrivals::{arrivals_of, draw_arrivals};
 use crate::axis::draw_axis;
+use crate::backdrop::Backdrop;
 use crate::blocks::draw_runs;
 use crate::capacity::{draw_capacities, levels_of};
 use crate::faults::PictureFault;
@@ -22,8 +22,8 @@ use crate::titles::row_label;
 use run_blocks::{Row, rows_of};
 use slot_core::Memory;
 use std::alloc::Global;
-use svg_text::{Document, Drawing, Frame};
-use trace_lines::TraceLine;
+use svg_text::{Document, Frame};
+use trace_lines::{TraceLine, time_of_last};
 
 /// The least width of a picture, and the greatest of its legend.
 const WIDTHS: (u32, u32) = (480, 1_400);
@@ -31,17 +31,17 @@ const WIDTHS: (u32, u32) = (480, 1_400);
 /// The letters that the labels of lanes and capacities want.
 const LETTERS: usize = 14;
 
-/// The picture of the lines of a trace, which has at most `PICTURE_LIMIT` slots: what arrived, a
-/// row for each task, firm job or kind of jobs that ran, with a block for each run of slots of one
-/// job, and the capacities after each slot.
+/// The picture of the lines of a trace, which has at most `PICTURE_LIMIT` slots, as the time of its
+/// last line tells: what arrived, a row for each task, firm job or kind of jobs that ran, with a
+/// block for each run of slots of one job, and the capacities after each slot.
 pub fn picture(alloc: Global, lines: &[TraceLine]) -> Result<Document, PictureFault>
     ensures formed { IfOk result (λ document. IsDocument document) }
     ensures shows { IfOk result (λ document. ShowsRuns lines.now document) }
-    ensures short { IsOk result → slots_of lines.now ≤ PICTURE_LIMIT }
-    ensures refused { PICTURE_LIMIT < slots_of lines.now → result ≡ Err (PictureFault.TooLong) }
-    ensures cause { result ≡ Err (PictureFault.TooLong) → PICTURE_LIMIT < slots_of lines.now }
+    ensures short { IsOk result → time_of_last lines.now ≤ PICTURE_LIMIT }
+    ensures refused { PICTURE_LIMIT < time_of_last lines.now → result ≡ Err (PictureFault.TooLong) }
+    ensures cause { result ≡ Err (PictureFault.TooLong) → PICTURE_LIMIT < time_of_last lines.now }
 {
-    let slots = slots_of(lines);
+    let slots = time_of_last(lines);
     if slots > PICTURE_LIMIT {
         return Err(PictureFault::TooLong);
     }
@@ -49,19 +49,9 @@ pub fn picture(alloc: Global, lines: &[TraceLine]) -> Result<Document, PictureFa
     Ok(document)
 }
 
-/// The number of slots of a trace: the time of its last line.
-fn slots_of(lines: &[TraceLine]) -> u32
-    ensures { result ≡ slots_of lines.now }
-{
-    match lines.last() {
-        Some(line) => line.time,
-        None => 0,
-    }
-}
-
 /// The picture of so many slots.
 fn drawn(alloc: Global, lines: &[TraceLine], slots: u32) -> Result<Document, Memory>
-    requires count { slots ≡ slots_of lines.now }
+    requires count { slots ≡ time_of_last lines.now }
     requires short { slots ≤ PICTURE_LIMIT }
     ensures formed { IfOk result (λ document. IsDocument document) }
     ensures shows { IfOk result (λ document. ShowsRuns lines.now document) }
@@ -70,36 +60,36 @@ fn drawn(alloc: Global, lines: &[TraceLine], slots: u32) -> Result<Document, Mem
     let rows = all.as_slice();
     let letters = letters_of(alloc, rows)?;
     let times = Times::new(slots, letters);
-    let width = times.right().saturating_add(2 * MARGIN).max(WIDTHS.0);
+    let width = width_of(&times);
     let legend = legend_of(alloc, lines, width.min(WIDTHS.1))?;
     let arrivals = arrivals_of(alloc, lines, &times)?;
     let heights = Heights::new(legend.lines, arrivals.count, rows.len());
-    let mut drawing = Drawing::new(alloc);
-    let height = heights.bottom.saturating_add(2 * MARGIN);
-    draw_page(&mut drawing, width, height)?;
-    legend.draw(&mut drawing)?;
-    draw_axis(&mut drawing, &times, &heights)?;
-    draw_arrivals(alloc, &mut drawing, &times, &heights, &arrivals)?;
-    draw_rows(alloc, &mut drawing, &times, &heights, rows)?;
+    let mut backdrop = Backdrop::new(alloc);
+    let height = height_of(&heights);
+    draw_page(&mut backdrop, width, height)?;
+    legend.draw(&mut backdrop)?;
+    draw_axis(&mut backdrop, &times, &heights)?;
+    draw_arrivals(alloc, &mut backdrop, &times, &heights, &arrivals)?;
+    draw_rows(alloc, &mut backdrop, &times, &heights, rows)?;
     let levels = levels_of(alloc, lines)?;
-    draw_capacities(alloc, &mut drawing, &times, &heights, levels.as_slice())?;
+    draw_capacities(alloc, &mut backdrop, &times, &heights, levels.as_slice())?;
+    let mut drawing = backdrop.into_drawing();
     draw_runs(alloc, &mut drawing, lines, rows, &times, heights.rows)?;
-    finished(alloc, width, height, STYLE, &drawing)
+    Document::new(alloc, width, height, STYLE, &drawing)
 }
 
-/// The document of a drawing, which shows what the drawing shows.
-fn finished(
-    alloc: Global,
-    width: u32,
-    height: u32,
-    style: &str,
-    drawing: &Drawing,
-) -> Result<Document, Memory>
-    ensures formed { IfOk result (λ document. IsDocument document) }
-    ensures shows { (lines : List TraceLine) → ShowsRuns lines drawing.now
-        → IfOk result (λ document. ShowsRuns lines document) }
+/// The width of a picture: a margin lies to the right of its slots.
+fn width_of(times: &Times) -> u32
+    ensures { x_of times.now times.now.slots ≤ result }
 {
-    Document::new(alloc, width, height, style, drawing)
+    (times.right() + 2 * MARGIN).max(WIDTHS.0)
+}
+
+/// The height of a picture: a margin lies below.
+fn height_of(heights: &Heights) -> u32
+    ensures { heights.now.bottom ≤ result }
+{
+    heights.bottom.saturating_add(2 * MARGIN)
 }
 
 /// The most letters of a label, or `MOST_LETTERS` where one has more.
@@ -114,12 +104,12 @@ fn letters_of(alloc: Global, rows: &[Row]) -> Result<usize, Memory>
 }
 
 /// Draws the page.
-fn draw_page(drawing: &mut Drawing, width: u32, height: u32) -> Result<(), Memory> {
+fn draw_page(backdrop: &mut Backdrop, width: u32, height: u32) -> Result<(), Memory> {
     let frame = Frame {
         x: 0,
         y: 0,
         width,
         height,
     };
-    drawing.rect("page", frame, b"")
+    backdrop.fill("page", frame)
 }

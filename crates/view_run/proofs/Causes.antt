@@ -1,5 +1,5 @@
 -- Each refusal has its cause.
-use Rattle.std.proofs.Common.{◌≡◌, ◌+◌, ◌⊎◌, ℕ, Bool, true, List, Option, Some, None, Result, Ok, Err, refl, sym, ap, subst, ◌∙◌, inl, inr}
+use Rattle.std.proofs.Common.{◌≡◌, ◌≢◌, ◌+◌, ◌⊎◌, ℕ, Bool, true, List, Option, Some, None, Result, Ok, Err, refl, sym, ap, subst, ◌∙◌, inl, inr}
 use Rattle.std.specs.Prelude.{IfSome, IfErr}
 use Rattle.slot_core.specs.Calls.Counts.{Rose}
 use Rattle.slot_core.specs.Keeping.Plans.{IsPlan, PlanParts}
@@ -31,7 +31,7 @@ use Rattle.view_jobs.specs.Tables.{first_unknown}
 use Rattle.view_run.specs.declared.views.Source.{Source}
 use Rattle.view_run.specs.Refusals.{no_line, of_jobs, of_text}
 use Rattle.view_run.specs.Plans.{IsPlanOf, IsPlanRefusal}
-use Rattle.view_run.specs.Runs.{IsRefused, leaves_output, leaves_output_at}
+use Rattle.view_run.specs.Runs.{IsRefused}
 use Rattle.view_run.specs.Shown.{IsJobsRefusal}
 use Rattle.view_run.specs.Views.{plan_source}
 
@@ -53,10 +53,10 @@ of_jobs-cause plan lines before after JobsFailed failed unknown = failed refl
 of_jobs-cause plan lines before after (NoJobLine n) failed unknown =
     let (place, number, first) = unknown n refl in (place, first, ap no_line number)
 
--- where a table of jobs is written, the plan has all that the lines name
-pub none-unknown : {E : Type 0} (first : Option ℕ) (result : Result (Unit {0}) E) (fault : ℕ → E) → result ≡ Ok tt → ((place : ℕ) → first ≡ Some place → result ≡ Err (fault place)) → first ≡ None
-none-unknown None result fault done unknown = refl
-none-unknown (Some place) result fault done unknown = absurd (cc (sym done ∙ unknown place refl))
+-- a place that would be told, and is not, is none
+pub none-told : {A E : Type 0} (first : Option ℕ) (result : Result A E) (fault : ℕ → E) → ((place : ℕ) → result ≢ Err (fault place)) → ((place : ℕ) → first ≡ Some place → result ≡ Err (fault place)) → first ≡ None
+none-told None result fault untold told = refl
+none-told (Some place) result fault untold told = absurd (untold place (told place refl))
 
 -- a refusal of a plan that is no fault of a file nor want of memory is the one that is due
 due : {S A : Type 0} (held : S → Option Held) (faults : S → ℕ) (blamed : S → Option (List ℕ)) (before after : S) (names : List (List ℕ)) (may : File → Bool) (source : Source) (from : PlanSource) (e : Refusal) (view : A → PlanParts) → from ≡ plan_source source → IsReading held faults blamed before after names may (λ files. plan_from files names from) (Err e) view → ((file : File) → e ≡ Unreadable file → ⊥) → (e ≡ Memory → ⊥) → is_found e ≡ true → (is_found e ≡ true) × IfSome (held before) (λ files. plan_from files names (plan_source source) ≡ Err e)
@@ -120,23 +120,29 @@ lines-refused (Err e) bytes held before after holds (inr (n, same, breaks)) =
     let there : IfSome held (λ files. (text : List ℕ) × Holds files text × Breaks text n) = if_some held (λ files text_is. (bytes, text_is, breaks)) holds in
     subst (IsInputRefusal held before after) (sym same) (n, refl, there)
 
--- a refusal that leaves the output by its status leaves it
-pub leaves-by_status : (e : Refusal) → leaves_output_at (refusal_status e) ≡ true → leaves_output e ≡ true
-leaves-by_status Usage leaves = refl
-leaves-by_status (Unreadable x) leaves = refl
-leaves-by_status (TooLarge x) leaves = refl
-leaves-by_status (BadTasks x) leaves = refl
-leaves-by_status (Infeasible x) leaves = refl
-leaves-by_status (BadTable x) leaves = refl
-leaves-by_status (BadArrivals x) leaves = refl
-leaves-by_status (NotVerified x) leaves = refl
-leaves-by_status (BadSecond x) leaves = refl
-leaves-by_status (SecondInfeasible x) leaves = refl
-leaves-by_status (NoRow x) leaves = refl
-leaves-by_status (NotCycleEnd x) leaves = refl
-leaves-by_status (NoChange x) leaves = refl
-leaves-by_status WriteFault leaves = leaves
-leaves-by_status Memory leaves = leaves
+-- a refusal whose status is a failed write is one
+pub write-by_status : (e : Refusal) → refusal_status e ≡ Status.WriteFault → e ≡ WriteFault
+write-by_status WriteFault is = refl
+write-by_status Usage is = cc is
+write-by_status (Unreadable x) is = cc is
+write-by_status (TooLarge x) is = cc is
+write-by_status (BadTasks x) is = cc is
+write-by_status (Infeasible x) is = cc is
+write-by_status (BadTable x) is = cc is
+write-by_status (BadArrivals x) is = cc is
+write-by_status (NotVerified x) is = cc is
+write-by_status (BadSecond x) is = cc is
+write-by_status (SecondInfeasible x) is = cc is
+write-by_status (NoRow x) is = cc is
+write-by_status (NotCycleEnd x) is = cc is
+write-by_status (NoChange x) is = cc is
+write-by_status Memory is = cc is
+
+-- a table of jobs that is refused for a failed write had one
+pub jobs-failed : (fault : JobsFault) → of_jobs fault ≡ WriteFault → fault ≡ JobsFailed
+jobs-failed JobsMemory is = cc is
+jobs-failed JobsFailed is = refl
+jobs-failed (NoJobLine n) is = cc is
 
 -- faulty words are no refusal of a view
 pub refused-no_usage : (view : View) (names : List (List ℕ)) (files input : Option Held) (blamed : Option (List ℕ)) (of_files of_input of_output : ℕ × ℕ) (e : Refusal) → IsRefused view names files input blamed of_files of_input of_output e → refusal_status e ≡ Status.Usage → ⊥

@@ -1,18 +1,17 @@
 -- How the run of a view comes out.
-use Rattle.std.specs.Prelude.{◌≡◌, ◌⊎◌, ℕ, ⊤, Bool, true, false, List, Option, IfSome}
+use Rattle.std.specs.Prelude.{◌≡◌, ◌⊎◌, ℕ, ⊤, List, Option, IfSome}
 use Rattle.slot_core.specs.Keeping.Plans.{PlanParts}
 use Rattle.slot_io.specs.Files.{Held}
 use Rattle.run_outcome.specs.declared.refusal.Refusal.{Refusal}
-use Rattle.run_outcome.specs.declared.refusal.Refusal.TheVariants.{WriteFault, Memory}
-use Rattle.run_outcome.specs.declared.status.Status.{Status}
+use Rattle.run_outcome.specs.declared.refusal.Refusal.TheVariants.{Memory}
 use Rattle.trace_lines.specs.declared.line.TraceLine.{TraceLine}
 use Rattle.trace_lines.specs.Texts.{lines_text}
 use Rattle.trace_lines.specs.Traces.{AreTrace}
 use Rattle.view_run.specs.declared.views.View.{View}
 use Rattle.view_run.specs.declared.views.View.TheVariants.{Lines, Jobs}
-use Rattle.view_run.specs.Inputs.{BeginsWith, IsInputRefusal, Holds}
+use Rattle.view_run.specs.Inputs.{Holds, IsInputRefusal}
 use Rattle.view_run.specs.Plans.{IsPlanOf, IsPlanRefusal}
-use Rattle.view_run.specs.Shown.{IsShown, IsShowRefusal}
+use Rattle.view_run.specs.Shown.{IsShowRefusal, IsViewText}
 
 -- the lines are those of a trace, whose text standard input holds, where it tells what it holds
 abbrev pub AreInput : Option Held → List TraceLine → Type 0
@@ -31,11 +30,10 @@ abbrev pub HasPlan : View → List (List ℕ) → Option Held → Type 0
 HasPlan (Lines view) names held = ⊤
 HasPlan (Jobs source) names held = (plan : PlanParts) × IsPlanOf source names held plan
 
--- the view of such lines is written
-abbrev pub IsViewed :
-    View → List (List ℕ) → Option Held → Option Held → Option (List ℕ) → Option (List ℕ) → Type 0
-IsViewed view names files input before after =
-    (lines : List TraceLine) × AreInput input lines × IsShown view names files lines before after
+-- the text that is due: that of the view of the lines of the input
+abbrev pub IsTextDue : View → List (List ℕ) → Option Held → Option Held → List ℕ → Type 0
+IsTextDue view names files input text =
+    (lines : List TraceLine) × AreInput input lines × IsViewText view names files lines text
 
 -- why the view of such lines is not written
 abbrev pub IsUnviewed :
@@ -43,19 +41,6 @@ abbrev pub IsUnviewed :
 IsUnviewed view names files input before after e =
     (lines : List TraceLine) × AreInput input lines
     × IsShowRefusal view names files lines before after e
-
--- a refusal that comes before anything is put on the output
-abbrev pub leaves_output : Refusal → Bool
-leaves_output WriteFault = false
-leaves_output Memory = false
-leaves_output e = true
-
--- a status that tells such a refusal, or faulty words
-abbrev pub leaves_output_at : Status → Bool
-leaves_output_at Status.Done = false
-leaves_output_at Status.WriteFault = false
-leaves_output_at Status.Memory = false
-leaves_output_at status = true
 
 -- why a run is refused, over files and an input that hold this, a file that is blamed, and over the
 -- counts of faults of the files, the input and the output before and after: memory ran out, or it

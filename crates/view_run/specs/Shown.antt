@@ -1,20 +1,20 @@
 -- What is written of a view, and why it is not.
-use Rattle.std.specs.Prelude.{◌≡◌, ◌<◌, ◌≤◌, ℕ, ◌+◌, ⊤, true, List, Option, Some, None}
+use Rattle.std.specs.Prelude.{◌≡◌, ◌<◌, ◌≤◌, ℕ, ◌+◌, true, ⊤, List, Option, Some, None}
 use Rattle.std.specs.Io.KnownBytes.{Appends}
 use Rattle.slot_core.specs.Calls.Counts.{Rose}
 use Rattle.run_blocks.specs.declared.rows.Row.{Row}
-use Rattle.run_blocks.specs.Rows.{AreRowsOf}
+use Rattle.run_blocks.specs.Rows.{AreRowsOf, have_few_firms, may_all_stand}
 use Rattle.run_outcome.specs.declared.refusal.Refusal.{Refusal}
 use Rattle.run_outcome.specs.declared.refusal.Refusal.TheVariants.{NotVerified, WriteFault, Memory}
 use Rattle.slot_core.specs.Keeping.Plans.{PlanParts}
 use Rattle.slot_io.specs.Files.{Held}
+use Rattle.slot_io.specs.Sinks.{AppendsPart}
 use Rattle.svg_text.specs.Content.{IsDocument}
 use Rattle.view_jobs.specs.Tables.{first_unknown, jobs_text}
 use Rattle.trace_lines.specs.declared.line.TraceLine.{TraceLine}
-use Rattle.trace_lines.specs.Traces.{runs_of}
+use Rattle.trace_lines.specs.Traces.{runs_of, time_of_last}
 use Rattle.view_picture.specs.declared.TheConstants.{PICTURE_LIMIT}
 use Rattle.view_picture.specs.Blocks.{ShowsRuns}
-use Rattle.view_picture.specs.Lengths.{slots_of}
 use Rattle.view_tables.specs.declared.put.Table.TheVariants.{Events as EventTable, Spans as SpanTable}
 use Rattle.view_tables.specs.Tables.{table_text}
 use Rattle.view_waves.specs.WaveTexts.{waves_text}
@@ -29,32 +29,36 @@ use Rattle.view_run.specs.Refusals.{no_line, too_long}
 -- slots than a picture may have
 abbrev pub IsPicture : List TraceLine → List ℕ → Type 0
 IsPicture lines text =
-    IsDocument text × ShowsRuns lines text × (slots_of lines ≤ PICTURE_LIMIT)
+    IsDocument text × ShowsRuns lines text × (time_of_last lines ≤ PICTURE_LIMIT)
 
--- known bytes grow by the view of lines: a picture, a table, or waves over the rows of the jobs
--- that run
-abbrev pub ShowsLines :
-    LineView → List TraceLine → Option (List ℕ) → Option (List ℕ) → Type 0
-ShowsLines Picture lines before after =
-    (text : List ℕ) × IsPicture lines text × Appends before after text
-ShowsLines Events lines before after = Appends before after (table_text EventTable lines)
-ShowsLines Spans lines before after = Appends before after (table_text SpanTable lines)
-ShowsLines Waves lines before after =
+-- the text of a view of lines: a picture, a table, or waves over the rows of the jobs that run, of
+-- which firm jobs have one each where few run, and else one
+abbrev pub IsLinesText : LineView → List TraceLine → List ℕ → Type 0
+IsLinesText Picture lines text = IsPicture lines text
+IsLinesText Events lines text = text ≡ table_text EventTable lines
+IsLinesText Spans lines text = text ≡ table_text SpanTable lines
+IsLinesText Waves lines text =
     (rows : List Row) × AreRowsOf rows (runs_of lines)
-    × Appends before after (waves_text rows lines)
+    × (may_all_stand (have_few_firms (runs_of lines)) rows ≡ true) × (text ≡ waves_text rows lines)
 
--- by the table of their jobs over a plan, where they name only tasks of its set
-abbrev pub ShowsJobs :
-    PlanParts → List TraceLine → Option (List ℕ) → Option (List ℕ) → Type 0
-ShowsJobs plan lines before after =
-    (first_unknown plan.tasks lines ≡ None) × Appends before after (jobs_text plan lines)
+-- of the table of their jobs over a plan, where they name only tasks of its set
+abbrev pub IsJobsText : PlanParts → List TraceLine → List ℕ → Type 0
+IsJobsText plan lines text =
+    (first_unknown plan.tasks lines ≡ None) × (text ≡ jobs_text plan lines)
 
--- by either: a table of jobs is over the plan of its file
-abbrev pub IsShown :
-    View → List (List ℕ) → Option Held → List TraceLine → Option (List ℕ) → Option (List ℕ) → Type 0
-IsShown (Lines view) names files lines before after = ShowsLines view lines before after
-IsShown (Jobs source) names files lines before after =
-    (plan : PlanParts) × IsPlanOf source names files plan × ShowsJobs plan lines before after
+-- of either: a table of jobs is over the plan of its file
+abbrev pub IsViewText : View → List (List ℕ) → Option Held → List TraceLine → List ℕ → Type 0
+IsViewText (Lines view) names files lines text = IsLinesText view lines text
+IsViewText (Jobs source) names files lines text =
+    (plan : PlanParts) × IsPlanOf source names files plan × IsJobsText plan lines text
+
+-- known bytes grow by a text of this kind
+abbrev pub Shows : (List ℕ → Type 0) → Option (List ℕ) → Option (List ℕ) → Type 0
+Shows IsText before after = (text : List ℕ) × IsText text × Appends before after text
+
+-- by a part of such a text, from its front
+abbrev pub ShowsPart : (List ℕ → Type 0) → Option (List ℕ) → Option (List ℕ) → Type 0
+ShowsPart IsText before after = (text : List ℕ) × IsText text × AppendsPart before after text
 
 -- why a view of the lines is not shown: the sink counted a fault, memory ran out, or they have too
 -- many slots for a picture
@@ -62,7 +66,7 @@ abbrev pub IsLinesRefusal : LineView → List TraceLine → ℕ → ℕ → Refu
 IsLinesRefusal view lines before after WriteFault = Rose before after
 IsLinesRefusal view lines before after Memory = ⊤
 IsLinesRefusal Picture lines before after (NotVerified reason) =
-    (PICTURE_LIMIT < slots_of lines) × (NotVerified reason ≡ too_long)
+    (PICTURE_LIMIT < time_of_last lines) × (NotVerified reason ≡ too_long)
 IsLinesRefusal view lines before after refusal = ⊥
 
 -- why their jobs are not shown: likewise, or line n + 1 is the first that names a task which the

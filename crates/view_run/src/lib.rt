@@ -2,14 +2,15 @@
 //! tables or as waves.
 #![tactic(auto)]
 
-ghost use Rattle.std.specs.Prelude.{◌≡◌, ◌≢◌, ◌↔◌, ◌⊎◌, ℕ, List, true, None, Some};
+ghost use Rattle.std.specs.Prelude.{◌≡◌, ◌≢◌, ◌↔◌, None, Some};
 ghost use Rattle.run_outcome.specs.declared.refusal.Refusal.{Refusal};
 ghost use Rattle.run_outcome.specs.Refusals.{refusal_line, refusal_status};
 ghost use Rattle.run_outcome.specs.Reports.{IsTold};
 ghost use Rattle.view_run.specs.declared.TheConstants.{USAGE};
 ghost use Rattle.view_run.specs.declared.views.View.{View};
 ghost use Rattle.view_run.specs.Names.{names_of};
-ghost use Rattle.view_run.specs.Runs.{IsRefused, IsViewed, leaves_output_at};
+ghost use Rattle.view_run.specs.Runs.{IsRefused, IsTextDue};
+ghost use Rattle.view_run.specs.Shown.{Shows, ShowsPart};
 ghost use Rattle.view_run.specs.Views.{view_of};
 
 pub mod host;
@@ -41,7 +42,7 @@ pub const USAGE: &[u8] =
 
 /// Does what the words ask for: reads the plan that a table of jobs wants from `files`, then the
 /// trace from `input`, and writes the view of it to `out`. It puts one line on `err` where it ends
-/// otherwise than Done.
+/// otherwise than Done. All memory is taken before the first put on `out`.
 pub fn run<F: Files, I: Files, K: Sink, E: Sink>(
     alloc: Global,
     words: &Words,
@@ -59,9 +60,11 @@ pub fn run<F: Files, I: Files, K: Sink, E: Sink>(
     // Where it is done, standard input is a trace, and the view of its lines is written: of jobs,
     // their table over the plan that its file calls for.
     ensures done { result ≡ Status.Done → (view : View) × (view_of words.now ≡ Some view)
-        × IsViewed view (names_of words.now view) (F.held files.old) (I.held input.old)
+        × Shows (IsTextDue view (names_of words.now view) (F.held files.old) (I.held input.old))
         (K.written out.old) (K.written out.new) }
     ensures done_says_nothing { result ≡ Status.Done → err.new ≡ err.old }
+    ensures done_reads_well { result ≡ Status.Done
+        → (F.faults files.new ≡ F.faults files.old) × (I.faults input.new ≡ I.faults input.old) }
 
     // Where it is refused, the refusal has its cause, and its line is told.
     ensures refused { result ≢ Status.Done → result ≢ Status.Usage
@@ -72,7 +75,14 @@ pub fn run<F: Files, I: Files, K: Sink, E: Sink>(
         (I.faults input.old, I.faults input.new) (K.faults out.old, K.faults out.new) e
         × IsTold (refusal_line (names_of words.now view) e)
         (E.written err.old) (E.written err.new) (E.faults err.old) (E.faults err.new)) }
-    ensures refusal_writes_nothing { leaves_output_at result ≡ true → out.new ≡ out.old }
+    ensures refusal_writes_nothing { result ≢ Status.Done → result ≢ Status.WriteFault
+        → out.new ≡ out.old }
+
+    // Where a write fails, a part of the view is on the output, from its front.
+    ensures part { result ≡ Status.WriteFault
+        → (view : View) × (view_of words.now ≡ Some view)
+        × ShowsPart (IsTextDue view (names_of words.now view) (F.held files.old) (I.held input.old))
+        (K.written out.old) (K.written out.new) }
 {
     match view_of(words) {
         Some(view) => run_view(alloc, words, view, files, input, out, err),
@@ -92,16 +102,22 @@ fn run_view<F: Files, I: Files, K: Sink, E: Sink>(
 ) -> Status
     ensures shows { result ≢ Status.Usage }
     ensures done { result ≡ Status.Done
-        → IsViewed view (names_of words.now view) (F.held files.old) (I.held input.old)
+        → Shows (IsTextDue view (names_of words.now view) (F.held files.old) (I.held input.old))
         (K.written out.old) (K.written out.new) }
     ensures done_says_nothing { result ≡ Status.Done → err.new ≡ err.old }
+    ensures done_reads_well { result ≡ Status.Done
+        → (F.faults files.new ≡ F.faults files.old) × (I.faults input.new ≡ I.faults input.old) }
     ensures refused { result ≢ Status.Done → (e : Refusal) × (result ≡ refusal_status e)
         × IsRefused view (names_of words.now view) (F.held files.old) (I.held input.old)
         (F.blamed files.new) (F.faults files.old, F.faults files.new)
         (I.faults input.old, I.faults input.new) (K.faults out.old, K.faults out.new) e
         × IsTold (refusal_line (names_of words.now view) e)
         (E.written err.old) (E.written err.new) (E.faults err.old) (E.faults err.new) }
-    ensures refusal_writes_nothing { leaves_output_at result ≡ true → out.new ≡ out.old }
+    ensures refusal_writes_nothing { result ≢ Status.Done → result ≢ Status.WriteFault
+        → out.new ≡ out.old }
+    ensures part { result ≡ Status.WriteFault
+        → ShowsPart (IsTextDue view (names_of words.now view) (F.held files.old) (I.held input.old))
+        (K.written out.old) (K.written out.new) }
 {
     match names_of(alloc, words, view) {
         Ok(names) => run_named(alloc, &names, view, files, input, out, err),
@@ -121,16 +137,22 @@ fn run_named<F: Files, I: Files, K: Sink, E: Sink>(
 ) -> Status
     ensures shows { result ≢ Status.Usage }
     ensures done { result ≡ Status.Done
-        → IsViewed view names.now (F.held files.old) (I.held input.old)
+        → Shows (IsTextDue view names.now (F.held files.old) (I.held input.old))
         (K.written out.old) (K.written out.new) }
     ensures done_says_nothing { result ≡ Status.Done → err.new ≡ err.old }
+    ensures done_reads_well { result ≡ Status.Done
+        → (F.faults files.new ≡ F.faults files.old) × (I.faults input.new ≡ I.faults input.old) }
     ensures refused { result ≢ Status.Done → (e : Refusal) × (result ≡ refusal_status e)
         × IsRefused view names.now (F.held files.old) (I.held input.old)
         (F.blamed files.new) (F.faults files.old, F.faults files.new)
         (I.faults input.old, I.faults input.new) (K.faults out.old, K.faults out.new) e
         × IsTold (refusal_line names.now e)
         (E.written err.old) (E.written err.new) (E.faults err.old) (E.faults err.new) }
-    ensures refusal_writes_nothing { leaves_output_at result ≡ true → out.new ≡ out.old }
+    ensures refusal_writes_nothing { result ≢ Status.Done → result ≢ Status.WriteFault
+        → out.new ≡ out.old }
+    ensures part { result ≡ Status.WriteFault
+        → ShowsPart (IsTextDue view names.now (F.held files.old) (I.held input.old))
+        (K.written out.old) (K.written out.new) }
 {
     match work(alloc, names, view, files, input, out) {
         Ok(()) => Status::Done,

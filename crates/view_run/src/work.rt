@@ -1,8 +1,9 @@
 //! The work of a view: what is read, and what is written of it.
 
-ghost use Rattle.std.specs.Prelude.{◌≡◌, ◌⊎◌, ℕ, nat_le, List, true, Err, IfOk, IfErr, IfSome, OnOk};
+ghost use Rattle.std.specs.Prelude.{◌≡◌, ◌≢◌, ◌⊎◌, ℕ, nat_le, List, Err, IfOk, IfErr, IfSome, OnOk, OnErr};
 ghost use Rattle.std.specs.Io.KnownBytes.{Appends};
 ghost use Rattle.slot_core.specs.Calls.Counts.{Rose};
+ghost use Rattle.slot_io.specs.Sinks.{AppendsPart};
 ghost use Rattle.run_outcome.specs.declared.refusal.Refusal.TheVariants.{Memory as MemoryRefusal, WriteFault as WriteRefusal};
 ghost use Rattle.run_outcome.specs.declared.refusal.Refusal.{Refusal};
 ghost use Rattle.view_tables.specs.Tables.{table_text};
@@ -14,8 +15,8 @@ ghost use Rattle.view_run.specs.Inputs.{BeginsWith, IsInputRefusal, Holds};
 ghost use Rattle.view_run.specs.Plans.{IsPlanOf, IsPlanRefusal};
 ghost use Rattle.view_run.specs.declared.TheConstants.{INPUT_LIMIT};
 ghost use Rattle.view_run.specs.Refusals.{no_line};
-ghost use Rattle.view_run.specs.Runs.{AreInput, IsRefused, IsViewed, leaves_output};
-ghost use Rattle.view_run.specs.Shown.{IsJobsRefusal, IsLinesRefusal, IsPicture, ShowsJobs, ShowsLines};
+ghost use Rattle.view_run.specs.Runs.{AreInput, IsRefused, IsTextDue};
+ghost use Rattle.view_run.specs.Shown.{IsJobsRefusal, IsJobsText, IsLinesRefusal, IsLinesText, IsPicture, Shows, ShowsPart};
 ghost use Rattle.view_run.specs.Views.{plan_source};
 
 use crate::names::Names;
@@ -46,14 +47,19 @@ pub(crate) fn work<F: Files, I: Files, K: Sink>(
     input: &mut I,
     out: &mut K,
 ) -> Result<(), Refusal>
-    ensures shown { OnOk result (IsViewed view names.now (F.held files.old) (I.held input.old)
+    ensures shown { OnOk result
+        (Shows (IsTextDue view names.now (F.held files.old) (I.held input.old))
         (K.written out.old) (K.written out.new)) }
+    ensures part { result ≡ Err WriteRefusal
+        → ShowsPart (IsTextDue view names.now (F.held files.old) (I.held input.old))
+        (K.written out.old) (K.written out.new) }
+    ensures reads_well { OnOk result
+        ((F.faults files.new ≡ F.faults files.old) × (I.faults input.new ≡ I.faults input.old)) }
     ensures refused { IfErr result
         (IsRefused view names.now (F.held files.old) (I.held input.old) (F.blamed files.new)
         (F.faults files.old, F.faults files.new) (I.faults input.old, I.faults input.new)
         (K.faults out.old, K.faults out.new)) }
-    ensures untouched { (e : Refusal) → result ≡ Err e → leaves_output e ≡ true
-        → out.new ≡ out.old }
+    ensures untouched { (e : Refusal) → result ≡ Err e → e ≢ WriteRefusal → out.new ≡ out.old }
 {
     match view {
         View::Lines(view) => work_of_lines(alloc, view, input, out),
@@ -69,14 +75,17 @@ fn work_of_lines<I: Files, K: Sink>(
     out: &mut K,
 ) -> Result<(), Refusal>
     ensures shown { OnOk result
-        ((lines : List TraceLine) × AreInput (I.held input.old) lines
-        × ShowsLines view lines (K.written out.old) (K.written out.new)) }
+        (Shows (λ text. (lines : List TraceLine) × AreInput (I.held input.old) lines
+        × IsLinesText view lines text) (K.written out.old) (K.written out.new)) }
+    ensures part { result ≡ Err WriteRefusal
+        → ShowsPart (λ text. (lines : List TraceLine) × AreInput (I.held input.old) lines
+        × IsLinesText view lines text) (K.written out.old) (K.written out.new) }
+    ensures reads_well { OnOk result (I.faults input.new ≡ I.faults input.old) }
     ensures refused { IfErr result (λ e.
         IsInputRefusal (I.held input.old) (I.faults input.old) (I.faults input.new) e
         ⊎ ((lines : List TraceLine) × AreInput (I.held input.old) lines
         × IsLinesRefusal view lines (K.faults out.old) (K.faults out.new) e)) }
-    ensures untouched { (e : Refusal) → result ≡ Err e → leaves_output e ≡ true
-        → out.new ≡ out.old }
+    ensures untouched { (e : Refusal) → result ≡ Err e → e ≢ WriteRefusal → out.new ≡ out.old }
 {
     let lines = read_lines(alloc, input)?;
     show_lines(alloc, view, &lines, out)
@@ -92,14 +101,18 @@ fn work_of_jobs<F: Files, I: Files, K: Sink>(
     out: &mut K,
 ) -> Result<(), Refusal>
     ensures shown { OnOk result
-        (IsViewed (View.Jobs source) names.now (F.held files.old) (I.held input.old)
+        (Shows (IsTextDue (View.Jobs source) names.now (F.held files.old) (I.held input.old))
         (K.written out.old) (K.written out.new)) }
+    ensures part { result ≡ Err WriteRefusal
+        → ShowsPart (IsTextDue (View.Jobs source) names.now (F.held files.old) (I.held input.old))
+        (K.written out.old) (K.written out.new) }
+    ensures reads_well { OnOk result
+        ((F.faults files.new ≡ F.faults files.old) × (I.faults input.new ≡ I.faults input.old)) }
     ensures refused { IfErr result
         (IsRefused (View.Jobs source) names.now (F.held files.old) (I.held input.old)
         (F.blamed files.new) (F.faults files.old, F.faults files.new)
         (I.faults input.old, I.faults input.new) (K.faults out.old, K.faults out.new)) }
-    ensures untouched { (e : Refusal) → result ≡ Err e → leaves_output e ≡ true
-        → out.new ≡ out.old }
+    ensures untouched { (e : Refusal) → result ≡ Err e → e ≢ WriteRefusal → out.new ≡ out.old }
 {
     let plan = planned(alloc, names, source, files)?;
     let lines = read_lines(alloc, input)?;
@@ -116,6 +129,7 @@ fn planned<F: Files>(
     ensures plan { IfOk result (IsPlanOf source names.now (F.held files.old)) }
     ensures refused { IfErr result (IsPlanRefusal source names.now (F.held files.old)
         (F.blamed files.new) (F.faults files.old) (F.faults files.new)) }
+    ensures reads_well { OnOk result (F.faults files.new ≡ F.faults files.old) }
 {
     plan_from(alloc, names, files, plan_source(source))
 }
@@ -137,6 +151,7 @@ fn read_lines<I: Files>(alloc: Global, input: &mut I) -> Result<Vec<TraceLine>, 
         (λ held. Holds held (lines_text lines.items))) }
     ensures refused { IfErr result
         (IsInputRefusal (I.held input.old) (I.faults input.old) (I.faults input.new)) }
+    ensures reads_well { OnOk result (I.faults input.new ≡ I.faults input.old) }
 {
     let bytes = read_input(alloc, input)?;
     lines_of(alloc, &bytes)
@@ -161,6 +176,7 @@ fn read_input<I: Files>(alloc: Global, input: &mut I) -> Result<Vec<u8>, Refusal
         (λ held. Holds held bytes.items)) }
     ensures refused { IfErr result
         (IsInputRefusal (I.held input.old) (I.faults input.old) (I.faults input.new)) }
+    ensures reads_well { OnOk result (I.faults input.new ≡ I.faults input.old) }
 {
     match input.read(alloc, INPUT_NAME, INPUT_LIMIT) {
         Ok(bytes) => {
@@ -190,11 +206,12 @@ fn show_lines<K: Sink>(
     out: &mut K,
 ) -> Result<(), Refusal>
     ensures shown { OnOk result
-        (ShowsLines view lines.now (K.written out.old) (K.written out.new)) }
+        (Shows (IsLinesText view lines.now) (K.written out.old) (K.written out.new)) }
+    ensures part { result ≡ Err WriteRefusal
+        → ShowsPart (IsLinesText view lines.now) (K.written out.old) (K.written out.new) }
     ensures refused { IfErr result
         (IsLinesRefusal view lines.now (K.faults out.old) (K.faults out.new)) }
-    ensures untouched { (e : Refusal) → result ≡ Err e → leaves_output e ≡ true
-        → out.new ≡ out.old }
+    ensures untouched { (e : Refusal) → result ≡ Err e → e ≢ WriteRefusal → out.new ≡ out.old }
 {
     match view {
         LineView::Picture => show_picture(alloc, lines, out),
@@ -207,11 +224,12 @@ fn show_lines<K: Sink>(
 /// Writes the picture of the lines.
 fn show_picture<K: Sink>(alloc: Global, lines: &[TraceLine], out: &mut K) -> Result<(), Refusal>
     ensures shown { OnOk result
-        (ShowsLines LineView.Picture lines.now (K.written out.old) (K.written out.new)) }
+        (Shows (IsPicture lines.now) (K.written out.old) (K.written out.new)) }
+    ensures part { result ≡ Err WriteRefusal
+        → ShowsPart (IsPicture lines.now) (K.written out.old) (K.written out.new) }
     ensures refused { IfErr result
         (IsLinesRefusal LineView.Picture lines.now (K.faults out.old) (K.faults out.new)) }
-    ensures untouched { (e : Refusal) → result ≡ Err e → leaves_output e ≡ true
-        → out.new ≡ out.old }
+    ensures untouched { (e : Refusal) → result ≡ Err e → e ≢ WriteRefusal → out.new ≡ out.old }
 {
     match picture(alloc, lines) {
         Ok(document) => put_document(lines, &document, out),
@@ -227,7 +245,9 @@ fn put_document<K: Sink>(
 ) -> Result<(), Refusal>
     requires { IsPicture lines.now document.now }
     ensures shown { OnOk result
-        (ShowsLines LineView.Picture lines.now (K.written out.old) (K.written out.new)) }
+        (Shows (IsPicture lines.now) (K.written out.old) (K.written out.new)) }
+    ensures part { result ≡ Err WriteRefusal
+        → ShowsPart (IsPicture lines.now) (K.written out.old) (K.written out.new) }
     ensures refused { (e : Refusal) → result ≡ Err e
         → (e ≡ WriteRefusal) × Rose (K.faults out.old) (K.faults out.new) }
 {
@@ -246,6 +266,9 @@ fn show_table<K: Sink>(
 ) -> Result<(), Refusal>
     ensures shown { OnOk result
         (Appends (K.written out.old) (K.written out.new) (table_text table lines.now)) }
+    ensures part { OnErr result
+        (AppendsPart (K.written out.old) (K.written out.new) (table_text table lines.now)) }
+    ensures untouched { (e : Refusal) → result ≡ Err e → e ≢ WriteRefusal → out.new ≡ out.old }
     ensures refused { (e : Refusal) → result ≡ Err e → (e ≡ MemoryRefusal)
         ⊎ ((e ≡ WriteRefusal) × Rose (K.faults out.old) (K.faults out.new)) }
 {
@@ -258,7 +281,11 @@ fn show_table<K: Sink>(
 /// Writes the waves of the lines.
 fn show_waves<K: Sink>(alloc: Global, lines: &[TraceLine], out: &mut K) -> Result<(), Refusal>
     ensures shown { OnOk result
-        (ShowsLines LineView.Waves lines.now (K.written out.old) (K.written out.new)) }
+        (Shows (IsLinesText LineView.Waves lines.now) (K.written out.old) (K.written out.new)) }
+    ensures part { result ≡ Err WriteRefusal
+        → ShowsPart (IsLinesText LineView.Waves lines.now)
+        (K.written out.old) (K.written out.new) }
+    ensures untouched { (e : Refusal) → result ≡ Err e → e ≢ WriteRefusal → out.new ≡ out.old }
     ensures refused { (e : Refusal) → result ≡ Err e → (e ≡ MemoryRefusal)
         ⊎ ((e ≡ WriteRefusal) × Rose (K.faults out.old) (K.faults out.new)) }
 {
@@ -272,6 +299,8 @@ fn show_waves<K: Sink>(alloc: Global, lines: &[TraceLine], out: &mut K) -> Resul
 fn put_rows<K: Sink>(rows: &[Row], lines: &[TraceLine], out: &mut K) -> Result<(), Refusal>
     ensures shown { OnOk result
         (Appends (K.written out.old) (K.written out.new) (waves_text rows.now lines.now)) }
+    ensures part { OnErr result
+        (AppendsPart (K.written out.old) (K.written out.new) (waves_text rows.now lines.now)) }
     ensures refused { (e : Refusal) → result ≡ Err e
         → (e ≡ WriteRefusal) × Rose (K.faults out.old) (K.faults out.new) }
 {
@@ -289,11 +318,12 @@ fn show_jobs<K: Sink>(
     out: &mut K,
 ) -> Result<(), Refusal>
     ensures shown { OnOk result
-        (ShowsJobs plan.now lines.now (K.written out.old) (K.written out.new)) }
+        (Shows (IsJobsText plan.now lines.now) (K.written out.old) (K.written out.new)) }
+    ensures part { result ≡ Err WriteRefusal
+        → ShowsPart (IsJobsText plan.now lines.now) (K.written out.old) (K.written out.new) }
     ensures refused { IfErr result
         (IsJobsRefusal plan.now lines.now (K.faults out.old) (K.faults out.new)) }
-    ensures untouched { (e : Refusal) → result ≡ Err e → leaves_output e ≡ true
-        → out.new ≡ out.old }
+    ensures untouched { (e : Refusal) → result ≡ Err e → e ≢ WriteRefusal → out.new ≡ out.old }
 {
     match put_jobs(alloc, plan, lines, out) {
         Ok(()) => Ok(()),

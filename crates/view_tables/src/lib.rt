@@ -7,4 +7,3 @@ mod spans;
 mod told;
 
 pub use put::{Table, put_table};
-pub use told::{Told, told_of};

@@ -32,7 +32,7 @@ pub struct Told {
 }
 
 /// What the words tell of an arrival, or None of a line that tells none.
-pub fn told_of(words: &Words) -> Option<Told>
+pub(crate) fn told_of(words: &Words) -> Option<Told>
     ensures { result ≡ told_of words.now }
 {
     match words {

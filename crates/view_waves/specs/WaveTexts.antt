@@ -4,6 +4,7 @@ use Rattle.std.specs.List.{enumerate_from, range_with_len}
 use Rattle.trace_lines.specs.declared.line.TraceLine.{TraceLine}
 use Rattle.run_blocks.specs.declared.rows.Row.{Row}
 use Rattle.run_blocks.specs.declared.rows.Row.TheVariants.{Task, Sporadic, FirmJob, Firm, Soft}
+use Rattle.view_waves.specs.declared.lines.TheConstants.{BITS}
 use Rattle.view_waves.specs.declared.steps.Step.{Step}
 use Rattle.view_waves.specs.declared.steps.Wave.{Wave}
 use Rattle.view_waves.specs.Steps.{first_wave, steps_from}
@@ -51,10 +52,10 @@ level_text wire is_on = (if is_on then codes "1w" else codes "0w") ++ decimal wi
 abbrev pub bit_digit : ℕ → ℕ → ℕ
 bit_digit n place = 48 + (n / 2 ^ place) % 2
 
--- the value of the capacity: its 64 bits, the highest first
+-- the value of the capacity: its bits, the highest first
 abbrev pub capacity_text : ℕ → List ℕ
 capacity_text bits =
-    codes "b" ++ map (λ i. bit_digit bits (63 - i)) (range_with_len 0 64) ++ codes " c\n"
+    codes "b" ++ map (λ i. bit_digit bits (BITS - 1 - i)) (range_with_len 0 BITS) ++ codes " c\n"
 
 -- the first values of so many wires, of which one is on
 abbrev pub levels_text : ℕ → ℕ → List ℕ

@@ -1,6 +1,6 @@
 //! Lines of waves.
 
-ghost use Rattle.std.specs.Prelude.{◌≡◌, ℕ, ◌≤◌, ◌+◌, ◌-◌, ◌++◌, List, [], length, map, codes};
+ghost use Rattle.std.specs.Prelude.{◌≡◌, ℕ, ◌≤◌, ◌<◌, ◌+◌, ◌-◌, ◌++◌, List, [], length, map, codes};
 ghost use Rattle.std.specs.List.{range_with_len};
 ghost use Rattle.trace_text.specs.declared.TheConstants.{LINE_LIMIT};
 ghost use Rattle.view_waves.specs.declared.lines.TheConstants.{BITS, CAPACITY_SIZE, LABEL_LIMIT, LEVEL_LIMIT, TURN_LIMIT};
@@ -100,17 +100,18 @@ pub(crate) fn push_capacity(line: &mut Line, bits: u64)
 /// Appends the bits of the number, the highest first.
 fn push_bits(line: &mut Line, n: u64)
     requires { length line.old + BITS ≤ LINE_LIMIT }
-    ensures text { line.new ≡ line.old ++ map (λ i. bit_digit n (63 - i)) (range_with_len 0 64) }
+    ensures text { line.new ≡ line.old
+        ++ map (λ i. bit_digit n (BITS - 1 - i)) (range_with_len 0 BITS) }
     ensures short { length line.new ≤ length line.old + BITS }
 {
-    for i in 0..64 {
-        line.push(&[bit_digit(n, 63 - i)]);
+    for i in 0..BITS {
+        line.push(&[bit_digit(n, BITS - 1 - i)]);
     }
 }
 
 /// A bit of the number, as a digit.
-fn bit_digit(n: u64, place: u32) -> u8
-    requires { place ≤ 63 }
+fn bit_digit(n: u64, place: usize) -> u8
+    requires { place < BITS }
     ensures { result ≡ bit_digit n place }
 {
     b'0' + ((n >> place) % 2) as u8

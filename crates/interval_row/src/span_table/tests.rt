@@ -2,8 +2,12 @@
 
 ghost use Rattle.std.specs.Prelude.{◌≡◌, ◌<◌};
 
+use crate::lifted::Lifted;
+use crate::pages::Times;
 use crate::span_table::ChainTable;
+use crate::store::Store;
 use crate::table::{Front, SpareTable};
+use crate::walk_back::gives_nothing;
 use node_chain::Chain;
 use slot_core::{Span, Steps};
 use std::alloc::Global;
@@ -16,13 +20,9 @@ use std::test::Fail;
 #[test]
 fn fields_are_whole(rt: HostRuntime) -> Result<(), Fail> {
     let table = ChainTable::with_room(rt.alloc(), &[span(0, 4, 1, 3)], 1, 1)?;
-    let ChainTable {
-        chain,
-        time,
-        end,
-        hint,
-    } = &table;
-    let fields: (&Chain, &u64, &u64, &u32) = (chain, time, end, hint);
+    let ChainTable { chain, times, hint } = &table;
+    let Times { start, end } = times;
+    let fields: (&Lifted<Chain>, &u64, &u64, &u32) = (chain, start, end, hint);
     assert_eq!(rt;
         (fields.0.len(), *fields.1, *fields.2, *fields.3),
         (1, 0, 4, 0)
@@ -30,7 +30,7 @@ fn fields_are_whole(rt: HostRuntime) -> Result<(), Fail> {
     Ok(())
 }
 
-// Where there are more spans than pages, all that end in the pages before are told at once.
+// Where spans are shorter than a page on average, all that end in the pages before are told.
 #[test]
 fn pages_before_are_told(rt: HostRuntime) -> Result<(), Fail> {
     let table = ChainTable::with_room(rt.alloc(), &[span(0, 2, 1, 1)], 200, 200)?;
@@ -40,6 +40,70 @@ fn pages_before_are_told(rt: HostRuntime) -> Result<(), Fail> {
     }
     assert_eq!(rt; (near.count, near.works), (127, 127));
     Ok(())
+}
+
+// Pages whose times leave room are passed whole: of spans that end at 3, 6, .. 600 with a slot of
+// work each, those from 255 to 512.
+#[test]
+fn pages_with_room_are_passed(rt: HostRuntime) -> Result<(), Fail> {
+    passes_pages::<HostRuntime, Brand>(&rt, rt.alloc(), Blank::new(1))
+}
+
+fn passes_pages<R: Abort, L: Ledger>(rt: &R, alloc: Global, blank: Blank) -> Result<(), Fail>
+    requires name { blank.name ≡ L.name }
+    requires parts { blank.parts ≡ L.parts }
+    requires some { 0 < L.parts }
+{
+    let mut steps: Steps<L> = Steps::new(blank);
+    let table = ChainTable::with_room(alloc, &[span(0, 3, 1, 2)], 200, 200)?;
+    assert!(rt; counts_passed(&table, &mut steps) == Some((85, 170)));
+    Ok(())
+}
+
+/// How many spans end in the pages before slot 300, and how many are passed from there to 600 where
+/// 100 slots are asked for.
+fn counts_passed<L: Ledger>(table: &ChainTable, steps: &mut Steps<L>) -> Option<(u32, u32)> {
+    if 300 <= table.time() || table.last_end() < 600 {
+        return None;
+    }
+    let front = table.near(300);
+    if table.count() <= front.count {
+        return None;
+    }
+    let row = table.read(table.spot(front.count), steps);
+    let passed = table.skip(front, row, 600, 100);
+    Some((front.count, passed.count))
+}
+
+// Where so much is due at the last end that no span can give more, the pages before are told to
+// have no capacity: the next change raises them at once, and reads none of their spans.
+#[test]
+fn pages_without_capacity_are_told(rt: HostRuntime) -> Result<(), Fail> {
+    charges_last::<HostRuntime, Brand>(&rt, rt.alloc(), Blank::new(1))
+}
+
+fn charges_last<R: Abort, L: Ledger>(rt: &R, alloc: Global, blank: Blank) -> Result<(), Fail>
+    requires name { blank.name ≡ L.name }
+    requires parts { blank.parts ≡ L.parts }
+    requires some { 0 < L.parts }
+{
+    let mut steps: Steps<L> = Steps::new(blank);
+    let mut table = ChainTable::with_room(alloc, &[span(0, 3, 1, 2)], 200, 200)?;
+    assert!(rt; !gives_nothing(&table.chain, 3, 0));
+    charge_last(&mut table, 700, &mut steps);
+    assert!(rt; gives_nothing(&table.chain, 0, 300) && !gives_nothing(&table.chain, 0, 301));
+    charge_last(&mut table, 1, &mut steps);
+    assert!(rt; gives_nothing(&table.chain, 0, 301) && !gives_nothing(&table.chain, 0, 302));
+    Ok(())
+}
+
+/// So many slots more for the last span.
+fn charge_last<L: Ledger>(table: &mut ChainTable, slots: u32, steps: &mut Steps<L>) {
+    let last = table.spot(table.count() - 1);
+    let row = table.read(last, steps);
+    if row.work <= 1000 {
+        table.charge(row.end, slots, steps);
+    }
 }
 
 // Where work has changed the next change looks first, so one there finds its span in one step.

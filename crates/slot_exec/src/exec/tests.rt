@@ -253,8 +253,8 @@ impl<T: SpareTable> SpareTable for ReadTable<T> {
         self.table.near(x)
     }
 
-    fn skip(&self, front: Front, place: Span, until: u64, asked: u64) -> Front {
-        self.table.skip(front, place, until, asked)
+    fn skip(&self, front: Front, span: Span, until: u64, asked: u64) -> Front {
+        self.table.skip(front, span, until, asked)
     }
 
     fn read<L: Ledger>(&self, at: Spot, steps: &mut Steps<L>) -> Span {

@@ -1,7 +1,8 @@
-use Rattle.std.proofs.Common.{◌≡◌, refl, true, sym, ap, subst, ◌∙◌, inl, inr}
-use Rattle.run_outcome.specs.Refusals.{refusal_status}
-use Rattle.view_run.specs.Runs.{IsRefused, leaves_output_at}
-use Rattle.view_run.proofs.Causes.{leaves-by_status, refused-no_usage}
+use Rattle.std.proofs.Common.{◌≡◌, Err, refl, sym, ap, subst, ◌∙◌, inl, inr}
+use Rattle.run_outcome.specs.declared.refusal.Refusal.TheVariants.{WriteFault}
+use Rattle.run_outcome.specs.Refusals.{has_fixed_line, refusal_status}
+use Rattle.view_run.specs.Runs.{IsRefused}
+use Rattle.view_run.proofs.Causes.{refused-no_usage, write-by_status}
 use Rattle.view_run.proofs.run_named.Goals as goal
 
 pub returns-in-Err-clause-shows : goal.returns-in-Err-clause-shows
@@ -24,9 +25,15 @@ returns-in-Err-clause-refused g c = λ undone. (
 )
 
 pub returns-in-Err-clause-refusal_writes_nothing : goal.returns-in-Err-clause-refusal_writes_nothing
-returns-in-Err-clause-refusal_writes_nothing g c = λ leaves.
-    let stays : leaves_output_at (refusal_status c.report.result) ≡ true = ap leaves_output_at (sym c.status.ensures) ∙ leaves in
+returns-in-Err-clause-refusal_writes_nothing g c = λ undone unfailed. c.work.ensures.untouched c.in-Err.refusal c.in-Err.is (λ write. elim c.report.ensures.kept [
+  | inl same ↦ unfailed (c.status.ensures ∙ ap refusal_status (same ∙ write))
+  | inr memory ↦ cc (sym memory.1 ∙ ap has_fixed_line write)
+])
+
+pub returns-in-Err-clause-part : goal.returns-in-Err-clause-part
+returns-in-Err-clause-part g c = λ write.
+    let told : c.report.result ≡ WriteFault = write-by_status c.report.result (sym c.status.ensures ∙ write) in
     elim c.report.ensures.kept [
-      | inl same ↦ c.work.ensures.untouched c.in-Err.refusal c.in-Err.is (leaves-by_status c.in-Err.refusal (ap (λ e. leaves_output_at (refusal_status e)) (sym same) ∙ stays))
-      | inr memory ↦ absurd (cc (ap (λ e. leaves_output_at (refusal_status e)) (sym memory.0) ∙ stays))
+      | inl same ↦ c.work.ensures.part (c.in-Err.is ∙ ap Err (sym same ∙ told))
+      | inr memory ↦ cc (sym memory.0 ∙ told)
     ]

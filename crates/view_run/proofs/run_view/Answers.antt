@@ -1,5 +1,5 @@
 -- The names of the files are those of the words.
-use Rattle.std.proofs.Common.{◌≡◌, ◌≢◌, refl, subst, inl, inr}
+use Rattle.std.proofs.Common.{◌≡◌, ◌≢◌, refl, subst, inl}
 use Rattle.run_outcome.specs.declared.refusal.Refusal.{Refusal}
 use Rattle.run_outcome.specs.declared.refusal.Refusal.TheVariants.{Memory}
 use Rattle.run_outcome.specs.declared.status.Status.{Status}

@@ -24,4 +24,4 @@ returns-clause-passed g c =
     let later = c.place_at.result in
     let is = c.place_at.ensures in
     let at = ap (span_at pairs) (sym is.index) ∙ is.place.span in
-    MayPass-room t c.args.asked c.args.until pairs c.args.place later c.requires.table.consecutive is.place (c.skip-passed.ensures.reached later.span at (omega arith)) (c.skip-passed.ensures.room later.span at)
+    MayPass-room t c.args.asked c.args.until pairs c.args.place later c.requires.table.consecutive is.place (c.skip-passed.ensures.reached later.span at (omega arith)) (c.skip-passed.ensures.leaves later.span at)

@@ -2,9 +2,9 @@ use Rattle.std.proofs.Common.{◌∙◌, ◌≤◌, ◌^◌, [], ◌∷◌, ◌+
 use Rattle.std.proofs.lemmas.List.{length-append}
 use Rattle.slot_core.specs.declared.jobs.Span.{Span}
 use Rattle.spare_capacity.specs.Recurrence.{first_start}
-use Rattle.node_chain.specs.Chains.{blank_mark}
+use Rattle.node_chain.specs.Laps.{blank_mark}
 use Rattle.interval_row.specs.Changes.{shifted}
-use Rattle.interval_row.specs.Marks.{mark_of, with_end}
+use Rattle.interval_row.specs.Marks.{mark_index, with_end}
 use Rattle.interval_row.proofs.Cycles.{appended-next, last_end-some}
 use Rattle.interval_row.proofs.Marked.{few_counts, few_works, put_is, AreLight-push, AreMarked-gained, Gains-push}
 use Rattle.interval_row.proofs.Places.{end-le-last_end, work-le}
@@ -48,7 +48,7 @@ loop-span-preserved g c =
     let rows = g.S.Store.spans c.loop-span.store in
     let marks = g.S.Store.marks c.loop-span.store in
     let later = c.shifted-later.result in
-    let i = mark_of later.end in
+    let i = mark_index later.end in
     let few = few g (goal.at.loop-span-preserved g c).After-shifted-later in
     let now = c.add_span.ensures.spans ∙ c.push.ensures.spans in
     let put = put_is (g.S.Store.marks c.push.new.self) (g.S.Store.marks c.add_span.new.store) i (with_end later.end later.work) (omega (arith, ap length c.push.ensures.marks, c.loop-span.invariant.marked.length)) c.add_span.ensures.marks in

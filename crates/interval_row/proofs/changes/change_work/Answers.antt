@@ -3,10 +3,10 @@ use Rattle.std.proofs.lemmas.Option.{get_or_from_slice_get}
 use Rattle.slot_core.specs.declared.jobs.Span.{Span}
 use Rattle.spare_capacity.specs.Recurrence.{filled, first_spare, first_start, with_spare}
 use Rattle.spare_capacity.proofs.Steps.{no_row}
-use Rattle.node_chain.specs.Chains.{blank_mark}
+use Rattle.node_chain.specs.Laps.{blank_mark}
 use Rattle.interval_row.specs.Rows.{with_work_at}
 use Rattle.interval_row.specs.Works.{changed_by, MayChangeBy}
-use Rattle.interval_row.specs.Marks.{mark_of, with_change}
+use Rattle.interval_row.specs.Marks.{mark_index, with_change}
 use Rattle.interval_row.proofs.Laps.{follows}
 use Rattle.interval_row.proofs.Marked.{few_works, put_is, AreLight-FollowOn, AreMarked-changed, Moves-filled, Moves-with_work_at}
 use Rattle.interval_row.proofs.Places.{work-le, IsDueAt, IsDueAt-span_ending}
@@ -103,7 +103,7 @@ returns-clause-marked g c =
     let index = c.find_hinted-place.result.index in
     let row = c.find_hinted-place.result.row in
     let change = c.args.change in
-    let i = mark_of row.end in
+    let i = mark_index row.end in
     let work : c.changed-row.result.work ≡ changed_by change row.work = ap (λ (s : Span). s.work) c.changed-row.ensures in
     let now = c.change_span.ensures.spans ∙ c.set_work.ensures.spans ∙ ap (λ n. filled (with_work_at index n rows)) work in
     let put = put_is (g.S.Store.marks c.set_work.new.store) (g.S.Store.marks c.change_span.new.store) i (with_change change) (omega (arith, ap length c.set_work.ensures.marks, c.requires.timed.marked.length)) c.change_span.ensures.marks in

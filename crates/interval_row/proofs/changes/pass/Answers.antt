@@ -4,8 +4,8 @@ use Rattle.std.proofs.lemmas.Option.{get_or_from_slice_get}
 use Rattle.slot_core.specs.declared.jobs.Span.{Span}
 use Rattle.spare_capacity.specs.Recurrence.{first_start}
 use Rattle.spare_capacity.proofs.Steps.{no_row}
-use Rattle.node_chain.specs.Chains.{blank_mark}
-use Rattle.interval_row.specs.Marks.{mark_of, without_end}
+use Rattle.node_chain.specs.Laps.{blank_mark}
+use Rattle.interval_row.specs.Marks.{mark_index, without_end}
 use Rattle.interval_row.proofs.Marked.{put_is, AreMarked-lost, AreMarked-Stays, Gains-drop, Stays-set}
 use Rattle.interval_row.proofs.WalkBack.{passed-on, IsProper-first, IsWithin-spare}
 use Rattle.interval_row.proofs.changes.pass.Goals as goal
@@ -25,7 +25,7 @@ returns-then-row-clause-marked g c =
     let rows = g.S.Store.spans c.args.store.now in
     let marks = g.S.Store.marks c.args.store.now in
     let passed = c.pop_front-passed.result in
-    let i = mark_of passed.end in
+    let i = mark_index passed.end in
     let gains = Gains-drop rows passed c.pop_front-passed.ensures.first in
     let now = c.drop_span.ensures.spans ∙ c.pop_front-passed.ensures.rest in
     let put = put_is (g.S.Store.marks c.pop_front-passed.new.self) (g.S.Store.marks c.drop_span.new.store) i (without_end passed.work) (omega (arith, ap length c.pop_front-passed.ensures.marks, c.requires.marked.length)) c.drop_span.ensures.marks in

@@ -3,9 +3,9 @@ use Rattle.std.proofs.lemmas.Option.{get_or_from_slice_get}
 use Rattle.slot_core.specs.declared.jobs.Span.{Span}
 use Rattle.spare_capacity.specs.Recurrence.{filled, first_start, last_end}
 use Rattle.spare_capacity.proofs.Steps.{no_row}
-use Rattle.node_chain.specs.Chains.{blank_mark}
+use Rattle.node_chain.specs.Laps.{blank_mark}
 use Rattle.interval_row.specs.Changes.{cut}
-use Rattle.interval_row.specs.Marks.{mark_of, with_cut}
+use Rattle.interval_row.specs.Marks.{mark_index, with_cut}
 use Rattle.interval_row.specs.Rows.{place_of, HoldsInside}
 use Rattle.interval_row.proofs.Cuts.{cut-same, place_of-within, HoldsInside-place_of}
 use Rattle.interval_row.proofs.Cycles.{last_end-some}
@@ -52,7 +52,7 @@ returns-then-place-at-clause-marked g c =
     let rows = g.S.Store.spans c.args.store.now in
     let marks = g.S.Store.marks c.args.store.now in
     let at = c.args.at in
-    let i = mark_of at in
+    let i = mark_index at in
     let inside = inside g (goal.at.returns-then-place-at-clause-marked g c).After-find-place c.if-place-at.true in
     let gains = Gains-filled (Gains-cut c.args.times.start at c.find-place.result.index rows (follows c.requires.timed) c.find-place.ensures.index inside) in
     let now = c.cut_span.ensures.spans ∙ c.halve.ensures.spans in

@@ -3,4 +3,4 @@ use Rattle.interval_row.proofs.pages.skip.Given as goal
 
 -- the pages up to this one are passed
 abbrev pub invariant-loop-page : goal.invariant-loop-page
-invariant-loop-page g l = ArePassed (g.S.Store.spans l.store) l.fn.front l.passed l.fn.place l.until l.asked l.page
+invariant-loop-page g l = ArePassed (g.S.Store.spans l.store) l.fn.front l.passed l.fn.span l.until l.asked l.page

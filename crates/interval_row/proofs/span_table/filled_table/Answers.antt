@@ -4,15 +4,14 @@ use Rattle.spare_capacity.specs.Recurrence.{first_start, last_end}
 use Rattle.interval_row.specs.Changes.{appended, copies_of}
 use Rattle.slot_core.specs.declared.jobs.Span.{Span}
 use Rattle.spare_capacity.specs.PlanSpans.{ArePlanSpans}
-use Rattle.node_chain.specs.Chains.{blank_mark}
+use Rattle.node_chain.specs.Laps.{blank_mark}
 use Rattle.node_chain.specs.declared.marks.Mark.{Mark}
 use Rattle.interval_row.specs.Marks.{AreMarked}
-use Rattle.interval_row.specs.Stores.{AreKept}
 use Rattle.interval_row.proofs.Marked.{AreLight-FollowOn, AreMarked-later}
 use Rattle.interval_row.proofs.Cycles.{copies_fit, last_end-le, AreCopies-copies_of}
 use Rattle.interval_row.proofs.Ends.{last_end-appended}
 use Rattle.interval_row.proofs.Kept.{starts-at_zero, AreRows-ArePlanSpans}
-use Rattle.interval_row.proofs.Rooms.{AreKept-copies_of, IsTable-AreKept}
+use Rattle.interval_row.proofs.Rooms.{AreKept-copies_of, IsTable-AreKept, AreKept, marked_of}
 use Rattle.interval_row.proofs.Spots.{spans_of_pairs-numbered}
 use Rattle.interval_row.proofs.span_table.filled_table.Given.{Over}
 use Rattle.interval_row.proofs.span_table.filled_table.Goals as goal
@@ -41,8 +40,8 @@ append-requires-clause-near g c =
     let fit = copies_fit c.loop-copy._copy c.args.copies (length spans) c.args.room c.loop-copy-test.true c.requires.fits in
     omega (arith, c.loop-copy.invariant.end, last_end-le 0 rows copies.consecutive, last_end-le 0 spans c.requires.plan.consecutive, copies.count, few, fit, c.requires.few)
 
-pub blank_marks-requires : goal.blank_marks-requires
-blank_marks-requires g c = record { marks = ap length c.in_ok-chain.ensures.marks ∙ length-replicate 256 blank_mark }
+pub put_first_marks-requires : goal.put_first_marks-requires
+put_first_marks-requires g c = record { marks = ap length c.in_ok-chain.ensures.marks ∙ length-replicate 256 blank_mark }
 
 pub append-requires-clause-few : goal.append-requires-clause-few
 append-requires-clause-few g c =
@@ -100,7 +99,7 @@ kept g c =
 
 pub invariant_of-result : goal.invariant_of-result
 invariant_of-result g c =
-    record { kept = kept g (goal.at.invariant_of-result g c).After-loop-copy; marked = c.loop-copy.invariant.marked }
+    marked_of (kept g (goal.at.invariant_of-result g c).After-loop-copy) c.loop-copy.invariant.marked
 
 pub returns-clause-table : goal.returns-clause-table
 returns-clause-table g c = IsTable-AreKept _ _ _ _ (kept g (goal.at.returns-clause-table g c).After-loop-copy)

@@ -1,83 +1,73 @@
-use Rattle.std.proofs.Common.{◌≡◌, ◌-◌, ◌<◌, ◌∙◌, suc, FitsSigned, get_or, length, ap, sym, arith, rules, w64, to_z, of_z}
-use Rattle.std.proofs.lemmas.Int.{ints, clamps, to_z-of_z}
-use Rattle.std.proofs.lemmas.Option.{slice_get_within, slice_get-get_or, get_or_from_slice_get}
+use Rattle.std.proofs.Common.{◌≡◌, ◌/◌, ◌∙◌, refl, ap, subst, sym, arith}
+use Rattle.std.proofs.lemmas.Option.{slice_get_within, get_or_from_slice_get}
 use Rattle.slot_core.specs.declared.jobs.Span.{Span}
-use Rattle.spare_capacity.specs.Lending.{repaid}
-use Rattle.spare_capacity.specs.Recurrence.{filled, first_start}
+use Rattle.spare_capacity.specs.Recurrence.{filled, first_start, last_end}
 use Rattle.spare_capacity.proofs.Steps.{no_row}
-use Rattle.interval_row.specs.Rows.{with_work_at}
-use Rattle.interval_row.proofs.WalkBack.{walked, walked-put, walked-next, walked-end, CanRaise, CanRaise-walked, IsWithin-spare}
+use Rattle.interval_row.specs.Rows.{with_work_at, AreRows}
+use Rattle.interval_row.specs.Walks.{after_walk}
+use Rattle.interval_row.proofs.CutTimes.{rises-at, start-at}
+use Rattle.interval_row.proofs.Laps.{ends, follows, rises}
+use Rattle.interval_row.proofs.PageWalks.{none-before, walked-done, CanWalk, CanWalk-AreTimed}
+use Rattle.interval_row.proofs.Places.{end-le-last_end}
 use Rattle.interval_row.proofs.walk.set_work.Given.{Over}
 use Rattle.interval_row.proofs.walk.set_work.Goals as goal
-use Rattle.interval_row.proofs.walk.set_work.Goals.{Else-more-eq0}
+use Rattle.interval_row.proofs.walk.set_work.Goals.{After-follow_spans-walk, After-set_row-from}
 
-pub repaid-more-requires : goal.repaid-more-requires
-repaid-more-requires g c =
+pub tell_pages-requires-clause-rising : goal.tell_pages-requires-clause-rising
+tell_pages-requires-clause-rising g c = rises c.requires.timed
+
+-- what the spans become
+can : (g : Over) (c : After-set_row-from g) → CanWalk c.args.times.start c.args.times.end (filled (with_work_at c.args.place.index c.args.row.work (g.S.Store.spans c.args.store.now))) (g.S.Store.marks c.args.store.now)
+can g c = CanWalk-AreTimed c.args.place.index c.args.row.work c.args.place.row c.requires.timed c.requires.row c.requires.few
+
+pub follow_spans-requires-clause-rows : goal.follow_spans-requires-clause-rows
+follow_spans-requires-clause-rows g c = rw c.set_row-from.ensures.spans (can g ((goal.at.follow_spans-requires-clause-rows g c).After-set_row-from)).rows
+
+pub returns-then-not-tell_pages-clause-spans : goal.returns-then-not-tell_pages-clause-spans
+returns-then-not-tell_pages-clause-spans g c =
+    let walk = c.follow_spans.result in
+    let rows = g.S.Store.spans c.follow_spans.new.store in
+    let same = c.follow_spans.ensures.spans ∙ c.set_row-from.ensures.spans in
+    let are : AreRows (after_walk walk rows) = subst AreRows (sym same) (can g ((goal.at.returns-then-not-tell_pages-clause-spans g c).After-set_row-from)).rows in
+    let none = none-before 0 walk rows are (omega arith) in
+    sym (walked-done walk rows (λ other. c.follow_spans.ensures.place other ∙ none)) ∙ same
+
+pub follow_spans-walk-requires-clause-rows : goal.follow_spans-walk-requires-clause-rows
+follow_spans-walk-requires-clause-rows g c = rw c.set_row-from.ensures.spans (can g ((goal.at.follow_spans-walk-requires-clause-rows g c).After-set_row-from)).rows
+
+-- and are after the page of the place
+walking : (g : Over) (c : After-follow_spans-walk g) → after_walk c.follow_spans-walk.result (g.S.Store.spans c.follow_spans-walk.new.store) ≡ filled (with_work_at c.args.place.index c.args.row.work (g.S.Store.spans c.args.store.now))
+walking g c = c.follow_spans-walk.ensures.spans ∙ c.set_row-from.ensures.spans
+
+pub follow_pages-requires-clause-pages : goal.follow_pages-requires-clause-pages
+follow_pages-requires-clause-pages g c =
+    let can = can g ((goal.at.follow_pages-requires-clause-pages g c).After-set_row-from) in
+    let marks = c.follow_spans-walk.ensures.marks ∙ c.set_row-from.ensures.marks in
+    rw (walking g ((goal.at.follow_pages-requires-clause-pages g c).After-follow_spans-walk), marks) (can.pages (c.if-not-tell_pages.ensures refl))
+
+pub follow_pages-requires-clause-first : goal.follow_pages-requires-clause-first
+follow_pages-requires-clause-first g c =
+    let can = can g ((goal.at.follow_pages-requires-clause-first g c).After-set_row-from) in
+    let starts = ap first_start (walking g ((goal.at.follow_pages-requires-clause-first g c).After-follow_spans-walk)) ∙ can.starts in
+    ap (λ n. n / 128) (sym starts)
+
+pub follow_pages-requires-clause-end : goal.follow_pages-requires-clause-end
+follow_pages-requires-clause-end g c =
     let rows = g.S.Store.spans c.args.store.now in
     let k = c.args.place.index in
-    let was = c.args.place.row in
-    let h = c.requires.rows in
-    let near = IsWithin-spare (first_start rows) rows k h.consecutive h.filled h.few (slice_get_within rows k was c.requires.row) in
-    let is : was ≡ get_or rows k no_row = sym (get_or_from_slice_get rows k was no_row c.requires.row) in
-    let old : FitsSigned w64 was.spare = search rules in
-    let new : FitsSigned w64 c.args.row.spare = search rules in
-    omega (arith, ints, clamps, near.low, near.high, ap (λ (s : Span). s.spare) is)
+    let can = can g ((goal.at.follow_pages-requires-clause-end g c).After-set_row-from) in
+    let last = ap (last_end 0) (walking g ((goal.at.follow_pages-requires-clause-end g c).After-follow_spans-walk)) ∙ can.ends in
+    let is = ap (λ (s : Span). s.end) (get_or_from_slice_get rows k c.args.place.row no_row c.requires.row) in
+    let within = end-le-last_end c.args.times.start rows k (follows c.requires.timed) (slice_get_within rows k c.args.place.row c.requires.row) in
+    omega (arith, last, is, within.1, ends c.requires.timed, ap (λ (s : Span). s.end) c.requires.spare)
 
-pub loop-index-init : goal.loop-index-init
-loop-index-init g c =
+pub follow_pages-requires-clause-rising : goal.follow_pages-requires-clause-rising
+follow_pages-requires-clause-rising g c =
     let rows = g.S.Store.spans c.args.store.now in
     let k = c.args.place.index in
-    let was = c.args.place.row in
-    let is : was ≡ get_or rows k no_row = sym (get_or_from_slice_get rows k was no_row c.requires.row) in
-    let old : FitsSigned w64 was.spare = search rules in
-    let new : FitsSigned w64 c.args.row.spare = search rules in
-    let fits : FitsSigned w64 c.repaid-more.result = search rules in
-    let more : to_z w64 (of_z w64 c.repaid-more.result) ≡ repaid was.spare c.args.row.spare = omega (arith, ints, clamps, c.repaid-more.ensures) in
-    record {
-      spans = rw (more, c.set.ensures.spans) (walked-put rows k was c.args.row c.requires.rows (slice_get_within rows k was c.requires.row) is c.requires.spare);
-      room = c.set.ensures.room;
-      marks = c.set.ensures.marks;
-      low = omega (arith, c.set.ensures.one_step);
-      high = omega (arith, c.set.ensures.one_step);
-    }
+    let row = c.args.place.row in
+    let follow = follows c.requires.timed in
+    omega (arith, start-at c.args.times.start k rows row follow c.requires.row, rises-at c.args.times.start k rows row follow c.requires.row, ap (λ (s : Span). s.end) c.requires.spare)
 
-pub returns-then-more-eq0-clause-spans : goal.returns-then-more-eq0-clause-spans
-returns-then-more-eq0-clause-spans g c =
-    sym (walked-end (g.S.Store.spans c.loop-index.store) c.loop-index.index) ∙ (rw c.if-more-eq0.true at c.loop-index.invariant.spans)
-
--- the place is one after that of the span before it
-still : (g : Over) (c : Else-more-eq0 g) → walked (to_z w64 c.loop-index.more-bits) (suc (c.loop-index.index - 1)) (g.S.Store.spans c.loop-index.store) ≡ filled (with_work_at c.args.place.index c.args.row.work (g.S.Store.spans c.args.store.now))
-still g c =
-    let next : c.loop-index.index ≡ suc (c.loop-index.index - 1) = omega (arith, c.loop-index-test.true) in
-    rw next at c.loop-index.invariant.spans
-
--- which can be raised
-can : (g : Over) (c : Else-more-eq0 g) → CanRaise (g.S.Store.spans c.loop-index.store) (c.loop-index.index - 1) (to_z w64 c.loop-index.more-bits)
-can g c =
-    let rows = g.S.Store.spans c.args.store.now in
-    let high : c.loop-index.index - 1 < length rows = omega (arith, c.loop-index.auto.index, c.loop-index-test.true, slice_get_within rows c.args.place.index c.args.place.row c.requires.row) in
-    CanRaise-walked rows _ c.args.place.index c.args.row.work _ _ c.requires.rows c.requires.few high (still g c)
-
-pub raise-more-requires-clause-within : goal.raise-more-requires-clause-within
-raise-more-requires-clause-within g c = (can g ((goal.at.raise-more-requires-clause-within g c).Else-more-eq0)).within
-
-pub raise-more-requires-clause-fits : goal.raise-more-requires-clause-fits
-raise-more-requires-clause-fits g c =
-    let can = can g ((goal.at.raise-more-requires-clause-fits g c).Else-more-eq0) in
-    rw (slice_get-get_or (g.S.Store.spans c.loop-index.store) (c.loop-index.index - 1) no_row can.within) can.fits
-
-pub loop-index-preserved : goal.loop-index-preserved
-loop-index-preserved g c =
-    let after = (goal.at.loop-index-preserved g c).Else-more-eq0 in
-    let within = (can g after).within in
-    let here = slice_get-get_or (g.S.Store.spans c.loop-index.store) (c.loop-index.index - 1) no_row within in
-    let fits : FitsSigned w64 c.raise-more.result = search rules in
-    let more = to_z-of_z w64 c.raise-more.result fits ∙ (rw here at c.raise-more.ensures.repaid) in
-    let put = rw here at c.raise-more.ensures.spans in
-    record {
-      spans = rw (more, put) (walked-next _ _ _ within ∙ still g after);
-      room = c.raise-more.ensures.room ∙ c.loop-index.invariant.room;
-      marks = c.raise-more.ensures.marks ∙ c.loop-index.invariant.marks;
-      low = omega (arith, c.raise-more.ensures.two_steps, c.loop-index.invariant.low);
-      high = omega (arith, c.raise-more.ensures.two_steps, c.loop-index.invariant.high, c.loop-index-test.true);
-    }
+pub returns-clause-spans : goal.returns-clause-spans
+returns-clause-spans g c = c.follow_pages.ensures.spans ∙ walking g ((goal.at.returns-clause-spans g c).After-follow_spans-walk)

@@ -10,4 +10,4 @@ returns-clause-order g c =
     let within = rw c.jobs.ensures at c.place_in_order-place.ensures.within in
     let behind = rw c.jobs.ensures at c.place_in_order-place.ensures.behind in
     let before = rw c.jobs.ensures at c.place_in_order-place.ensures.before in
-    subst IsEarliestLast (sym c.insert.ensures.items) (IsEarliestLast-insert jobs place c.args.job within c.requires.order behind before)
+    subst IsEarliestLast (sym c.insert.ensures.items) (IsEarliestLast-insert jobs place c.args.job.now within c.requires.order behind before)

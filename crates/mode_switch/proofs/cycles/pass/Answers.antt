@@ -13,8 +13,8 @@ pub nonzero_div-passed : goal.nonzero_div-passed
 nonzero_div-passed g c =
     omega (arith, c.from-cycle.ensures, c.cycle.ensures.cycle, plan_cycle-bounds c.args.plan.now c.cycle.ensures.plan)
 
-pub insert_cycle-requires-clause-room : goal.insert_cycle-requires-clause-room
-insert_cycle-requires-clause-room g c =
+pub insert_cycle-requires-clause-free : goal.insert_cycle-requires-clause-free
+insert_cycle-requires-clause-free g c =
     let whole = c.from-cycle.ensures ∙ c.cycle.ensures.cycle in
     let none = c.requires.none (sym (ap (λ n. c.args.passed % n) whole) ∙ c.if-passed-cycle-eq0.true) in
     omega (arith, none, c.requires.room, plan_jobs-few c.args.plan.now c.cycle.ensures.plan)

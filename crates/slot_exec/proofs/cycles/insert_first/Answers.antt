@@ -16,8 +16,8 @@ pub with_capacity-requires-clause-few : goal.with_capacity-requires-clause-few
 with_capacity-requires-clause-few g c =
     omega (arith, c.cycle.ensures.cycle, plan_cycle-bounds c.args.plan.now c.cycle.ensures.plan)
 
-pub insert_cycle-requires-clause-room : goal.insert_cycle-requires-clause-room
-insert_cycle-requires-clause-room g c =
+pub insert_cycle-requires-clause-free : goal.insert_cycle-requires-clause-free
+insert_cycle-requires-clause-free g c =
     omega (arith, c.loop-n.invariant.capacity, first_cycles-room c.args.plan.now c.loop-n.n c.loop-n.queue.jobs c.cycle.ensures.plan c.loop-n-test.true c.loop-n.invariant.jobs)
 
 pub insert_cycle-requires-clause-apart : goal.insert_cycle-requires-clause-apart

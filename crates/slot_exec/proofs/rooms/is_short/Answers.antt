@@ -2,7 +2,7 @@ use Rattle.std.proofs.Common.{◌≡◌, ◌+◌, ◌<◌, ap, ◌∙◌, arith}
 use Rattle.std.proofs.lemmas.Bool.{leb-true}
 use Rattle.slot_core.specs.Feasibility.Sporadics.{sporadic_demand}
 use Rattle.interval_row.specs.Tables.{spans_of_pairs}
-use Rattle.slot_exec.proofs.Remembered.{soft_fits-tight}
+use Rattle.slot_exec.proofs.RememberedRoom.{soft_fits-tight}
 use Rattle.slot_exec.proofs.rooms.is_short.Goals as goal
 
 pub returns : goal.returns

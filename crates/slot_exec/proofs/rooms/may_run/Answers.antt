@@ -1,6 +1,6 @@
 use Rattle.std.proofs.Common.{sym, arith}
 use Rattle.interval_row.specs.Tables.{spans_of_pairs}
-use Rattle.slot_exec.proofs.Remembered.{soft_fits-free}
+use Rattle.slot_exec.proofs.RememberedRoom.{soft_fits-free}
 use Rattle.slot_exec.proofs.rooms.may_run.Goals as goal
 
 pub returns-then-room-ge1-clause-answer : goal.returns-then-room-ge1-clause-answer

@@ -1,7 +1,7 @@
 use Rattle.std.proofs.Common.{take}
-use Rattle.std.specs.List.{All}
-use Rattle.view_picture.specs.Blocks.{HasBlock}
+use Rattle.view_picture.specs.Blocks.{AreDrawn}
 use Rattle.view_picture.proofs.blocks.draw_blocks.Given as goal
 
 abbrev pub invariant-loop-block : goal.invariant-loop-block
-invariant-loop-block l = All (HasBlock l.fn.times l.fn.top l.drawing) (take l.block-index l.blocks)
+invariant-loop-block l =
+    AreDrawn l.fn.times l.fn.top (take l.block-index l.blocks) l.initial.drawing l.drawing

@@ -9,3 +9,6 @@ returns-clause-plan g c =
 pub returns-clause-refused : goal.returns-clause-refused
 returns-clause-refused g c =
     plan-refused _ _ _ _ _ _ c.args.source c.plan_source.result c.plan_from.result _ c.plan_source.ensures c.plan_from.ensures.reading
+
+pub returns-clause-reads_well : goal.returns-clause-reads_well
+returns-clause-reads_well g c = c.plan_from.ensures.reading.counts

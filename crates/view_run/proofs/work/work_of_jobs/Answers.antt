@@ -10,5 +10,12 @@ returns-clause-shown g c =
     let input : AreInput (g.I.Files.held c.args.input.now) lines = subst (AreInput (g.I.Files.held c.args.input.now)) (sym c.deref.ensures.value) (c.in_ok-lines.ensures.trace, c.in_ok-lines.ensures.text) in
     on_ok_weaker
     c.show_jobs.result
-    (λ shows. (lines, input, (c.in_ok-plan.plan, c.in_ok-plan.ensures.plan, shows)))
+    (λ shows. (shows.0, (lines, input, (c.in_ok-plan.plan, c.in_ok-plan.ensures.plan, shows.1)), shows.2))
     c.show_jobs.ensures.shown
+
+pub returns-clause-part : goal.returns-clause-part
+returns-clause-part g c = λ write.
+    let lines = c.deref.result.now in
+    let input : AreInput (g.I.Files.held c.args.input.now) lines = subst (AreInput (g.I.Files.held c.args.input.now)) (sym c.deref.ensures.value) (c.in_ok-lines.ensures.trace, c.in_ok-lines.ensures.text) in
+    let shows = c.show_jobs.ensures.part write in
+    (shows.0, (lines, input, (c.in_ok-plan.plan, c.in_ok-plan.ensures.plan, shows.1)), shows.2)

@@ -23,7 +23,7 @@ invariant_of-self-then-place-beside-2 c =
     let in_beside : length c.self.inside.beside.items ≡ c.len-beside.result = omega arith in
     let in_come : length c.self.inside.come.items ≡ c.len-come.result = omega arith in
     let k = c.len-come.result - 1 - (c.args.place - c.len-beside.result) in
-    let gone = IsGone-come c.self.inside.capacity c.args.place k c.remove.new.self.places old c.self.invariant (omega arith) (omega arith) (omega arith) c.remove.ensures.capacity in
+    let gone = IsGone-come c.self.inside.capacity c.args.place k c.remove.new.self.places old c.self.invariant (omega arith) (omega arith) (omega arith) c.remove.ensures.places in
     rw
     c.remove.ensures.items
     (AreKept-gone c.self.inside.capacity c.args.place old _ c.self.invariant gone)
@@ -67,7 +67,7 @@ returns-then-place-beside-2-clause-jobs c = λ f.
     let in_beside : length c.self.inside.beside.items ≡ c.len-beside.result = omega arith in
     let in_come : length c.self.inside.come.items ≡ c.len-come.result = omega arith in
     let k = c.len-come.result - 1 - (c.args.place - c.len-beside.result) in
-    let gone = IsGone-come c.self.inside.capacity c.args.place k c.remove.new.self.places old c.self.invariant (omega arith) (omega arith) (omega arith) c.remove.ensures.capacity in
+    let gone = IsGone-come c.self.inside.capacity c.args.place k c.remove.new.self.places old c.self.invariant (omega arith) (omega arith) (omega arith) c.remove.ensures.places in
     rw
     c.remove.ensures.items
     (same-gone c.args.place old _ gone f ∙ ap (λ (q : QueueParts). sum_by f (remove q.jobs c.args.place)) c.self.view_is)

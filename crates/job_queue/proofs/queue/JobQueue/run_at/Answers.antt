@@ -46,7 +46,7 @@ invariant_of-self-then-place-beside-2 c =
     let jobs = ap (λ (q : QueueParts). length q.jobs) c.self.view_is in
     let more = subst (λ (q : QueueParts). (d : Job) → 1 < (get_or q.jobs c.args.place d).left) (sym c.self.view_is) c.requires.more in
     let k = c.len-come.result - 1 - (c.args.place - c.len-beside.result) in
-    let run = HasRun-come c.self.inside.capacity c.args.place k c.run.new.self.places old c.self.invariant (omega arith) (omega arith) (omega arith) c.run.ensures.capacity in
+    let run = HasRun-come c.self.inside.capacity c.args.place k c.run.new.self.places old c.self.invariant (omega arith) (omega arith) (omega arith) c.run.ensures.places in
     rw
     c.run.ensures.items
     (AreKept-run c.self.inside.capacity c.args.place old _ c.self.invariant (omega (arith, jobs)) more run)
@@ -57,7 +57,7 @@ returns-then-place-beside-2-clause-jobs c =
     let in_beside : length c.self.inside.beside.items ≡ c.len-beside.result = omega arith in
     let in_come : length c.self.inside.come.items ≡ c.len-come.result = omega arith in
     let k = c.len-come.result - 1 - (c.args.place - c.len-beside.result) in
-    let run = HasRun-come c.self.inside.capacity c.args.place k c.run.new.self.places old c.self.invariant (omega arith) (omega arith) (omega arith) c.run.ensures.capacity in
+    let run = HasRun-come c.self.inside.capacity c.args.place k c.run.new.self.places old c.self.invariant (omega arith) (omega arith) (omega arith) c.run.ensures.places in
     rw c.run.ensures.items (run.jobs ∙ ap (λ (q : QueueParts). after_run_at c.args.place q.jobs) c.self.view_is)
 
 pub overflow_sub-index_mut-else-place-beside-2 : goal.overflow_sub-index_mut-else-place-beside-2

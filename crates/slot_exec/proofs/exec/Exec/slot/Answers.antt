@@ -33,7 +33,7 @@ invariant_of-self g c =
     let ran = c.run.ensures in
     let passed = c.pass-turned.ensures in
     let early : g.T.SpareTable.time c.self.inside.table < 2 ^ 32 = omega (arith, c.requires, ap (λ (e : Executive). e.scene.time) c.self.view_is) in
-    rw (passed.room, ran.places, passed.capacity, ran.capacity, ran.ring, c.after_slot-room.ensures)
+    rw (passed.places, ran.places, passed.capacity, ran.capacity, ran.ring, c.after_slot-room.ensures)
     (IsExecutive-parts c.self.inside.reserve c.self.invariant c.choose-chosen.result.0 c.choose-chosen.ensures.chosen _ _ c.run.new.queue.jobs ran.time ran.spans ran.jobs _ _ c.pass-turned.new.queue.jobs _ passed.time passed.spans passed.jobs ran.soft c.choose-chosen.result.1 c.pass-turned.result c.choose-chosen.ensures.room passed.turned early)
 
 pub returns-clause-does : goal.returns-clause-does

@@ -1,19 +1,10 @@
 -- The front of the second block stands after the front of the first.
-use Rattle.std.proofs.Common.{◌≡◌, ℕ, List, refl, ◌-◌, ◌+◌, ◌≤◌, ◌++◌, length, take, drop, ap, sym, ◌∙◌, rules, arith}
-use Rattle.std.proofs.lemmas.List.{take_at, drop_at, take-append-le, length-take-le, length-drop}
-use borrow.Rule.Slice.PartMut.{put_mid, post_of, same_len_mid}
-use lib.Seq.{take-add}
+use Rattle.std.proofs.Common.{◌≡◌, ◌-◌, ◌+◌, ◌≤◌, ◌++◌, length, take, drop, ap, sym, ◌∙◌, rules, arith}
+use Rattle.std.proofs.lemmas.List.{length-take-le, length-drop}
+use borrow.Rule.Slice.PartMut.{put_mid, same_len_mid}
 use Rattle.trace_text.specs.declared.TheConstants.{LINE_LIMIT}
+use Rattle.trace_text.proofs.Blocks.{block_put}
 use Rattle.trace_text.proofs.line.Line.push_blocks.Goals as goal
-
--- the front of a block that is written into bytes stands after what was before it
-grown : (xs ys : List ℕ) (end k n : ℕ) → end ≤ length xs → n ≤ length ys
-    → take (end + n) (put_mid end k xs ys) ≡ take end xs ++ take n ys
-grown xs ys end k n within fits =
-    let len = length-take-le end xs within in
-    let after = ys ++ post_of end k xs in
-    take-add end n (put_mid end k xs ys)
-    ∙ (rw (take_at (take end xs) after _ len, drop_at (take end xs) after _ len, take-append-le n ys (post_of end k xs) fits) refl)
 
 pub returns : goal.returns
 returns g c =
@@ -28,7 +19,7 @@ returns g c =
     let room : start + g.row.N + g.row.M ≤ length bytes = omega (arith, here, c.requires.room) in
     let within = put_mid start (start + g.row.N - start) bytes c.args.first in
     let kept : length within ≡ length bytes = same_len_mid start (start + g.row.N - start) bytes c.args.first (omega (arith, length-take-le (start + g.row.N - start) (drop start bytes) (omega (arith, length-drop start bytes)))) in
-    let front = grown bytes c.args.first start (start + g.row.N - start) c.args.count (omega arith) (omega arith) in
-    let all = grown within c.args.second (start + c.args.count) (start + c.args.count + g.row.M - (start + c.args.count)) c.args.more (omega arith) (omega arith) in
+    let front = block_put bytes c.args.first start (start + g.row.N - start) c.args.count (omega arith) (omega arith) in
+    let all = block_put within c.args.second (start + c.args.count) (start + c.args.count + g.row.M - (start + c.args.count)) c.args.more (omega arith) (omega arith) in
     rw (first, second)
     (all ∙ ap (λ l. l ++ take c.args.more c.args.second) (front ∙ ap (λ l. l ++ take c.args.count c.args.first) c.self.view_is))

@@ -1,0 +1,351 @@
+-- What a walk back leaves of spans, and pages of which all spans follow at once.
+use Rattle.std.proofs.Common.{◌≡◌, ℕ, zero, suc, ◌+◌, ◌-◌, ◌*◌, ◌/◌, ◌%◌, ◌<◌, ◌≤◌, ◌^◌, ℤ, pos, ◌+ℤ◌, ◌≤ℤ◌, cond, eqb, ltb, List, [], ◌∷◌, length, take, drop, Some, inl, inr, refl, sym, subst, ◌∙◌, ap, arith}
+use Rattle.std.specs.Prelude.{slice_get}
+use Rattle.std.specs.List.{AllByRecursion}
+use Rattle.std.proofs.lemmas.Bool.{cases_lt, eq-eqb, ne_eqb}
+use Rattle.std.proofs.lemmas.Int.{ints, clamps, by_lt_z}
+use Rattle.std.proofs.lemmas.Option.{get_or_from_slice_get, same_Some, slice_get_within}
+use Rattle.std.proofs.lemmas.List.{drop_more}
+use Rattle.slot_core.specs.declared.jobs.Span.{Span}
+use Rattle.spare_capacity.proofs.Steps.{no_row}
+use Rattle.node_chain.specs.declared.marks.Mark.{Mark}
+use Rattle.spare_capacity.specs.Lending.{carry, raised, repaid}
+use Rattle.spare_capacity.specs.Recurrence.{filled, FollowOn, first_start, last_end}
+use Rattle.spare_capacity.proofs.Free.{rest-filled}
+use Rattle.interval_row.specs.Changes.{ends_before}
+use Rattle.interval_row.specs.Lifts.{raised_at, AreAtMost, MayRaise}
+use Rattle.interval_row.specs.Marks.{count_at, mark_index, AreTimed}
+use Rattle.interval_row.specs.Rows.{with_work_at, AreRows}
+use Rattle.interval_row.specs.Walks.{after_walk, walked, AreInPages, PagesGiveNone, IsPageOf}
+use Rattle.interval_row.specs.declared.walk_back.Walk.{Walk}
+use Rattle.interval_row.proofs.CutTimes.{ends_before-ended, ends_before-later, ends_before-page, ends_before-start, AreInLap, IsInLap}
+use Rattle.interval_row.proofs.Cycles.{last_end-some}
+use Rattle.interval_row.proofs.Fillings.{first_start-filled, last_end-filled}
+use Rattle.interval_row.proofs.Kept.{AreBare-with_work_at, AreRows-AreBare}
+use Rattle.interval_row.proofs.Works.{first_start-with_work_at, last_end-with_work_at}
+use Rattle.interval_row.proofs.Marked.{of_all, of_all-cons, Moves-filled, Moves-with_work_at}
+use Rattle.interval_row.proofs.WalkBack.{length-walked, walked-end, IsWithin, IsWithin-spare}
+
+-- a walk back changes capacities alone
+pub of_all-walked : (g : ℕ → ℕ → ℕ) (more : ℤ) (k : ℕ) (rows : List Span) → of_all g (walked more k rows) ≡ of_all g rows
+of_all-walked g more zero rows = refl
+of_all-walked g more (suc k) [] = refl
+of_all-walked g more (suc k) (s ∷ ss) =
+    of_all-cons g (raised (carry more (take k ss)) s) (walked more k ss) ∙ ap (λ n. g s.end s.work + n) (of_all-walked g more k ss) ∙ sym (of_all-cons g s ss)
+
+pub ends_before-walked : (y : ℕ) (more : ℤ) (k : ℕ) (rows : List Span) → ends_before y (walked more k rows) ≡ ends_before y rows
+ends_before-walked y more k rows = of_all-walked (λ end work. cond (ltb end y) 1 0) more k rows
+
+pub count_at-walked : (j : ℕ) (more : ℤ) (k : ℕ) (rows : List Span) → count_at j (walked more k rows) ≡ count_at j rows
+count_at-walked j more k rows = of_all-walked (λ end work. cond (eqb (mark_index end) j) 1 0) more k rows
+
+pub FollowOn-walked : (start : ℕ) (more : ℤ) (k : ℕ) (rows : List Span) → FollowOn start (walked more k rows) → FollowOn start rows
+FollowOn-walked start more zero rows h = h
+FollowOn-walked start more (suc k) [] h = h
+FollowOn-walked start more (suc k) (s ∷ ss) h = (h.0, h.1, h.2, h.3, FollowOn-walked s.end more k ss h.4)
+
+pub first_start-walked : (more : ℤ) (k : ℕ) (rows : List Span) → first_start (walked more k rows) ≡ first_start rows
+first_start-walked more zero rows = refl
+first_start-walked more (suc k) [] = refl
+first_start-walked more (suc k) (s ∷ ss) = refl
+
+pub last_end-walked : (start : ℕ) (more : ℤ) (k : ℕ) (rows : List Span) → last_end start (walked more k rows) ≡ last_end start rows
+last_end-walked start more zero rows = refl
+last_end-walked start more (suc k) [] = refl
+last_end-walked start more (suc k) (s ∷ ss) = last_end-walked s.end more k ss
+
+-- no span ends before a time that the first reaches
+pub ends_before-reached : (start y : ℕ) (rows : List Span) (s : Span) → FollowOn start rows → slice_get rows 0 ≡ Some s → y ≤ s.end → ends_before y rows ≡ 0
+ends_before-reached start y [] s follow at reached = refl
+ends_before-reached start y (r ∷ rs) s follow at reached =
+    let late : y ≤ r.end = omega (arith, reached, ap (λ (t : Span). t.end) (same_Some r s at)) in
+    ends_before-later y r rs late ∙ ends_before-start r.end y rs follow.4 late
+
+-- a span ends where the one after it starts
+pub meets : (start k : ℕ) (rows : List Span) (s t : Span) → FollowOn start rows → slice_get rows k ≡ Some s → slice_get rows (suc k) ≡ Some t → s.end ≡ t.start
+meets start k [] s t follow at next = absurd (omega (arith, slice_get_within [] k s at))
+meets start zero (r ∷ []) s t follow at next = absurd (omega (arith, slice_get_within (r ∷ []) 1 t next))
+meets start zero (r ∷ u ∷ us) s t follow at next =
+    omega (arith, ap (λ (x : Span). x.end) (same_Some r s at), ap (λ (x : Span). x.start) (same_Some u t next), follow.4.0)
+meets start (suc k) (r ∷ rs) s t follow at next = meets r.end k rs s t follow.4 at next
+
+-- lists that are the same from a place on are the same there
+first-drop : (k : ℕ) (rows : List Span) → slice_get (drop k rows) 0 ≡ slice_get rows k
+first-drop zero rows = refl
+first-drop (suc k) [] = refl
+first-drop (suc k) (s ∷ ss) = first-drop k ss
+
+pub slice_get-drop : (k : ℕ) (rows new : List Span) → drop k new ≡ drop k rows → slice_get new k ≡ slice_get rows k
+slice_get-drop k rows new same = sym (first-drop k new) ∙ ap (λ xs. slice_get xs 0) same ∙ first-drop k rows
+
+-- rows follow on where they do at the end of a walk
+pub follows-walk : (walk : Walk) (rows : List Span) → AreRows (after_walk walk rows) → FollowOn (first_start rows) rows
+follows-walk walk rows are =
+    subst (λ n. FollowOn n rows) (first_start-walked walk.more walk.index rows) (FollowOn-walked (first_start (after_walk walk rows)) walk.more walk.index rows are.consecutive)
+
+-- within a lap a span has the mark of a page where it ends in it
+before-page : (time end page : ℕ) → time ≤ end → end < page * 128 → page < time / 128 + 256 → mark_index end ≡ page % 256 → ⊥
+before-page time end page late early high same = omega (arith, late, early, high, same)
+
+after-page : (time end page : ℕ) → (page + 1) * 128 ≤ end → end < (time / 128 + 256) * 128 → time / 128 ≤ page → mark_index end ≡ page % 256 → ⊥
+after-page time end page after near low same = omega (arith, after, near, low, same)
+
+in-page : (end page : ℕ) → page * 128 ≤ end → end < (page + 1) * 128 → mark_index end ≡ page % 256
+in-page end page low high = omega (arith, low, high)
+
+-- a bound below 0, before and after, is one on what spans give
+pub PagesGiveNone-AreAtMost : (j : ℕ) (high more : ℤ) (rows : List Span) → high ≤ℤ pos 0 → (high +ℤ more) ≤ℤ pos 0 → AreAtMost j high rows → PagesGiveNone j more rows
+PagesGiveNone-AreAtMost j high more [] low after h = tt
+PagesGiveNone-AreAtMost j high more (s ∷ ss) low after h =
+    (λ own. (omega (arith, ints, low, h.0 own), omega (arith, ints, after, h.0 own)), PagesGiveNone-AreAtMost j high more ss low after h.1)
+
+-- spans in a lap from a time on, and one of its pages
+pub record IsPageIn (time page : ℕ) : Type 0 where
+  pub low : time / 128 ≤ page
+  pub high : page < time / 128 + 256
+
+-- a page leaves the spans after it
+raised_at-later : (time start page : ℕ) (more : ℤ) (rows : List Span) → IsPageIn time page → FollowOn start rows → AllByRecursion (IsInLap time) rows → (page + 1) * 128 ≤ start → raised_at (page % 256) more rows ≡ rows
+raised_at-later time start page more [] is follow all after = refl
+raised_at-later time start page more (s ∷ ss) is follow all after =
+    let late : (page + 1) * 128 ≤ s.end = omega (arith, follow.0, follow.1, after) in
+    rw (ne_eqb (mark_index s.end) (page % 256) (after-page time s.end page late all.0.near is.low)) (ap (λ xs. s ∷ xs) (raised_at-later time s.end page more ss is follow.4 all.1 late))
+
+-- spans of which the first ends in a page or later: those of the page follow as a whole
+record FollowWhole (page : ℕ) (more : ℤ) (rows : List Span) : Type 0 where
+  carry : carry more (take (ends_before ((page + 1) * 128) rows) rows) ≡ more
+  spans : walked more (ends_before ((page + 1) * 128) rows) rows ≡ raised_at (page % 256) more rows
+
+whole-first : (time start page : ℕ) (more : ℤ) (s : Span) (ss : List Span) → IsPageIn time page → FollowOn start (s ∷ ss) → AllByRecursion (IsInLap time) (s ∷ ss) → page * 128 ≤ s.end → PagesGiveNone (page % 256) more (s ∷ ss) → FollowWhole page more ss → FollowWhole page more (s ∷ ss)
+whole-first time start page more s ss is follow all reached none rest =
+    let y = (page + 1) * 128 in
+    elim (cases_lt s.end y) [
+      | inl here ↦
+          let own : mark_index s.end ≡ page % 256 = in-page s.end page reached here in
+          let count : ends_before y (s ∷ ss) ≡ suc (ends_before y ss) = ends_before-ended y s ss here in
+          let gives = none.0 own in
+          let passes : repaid s.spare (s.spare +ℤ more) ≡ more = omega (arith, ints, clamps, gives.0, gives.1) in
+          let on : repaid s.spare (s.spare +ℤ carry more (take (ends_before y ss) ss)) ≡ more = rw rest.carry passes in
+          record {
+            carry = rw count on;
+            spans = rw (count, eq-eqb (mark_index s.end) (page % 256) own) (ap (λ c. raised c s ∷ walked more (ends_before y ss) ss) rest.carry ∙ ap (λ xs. raised more s ∷ xs) rest.spans);
+          }
+      | inr late ↦
+          let count : ends_before y (s ∷ ss) ≡ 0 = ends_before-later y s ss late ∙ ends_before-start s.end y ss follow.4 late in
+          let same = raised_at-later time s.end page more ss is follow.4 all.1 late in
+          record {
+            carry = rw count refl;
+            spans = rw (count, ne_eqb (mark_index s.end) (page % 256) (after-page time s.end page late all.0.near is.low)) (ap (λ xs. s ∷ xs) (sym same));
+          }
+    ]
+
+whole : (time start page : ℕ) (more : ℤ) (rows : List Span) → IsPageIn time page → FollowOn start rows → AllByRecursion (IsInLap time) rows → page * 128 ≤ start → PagesGiveNone (page % 256) more rows → FollowWhole page more rows
+whole time start page more [] is follow all late none = record { carry = refl; spans = refl }
+whole time start page more (s ∷ ss) is follow all late none =
+    let reached : page * 128 ≤ s.end = omega (arith, follow.0, follow.1, late) in
+    whole-first time start page more s ss is follow all reached none (whole time s.end page more ss is follow.4 all.1 reached none.1)
+
+-- a page whose spans have nothing to give is passed at once: the spans before it follow what all of
+-- them do
+pub record PassesPage (page : ℕ) (more : ℤ) (rows : List Span) : Type 0 where
+  pub carry :
+      carry more (take (ends_before (page * 128) rows) (raised_at (page % 256) more rows))
+      ≡ carry more (take (ends_before ((page + 1) * 128) rows) rows)
+  pub spans :
+      walked more (ends_before (page * 128) rows) (raised_at (page % 256) more rows)
+      ≡ walked more (ends_before ((page + 1) * 128) rows) rows
+
+pub PassesPage-PagesGiveNone : (time start page : ℕ) (more : ℤ) (rows : List Span) → IsPageIn time page → FollowOn start rows → AllByRecursion (IsInLap time) rows → PagesGiveNone (page % 256) more rows → PassesPage page more rows
+PassesPage-PagesGiveNone time start page more [] is follow all none = record { carry = refl; spans = refl }
+PassesPage-PagesGiveNone time start page more (s ∷ ss) is follow all none =
+    elim (cases_lt s.end (page * 128)) [
+      | inl early ↦
+          let rest = PassesPage-PagesGiveNone time s.end page more ss is follow.4 all.1 none.1 in
+          let low : ends_before (page * 128) (s ∷ ss) ≡ suc (ends_before (page * 128) ss) = ends_before-ended (page * 128) s ss early in
+          let high : ends_before ((page + 1) * 128) (s ∷ ss) ≡ suc (ends_before ((page + 1) * 128) ss) = ends_before-ended ((page + 1) * 128) s ss (omega (arith, early)) in
+          let other = ne_eqb (mark_index s.end) (page % 256) (before-page time s.end page all.0.late early is.high) in
+          record {
+            carry = rw (low, high, other) (ap (λ c. repaid s.spare (s.spare +ℤ c)) rest.carry);
+            spans = rw (low, high, other) (ap (λ c. raised c s ∷ walked more (ends_before (page * 128) ss) (raised_at (page % 256) more ss)) rest.carry ∙ ap (λ xs. raised (carry more (take (ends_before ((page + 1) * 128) ss) ss)) s ∷ xs) rest.spans);
+          }
+      | inr reached ↦
+          let low : ends_before (page * 128) (s ∷ ss) ≡ 0 = ends_before-later (page * 128) s ss reached ∙ ends_before-start s.end (page * 128) ss follow.4 reached in
+          let all_of = whole-first time start page more s ss is follow all reached none (whole time s.end page more ss is follow.4 all.1 reached none.1) in
+          record { carry = rw low (sym all_of.carry); spans = rw low (sym all_of.spans) }
+    ]
+
+-- the spans of a mark can be raised where what they become has capacities within bounds
+MayRaise-raised_at : (j : ℕ) (more : ℤ) (rows : List Span) → AllByRecursion (λ (s : Span). IsWithin s.spare) (raised_at j more rows) → MayRaise j more rows
+MayRaise-raised_at j more [] all = tt
+MayRaise-raised_at j more (s ∷ ss) all = (
+  λ own.
+      let near : IsWithin (s.spare +ℤ more) = rw (eq-eqb (mark_index s.end) j own) at all.0 in
+      omega (arith, ints, near.low, near.high),
+  MayRaise-raised_at j more ss all.1,
+)
+
+pub MayRaise-walked : (time start page : ℕ) (more : ℤ) (rows : List Span) → IsPageIn time page → FollowOn start rows → AllByRecursion (IsInLap time) rows → AllByRecursion (λ (s : Span). IsWithin s.spare) (walked more (ends_before (page * 128) rows) (raised_at (page % 256) more rows)) → MayRaise (page % 256) more rows
+MayRaise-walked time start page more [] is follow all near = tt
+MayRaise-walked time start page more (s ∷ ss) is follow all near =
+    elim (cases_lt s.end (page * 128)) [
+      | inl early ↦
+          let low : ends_before (page * 128) (s ∷ ss) ≡ suc (ends_before (page * 128) ss) = ends_before-ended (page * 128) s ss early in
+          let other = before-page time s.end page all.0.late early is.high in
+          let rest = (rw low at near).1 in
+          (λ own. absurd (other own), MayRaise-walked time s.end page more ss is follow.4 all.1 rest)
+      | inr reached ↦
+          let low : ends_before (page * 128) (s ∷ ss) ≡ 0 = ends_before-later (page * 128) s ss reached ∙ ends_before-start s.end (page * 128) ss follow.4 reached in
+          MayRaise-raised_at (page % 256) more (s ∷ ss) (rw low at near)
+    ]
+
+-- the capacities of a page are below a bound where those of its stretch of spans are
+abbrev pub AreUpTo : ℤ → List Span → Type 0
+AreUpTo high rows = AllByRecursion (λ (s : Span). s.spare ≤ℤ high) rows
+
+AreAtMost-later : (time start page : ℕ) (high : ℤ) (rows : List Span) → IsPageIn time page → FollowOn start rows → AllByRecursion (IsInLap time) rows → (page + 1) * 128 ≤ start → AreAtMost (page % 256) high rows
+AreAtMost-later time start page high [] is follow all after = tt
+AreAtMost-later time start page high (s ∷ ss) is follow all after =
+    let late : (page + 1) * 128 ≤ s.end = omega (arith, follow.0, follow.1, after) in
+    (λ own. absurd (after-page time s.end page late all.0.near is.low own), AreAtMost-later time s.end page high ss is follow.4 all.1 late)
+
+below-from : (time start page n : ℕ) (high : ℤ) (rows : List Span) → IsPageIn time page → FollowOn start rows → AllByRecursion (IsInLap time) rows → ends_before ((page + 1) * 128) rows ≡ n → AreUpTo high (take n rows) → AreAtMost (page % 256) high rows
+below-from time start page n high [] is follow all count up = tt
+below-from time start page n high (s ∷ ss) is follow all count up =
+    let y = (page + 1) * 128 in
+    elim (cases_lt s.end y) [
+      | inl here ↦
+          let more : n ≡ suc (ends_before y ss) = sym count ∙ ends_before-ended y s ss here in
+          let ups : AreUpTo high (take (suc (ends_before y ss)) (s ∷ ss)) = rw more at up in
+          (λ own. ups.0, below-from time s.end page (ends_before y ss) high ss is follow.4 all.1 refl ups.1)
+      | inr late ↦
+          (λ own. absurd (after-page time s.end page late all.0.near is.low own), AreAtMost-later time s.end page high ss is follow.4 all.1 late)
+    ]
+
+pub AreAtMost-AreUpTo : (time start page n : ℕ) (high : ℤ) (rows : List Span) → IsPageIn time page → FollowOn start rows → AllByRecursion (IsInLap time) rows → ends_before ((page + 1) * 128) rows ≡ ends_before (page * 128) rows + n → AreUpTo high (take n (drop (ends_before (page * 128) rows) rows)) → AreAtMost (page % 256) high rows
+AreAtMost-AreUpTo time start page n high [] is follow all count up = tt
+AreAtMost-AreUpTo time start page n high (s ∷ ss) is follow all count up =
+    elim (cases_lt s.end (page * 128)) [
+      | inl early ↦
+          let low : ends_before (page * 128) (s ∷ ss) ≡ suc (ends_before (page * 128) ss) = ends_before-ended (page * 128) s ss early in
+          let high_of : ends_before ((page + 1) * 128) (s ∷ ss) ≡ suc (ends_before ((page + 1) * 128) ss) = ends_before-ended ((page + 1) * 128) s ss (omega (arith, early)) in
+          let rest : AreUpTo high (take n (drop (ends_before (page * 128) ss) ss)) = rw low at up in
+          (λ own. absurd (before-page time s.end page all.0.late early is.high own), AreAtMost-AreUpTo time s.end page n high ss is follow.4 all.1 (omega (arith, count, low, high_of)) rest)
+      | inr reached ↦
+          let low : ends_before (page * 128) (s ∷ ss) ≡ 0 = ends_before-later (page * 128) s ss reached ∙ ends_before-start s.end (page * 128) ss follow.4 reached in
+          below-from time start page n high (s ∷ ss) is follow all (omega (arith, count, low)) (rw low at up)
+    ]
+
+-- rows of a lap, and one of its pages
+pub record AreAtPage (page : ℕ) (rows : List Span) : Type 0 where
+  pub is : IsPageIn (first_start rows) page
+  pub follow : FollowOn (first_start rows) rows
+  pub lap : AllByRecursion (IsInLap (first_start rows)) rows
+
+pub AreAtPage-walk : (walk : Walk) (page : ℕ) (rows : List Span) (marks : List Mark) → AreInPages (after_walk walk rows) marks → IsPageOf (after_walk walk rows) page → AreAtPage page rows
+AreAtPage-walk walk page rows marks pages is =
+    let start = first_start rows in
+    let same : first_start (after_walk walk rows) ≡ start = first_start-walked walk.more walk.index rows in
+    let follow = follows-walk walk rows pages.rows in
+    let some : 1 ≤ length rows = omega (arith, pages.rows.some, length-walked walk.more walk.index rows) in
+    let end : last_end 0 (after_walk walk rows) ≡ last_end start rows = last_end-walked 0 walk.more walk.index rows ∙ last_end-some 0 start rows some in
+    record {
+      is = record { low = omega (arith, is.first, same); high = omega (arith, is.last, same) };
+      follow = follow;
+      lap = AreInLap start start rows follow (omega arith) (omega (arith, pages.lap, same, end));
+    }
+
+-- walks to the same end leave as many spans before a time
+pub ends_before-walks : (y : ℕ) (walk from : Walk) (new rows : List Span) → after_walk walk new ≡ after_walk from rows → ends_before y new ≡ ends_before y rows
+ends_before-walks y walk from new rows same =
+    sym (ends_before-walked y walk.more walk.index new) ∙ ap (ends_before y) same ∙ ends_before-walked y from.more from.index rows
+
+-- a bound on some spans is one on those with one more before them, where that is no higher
+up-more : (high more : ℤ) (rows : List Span) → high ≤ℤ more → AreUpTo high rows → AreUpTo more rows
+up-more high more [] l h = tt
+up-more high more (s ∷ ss) l h = (omega (arith, ints, l, h.0), up-more high more ss l h.1)
+
+pub AreUpTo-next : (high more : ℤ) (k n : ℕ) (row : Span) (old new : List Span) → slice_get new k ≡ Some row → drop (suc k) new ≡ drop (suc k) old → row.spare ≤ℤ more → high ≤ℤ more → AreUpTo high (take n (drop (suc k) old)) → AreUpTo more (take (suc n) (drop k new))
+AreUpTo-next high more k n row old new at same here l up =
+    let one : k + 1 ≡ suc k = omega arith in
+    let first : drop k new ≡ row ∷ drop (suc k) old =
+    (rw one at (drop_more new k no_row (slice_get_within new k row at)))
+    ∙ ap (λ s. s ∷ drop (suc k) new) (get_or_from_slice_get new k row no_row at)
+    ∙ ap (λ xs. row ∷ xs) same in
+    rw first (here, up-more high more (take n (drop (suc k) old)) l up)
+
+-- how many spans of a page there are, as its mark tells
+pub count_at-page : (page : ℕ) (walk : Walk) (rows : List Span) (marks : List Mark) (mark : Mark) → AreInPages (after_walk walk rows) marks → AreAtPage page rows → slice_get marks (page % 256) ≡ Some mark → ends_before ((page + 1) * 128) rows ≡ ends_before (page * 128) rows + mark.count
+count_at-page page walk rows marks mark pages at told =
+    omega (arith, ends_before-page (first_start rows) page rows at.lap at.is.low at.is.high, pages.counts (page % 256) mark told, count_at-walked (page % 256) walk.more walk.index rows)
+
+-- all capacities are within bounds
+AreWithin : (start : ℕ) (rows : List Span) → FollowOn start rows → rows ≡ filled rows → length rows ≤ 2 ^ 20 → AllByRecursion (λ (s : Span). IsWithin s.spare) rows
+AreWithin start [] follow e few = tt
+AreWithin start (s ∷ ss) follow e few =
+    (IsWithin-spare start (s ∷ ss) 0 follow e few (omega arith), AreWithin s.end ss follow.4 (rest-filled s ss e) (omega (arith, few)))
+
+-- where a walk comes to a page that gives nothing, it passes the page
+pub record PassesTo (walk : Walk) (page count : ℕ) (rows : List Span) : Type 0 where
+  pub may : MayRaise (page % 256) walk.more rows
+  pub spans :
+      after_walk (record { index = walk.index - count; more = walk.more }) (raised_at (page % 256) walk.more rows)
+      ≡ after_walk walk rows
+  pub place : walk.index - count ≡ ends_before (page * 128) (raised_at (page % 256) walk.more rows)
+
+pub PassesTo-PagesGiveNone : (walk : Walk) (page : ℕ) (mark : Mark) (rows : List Span) (marks : List Mark) → AreInPages (after_walk walk rows) marks → IsPageOf (after_walk walk rows) page → slice_get marks (page % 256) ≡ Some mark → walk.index ≡ ends_before ((page + 1) * 128) rows → PagesGiveNone (page % 256) walk.more rows → PassesTo walk page mark.count rows
+PassesTo-PagesGiveNone walk page mark rows marks pages is told place none =
+    let at = AreAtPage-walk walk page rows marks pages is in
+    let count = count_at-page page walk rows marks mark pages at told in
+    let low : ends_before (page * 128) rows ≡ walk.index - mark.count = omega (arith, place, count) in
+    let start = first_start rows in
+    let new = raised_at (page % 256) walk.more rows in
+    let passes = PassesPage-PagesGiveNone start start page walk.more rows at.is at.follow at.lap none in
+    let same : walked walk.more (ends_before (page * 128) rows) new ≡ after_walk walk rows = passes.spans ∙ ap (λ n. walked walk.more n rows) (sym place) in
+    let spans : walked walk.more (walk.index - mark.count) new ≡ after_walk walk rows = rw low at same in
+    let within = AreWithin (first_start (after_walk walk rows)) (after_walk walk rows) pages.rows.consecutive pages.rows.filled pages.rows.few in
+    record {
+      may = MayRaise-walked start start page walk.more rows at.is at.follow at.lap (subst (λ xs. AllByRecursion (λ (s : Span). IsWithin s.spare) xs) (sym same) within);
+      spans = spans;
+      place = sym low ∙ sym (ends_before-walks (page * 128) (record { index = walk.index - mark.count; more = walk.more }) walk new rows spans);
+    }
+
+-- a walk has ended where nothing is repaid, or no span is left
+pub walked-done : (walk : Walk) (rows : List Span) → ((walk.more ≡ pos 0 → ⊥) → walk.index ≡ 0) → after_walk walk rows ≡ rows
+walked-done walk rows done =
+    let left : (walk.more ≡ pos 0 → ⊥) → after_walk walk rows ≡ rows = (λ other. ap (λ k. walked walk.more k rows) (done other)) in
+    by_lt_z walk.more (pos 0) (λ l. left (λ e. omega (arith, ints, l, e))) (λ l.
+    by_lt_z (pos 0) walk.more (λ m. left (λ e. omega (arith, ints, m, e))) (λ m.
+    let zero : walk.more ≡ pos 0 = omega (arith, ints, l, m) in
+    ap (λ z. walked z walk.index rows) zero ∙ walked-end rows walk.index))
+
+-- before the first page no span is left
+pub none-before : (y : ℕ) (walk : Walk) (rows : List Span) → AreRows (after_walk walk rows) → y ≤ first_start (after_walk walk rows) → ends_before y rows ≡ 0
+none-before y walk rows are early =
+    ends_before-start (first_start rows) y rows (follows-walk walk rows are) (omega (arith, early, first_start-walked walk.more walk.index rows))
+
+-- what a walk asks of rows where one has another work
+pub record CanWalk (start end : ℕ) (target : List Span) (marks : List Mark) : Type 0 where
+  pub rows : AreRows target
+  pub starts : first_start target ≡ start
+  pub ends : last_end 0 target ≡ end
+  pub pages : end < (start / 128 + 256) * 128 → AreInPages target marks
+
+pub CanWalk-AreTimed : {start end : ℕ} {rows : List Span} {marks : List Mark} (place work : ℕ) (row : Span) → AreTimed start end rows marks → slice_get rows place ≡ Some row → work ≤ 2 ^ 40 → CanWalk start end (filled (with_work_at place work rows)) marks
+CanWalk-AreTimed {start = start} {end = end} {rows = rows} {marks = marks} place work row h at few =
+    let new = with_work_at place work rows in
+    let are = AreRows-AreBare new (AreBare-with_work_at place work rows few h.rows) in
+    let starts : first_start (filled new) ≡ start = first_start-filled new ∙ first_start-with_work_at place work rows ∙ sym h.starts in
+    let ends : last_end 0 (filled new) ≡ end = last_end-filled 0 new ∙ last_end-with_work_at place work 0 rows ∙ sym h.ends in
+    let moves = Moves-filled (Moves-with_work_at rows place work row at) in
+    record {
+      rows = are;
+      starts = starts;
+      ends = ends;
+      pages = λ lap.
+          record {
+            rows = are;
+            lap = omega (arith, lap, starts, ends);
+            length = h.marked.length;
+            counts = λ j mark told. omega (arith, (h.marked.each j mark told).count, moves.sums (λ end work. cond (eqb (mark_index end) j) 1 0));
+          };
+    }

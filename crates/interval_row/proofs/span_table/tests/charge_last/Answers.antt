@@ -1,0 +1,12 @@
+use Rattle.std.proofs.Common.{◌≤◌, ◌+◌, ◌-◌, ◌^◌, arith}
+use Rattle.slot_core.specs.declared.jobs.Span.{Span}
+use Rattle.spare_capacity.specs.Recurrence.{first_start}
+use Rattle.interval_row.specs.Tables.{numbered, spans_of_pairs}
+use Rattle.interval_row.proofs.Places.{span_ending-at}
+use Rattle.interval_row.proofs.span_table.tests.charge_last.Goals as goal
+
+pub charge-requires : goal.charge-requires
+charge-requires g c =
+    let spans = c.args.table.now.spans in
+    let table = c.count.ensures.table in
+    span_ending-at (first_start spans) (spans_of_pairs (numbered 0 spans)) (c.count.result - 1) c.read-row.result (λ (s : Span). s.work + c.args.slots ≤ 2 ^ 40) table.consecutive table.proper (c.read-row.ensures.span (c.count.result - 1) c.spot-last.ensures) (omega arith)

@@ -1,0 +1,177 @@
+//! What spans and numbers lie in.
+
+ghost use Rattle.std.specs.Prelude.{◌≡◌, ℕ, ◌+◌, ◌≤◌, ◌<◌, ◌^◌, Bool, List, [], ◌∷◌, ◌++◌, drop, insert, length, Some, IfOk, slice_get, slice_set};
+ghost use Rattle.slot_core.specs.declared.jobs.Span.{Span};
+ghost use Rattle.node_chain.specs.Laps.{blank_laps, Laps};
+ghost use Rattle.node_chain.specs.declared.marks.TheConstants.{LAP};
+
+use node_chain::{Chain, Lift, Mark};
+use slot_core::{Memory, Span, Steps};
+use std::alloc::Global;
+use std::sync::ledger::Ledger;
+
+/// Spans in order, each found by how many stand before it, with room for at most 2^20, and laps of
+/// marks and lifts, whose numbers mean nothing here. Only `with_room` takes memory, and no call but
+/// it refuses.
+pub trait Shelf: Drop {
+    /// The spans in order.
+    ghost spans: { Self → List Span };
+
+    /// How many it has room for.
+    ghost room: { Self → ℕ };
+
+    /// The marks and lifts, which no call on spans changes.
+    ghost laps: { Self → Laps };
+
+    /// Whether a table over it promises a bound on the steps of each call.
+    ghost counted: { Bool };
+
+    /// No spans, room for so many, and laps without numbers.
+    fn with_room(alloc: Global, places: u32) -> Result<Self, Memory>
+        requires some { 1 ≤ places }
+        requires few { places ≤ 2 ^ 20 }
+        ensures empty { IfOk result (λ made. spans made ≡ []) }
+        ensures room { IfOk result (λ made. room made ≡ places) }
+        ensures laps { IfOk result (λ made. laps made ≡ blank_laps) };
+
+    /// How many spans there are.
+    fn len(&self) -> u32
+        ensures { result ≡ length (spans self.now) };
+
+    /// The span with so many before it. One step.
+    fn at<L: Ledger>(&self, index: u32, steps: &mut Steps<L>) -> Span
+        requires { index < length (spans self.now) }
+        ensures span { slice_get (spans self.now) index ≡ Some result }
+        ensures one_step { steps.new ≡ steps.old + 1 };
+
+    /// Puts another span there. One step.
+    fn set<L: Ledger>(&mut self, index: u32, span: Span, steps: &mut Steps<L>)
+        requires { index < length (spans self.old) }
+        ensures spans { spans self.new ≡ slice_set (spans self.old) index span }
+        ensures room { room self.new ≡ room self.old }
+        ensures laps { laps self.new ≡ laps self.old }
+        ensures one_step { steps.new ≡ steps.old + 1 };
+
+    /// Gives the span there another capacity. One step.
+    fn set_spare<L: Ledger>(&mut self, index: u32, spare: i64, steps: &mut Steps<L>)
+        requires { index < length (spans self.old) }
+        ensures spans { (s : Span) → slice_get (spans self.old) index ≡ Some s
+            → spans self.new ≡ slice_set (spans self.old) index (record s { spare = spare }) }
+        ensures room { room self.new ≡ room self.old }
+        ensures laps { laps self.new ≡ laps self.old }
+        ensures one_step { steps.new ≡ steps.old + 1 };
+
+    /// Puts a span in before the one there. Three steps.
+    fn insert<L: Ledger>(&mut self, index: u32, span: Span, steps: &mut Steps<L>)
+        requires within { index < length (spans self.old) }
+        requires free { length (spans self.old) < room self.old }
+        ensures spans { spans self.new ≡ insert (spans self.old) index span }
+        ensures room { room self.new ≡ room self.old }
+        ensures laps { laps self.new ≡ laps self.old }
+        ensures three_steps { steps.new ≡ steps.old + 3 };
+
+    /// Appends a span. Two steps.
+    fn push<L: Ledger>(&mut self, span: Span, steps: &mut Steps<L>)
+        requires { length (spans self.old) < room self.old }
+        ensures spans { spans self.new ≡ spans self.old ++ span ∷ [] }
+        ensures room { room self.new ≡ room self.old }
+        ensures laps { laps self.new ≡ laps self.old }
+        ensures two_steps { steps.new ≡ steps.old + 2 };
+
+    /// Takes the first span out. Two steps.
+    fn pop_front<L: Ledger>(&mut self, steps: &mut Steps<L>) -> Span
+        requires { 0 < length (spans self.old) }
+        ensures first { slice_get (spans self.old) 0 ≡ Some result }
+        ensures rest { spans self.new ≡ drop 1 (spans self.old) }
+        ensures room { room self.new ≡ room self.old }
+        ensures laps { laps self.new ≡ laps self.old }
+        ensures two_steps { steps.new ≡ steps.old + 2 };
+
+    /// The mark at an index.
+    fn mark(&self, index: u32) -> Mark
+        requires { index < LAP }
+        ensures { slice_get (laps self.now).marks index ≡ Some result };
+
+    /// Puts another mark at an index.
+    fn set_mark(&mut self, index: u32, mark: Mark)
+        requires { index < LAP }
+        ensures spans { spans self.new ≡ spans self.old }
+        ensures room { room self.new ≡ room self.old }
+        ensures laps { laps self.new
+            ≡ record (laps self.old) { marks = slice_set (laps self.old).marks index mark } };
+
+    /// The lift at an index.
+    fn lift(&self, index: u32) -> Lift
+        requires { index < LAP }
+        ensures { slice_get (laps self.now).lifts index ≡ Some result };
+
+    /// Puts another lift at an index.
+    fn set_lift(&mut self, index: u32, lift: Lift)
+        requires { index < LAP }
+        ensures spans { spans self.new ≡ spans self.old }
+        ensures room { room self.new ≡ room self.old }
+        ensures laps { laps self.new
+            ≡ record (laps self.old) { lifts = slice_set (laps self.old).lifts index lift } };
+}
+
+/// The chain, where each step is a node. A table over it bounds its steps.
+impl Shelf for Chain {
+    ghost use Rattle.std.specs.Prelude.{true};
+    ghost use Rattle.interval_row.specs.Stores.{spans_of};
+
+    ghost spans = { λ c. spans_of c.pairs };
+
+    ghost room = { λ c. c.capacity };
+
+    ghost laps = { λ c. c.marks };
+
+    ghost counted = { true };
+
+    fn with_room(alloc: Global, places: u32) -> Result<Self, Memory> {
+        Chain::with_capacity(alloc, places)
+    }
+
+    fn len(&self) -> u32 {
+        self.len()
+    }
+
+    fn at<L: Ledger>(&self, index: u32, steps: &mut Steps<L>) -> Span {
+        self.get(self.at(index), steps)
+    }
+
+    fn set<L: Ledger>(&mut self, index: u32, span: Span, steps: &mut Steps<L>) {
+        self.set(self.at(index), span, steps);
+    }
+
+    fn set_spare<L: Ledger>(&mut self, index: u32, spare: i64, steps: &mut Steps<L>) {
+        self.set_spare(self.at(index), spare, steps);
+    }
+
+    fn insert<L: Ledger>(&mut self, index: u32, span: Span, steps: &mut Steps<L>) {
+        let _id = self.insert_at(index, span, steps);
+    }
+
+    fn push<L: Ledger>(&mut self, span: Span, steps: &mut Steps<L>) {
+        let _id = self.push_back(span, steps);
+    }
+
+    fn pop_front<L: Ledger>(&mut self, steps: &mut Steps<L>) -> Span {
+        self.pop_front(steps)
+    }
+
+    fn mark(&self, index: u32) -> Mark {
+        self.mark(index)
+    }
+
+    fn set_mark(&mut self, index: u32, mark: Mark) {
+        self.set_mark(index, mark);
+    }
+
+    fn lift(&self, index: u32) -> Lift {
+        self.lift(index)
+    }
+
+    fn set_lift(&mut self, index: u32, lift: Lift) {
+        self.set_lift(index, lift);
+    }
+}
