@@ -1,6 +1,7 @@
 /* A control loop over the library: a slot a millisecond, a diagnosis that is worth running only
  * within its deadline, and an alarm. What a job does is left out: `run` would call it.
- * usage: control TABLE SLOTS   (TABLE has a sporadic task; `slotshift table` writes one) */
+ * usage: control TABLE SLOTS   (TABLE has a sporadic task; `slotshift table` writes one)
+ * After `make lib`: cc -O2 control.c heap.c out/libslotexec.a -o control -pthread */
 #define _POSIX_C_SOURCE 200809L
 #include "slotexec.h"
 
@@ -21,10 +22,19 @@ static void want(const char *what, uint32_t status)
     exit(1);
 }
 
-/* A slot of this job; SS_NONE is idle. An offline job is task `task` of graph `group`. */
-static void run(const ss_key *job)
+/* A slot of this job; SS_NONE is idle. An offline job is task `task` of graph `group`. True where
+ * the job has ended and has slots left. */
+static bool run(const ss_key *job)
 {
     ran[job->kind]++;
+    return false;
+}
+
+/* The slots that an early end leaves are free from the next slot on. */
+static void ended(const ss_key *job)
+{
+    ss_told told;
+    want("done", ss_done(&slots, ++row, job, &told));
 }
 
 /* Asks for 9 slots within 20, and does without where the set has no room for them. */
@@ -52,13 +62,20 @@ int main(int count, char **words)
     struct timespec next;
     ss_told fault;
     ss_key job;
-    want("open", ss_open(&slots, table, bytes, &fault));
+    uint32_t status;
+    if (file == NULL) {
+        fprintf(stderr, "usage: control TABLE SLOTS, where the file TABLE can be read\n");
+        return 1;
+    }
+    status = ss_open(&slots, table, bytes, &fault);
+    if (status == SS_BAD_TABLE) fprintf(stderr, "control: fault %u\n", (unsigned)fault.answer);
+    want("open", status);
     clock_gettime(CLOCK_MONOTONIC, &next);
     for (slot = 0; slot < end; slot++) {
         if (slot % 50 == 7) diagnose();
         if (slot % 97 == 3) alarm_came();
         want("slot", ss_slot(&slots, &job));
-        run(&job);
+        if (run(&job)) ended(&job);
         next.tv_nsec += 1000000;
         if (next.tv_nsec >= 1000000000) next.tv_sec++, next.tv_nsec -= 1000000000;
         clock_nanosleep(CLOCK_MONOTONIC, TIMER_ABSTIME, &next, NULL);

@@ -1,9 +1,14 @@
 /* The executive of slotshift as a library: it follows the plan of a binary table slot by slot, and
  * answers what arrives. What each call does is proved: crates/slot_c has it as clauses (see
- * the claims table in docs/PROOF.md). What the caller owes is below.
+ * the claims table in docs/PROOF.md). When memory is taken and given back is tested. What the caller
+ * owes is below.
  *
  * All times and lengths are in slots. A slot is as long as the caller makes it: the library has no
- * clock, and a slot passes exactly where `ss_slot` is called.
+ * clock, and a slot passes exactly where `ss_slot` is called. It starts and stops no job: the
+ * caller lets the job that `ss_slot` tells run until the slot ends.
+ *
+ * After 2^32 slots (49.7 days of slots of 1 ms) no more slot passes. Close and open before: jobs
+ * that are under way, and the last arrivals of sporadic tasks, are forgotten then.
  *
  * Every call but `ss_open` and `ss_close` takes no memory and gives none back. `ss_open` takes all
  * that the executive will ever need, by the three functions of heap.c or arena.c (arena.h tells how
@@ -43,7 +48,7 @@
 extern "C" {
 #endif
 
-/* How a call ended. */
+/* How a call ended: 0 to 7, in this order. */
 enum {
     SS_OK,         /* the call did what it says */
     SS_MEMORY,     /* memory ran out (ss_open alone) */
@@ -88,7 +93,8 @@ typedef struct {
  * SS_FIRM and SS_SOFT: number is the row of the arrival.
  * SS_NONE: no job.
  * A graph and a task are at most 65,535, an index 255, a row 2^32 - 1: with more, with another kind
- * or with a number that is of no use, it is no key. */
+ * or with a number that is of no use, it is no key. Two keys are compared by their fields, and not
+ * by their bytes, between which others may lie. */
 typedef struct {
     uint32_t kind, group, task;
     uint64_t number;
@@ -102,8 +108,8 @@ typedef struct {
 } ss_span;
 
 /* Opens the plan of a binary table, as `slotshift table` writes it, before its first slot.
- * SS_STILL_OPEN, SS_MEMORY, or SS_BAD_TABLE. With the last one `fault` tells the fault's number and
- * up to three of its numbers; otherwise it stays.
+ * SS_STILL_OPEN, SS_MEMORY, or SS_BAD_TABLE. With the last one `fault->answer` is the number of the
+ * fault, and the others are up to three of its numbers; otherwise `fault` stays.
  *   2 short: how many bytes there are      7 wrong job count: stored, computed
  *   3 bad magic                            8 wrong job: its place
  *   4 bad version: the version             9 wrong span count: stored, computed
@@ -148,7 +154,8 @@ uint32_t ss_done(ss_slots *slots, uint32_t row, const ss_key *key, ss_told *told
 uint32_t ss_withdraw(ss_slots *slots, uint32_t row, uint32_t firm, ss_told *told);
 
 /* One slot passes, and `ran` tells the job that has it: SS_NONE where the slot is idle. Call it at
- * the start of a slot, after the arrivals of that slot. */
+ * the start of a slot, after the arrivals of that slot. What arrives after the call is answered as
+ * of the end of that slot: so an offer's `within` counts from there. */
 uint32_t ss_slot(ss_slots *slots, ss_key *ran);
 
 /* How many spans there are up to the end of the third cycle, the one at hand being the first: at

@@ -272,7 +272,7 @@ pub const SOFT_4: &str = "0 start | 0-7:5 7-8:0 8-15:5 15-16:0 16-23:5 23-24:0
 ";
 
 /// Arrivals of three kinds: an early end, one of a job that is not running, and a firm offer.
-pub const KINDS: &str = "1,done,g.a#0/1,done,g.a#0/1,firm,6,6/";
+pub const KINDS: &str = "1,done,g.a#0\n1,done,g.a#0\n1,firm,6,6\n";
 
 /// Two slots with them.
 pub const KINDS_2: &str = "0 start | 0-7:5 7-8:0 8-15:5 15-16:0 16-23:5 23-24:0

@@ -6,14 +6,14 @@ use std::fmt;
 
 /// Why a table is not written in whole.
 #[derive(Clone, Copy, PartialEq, Eq, Debug)]
-pub enum TableFault {
+pub enum CsvFault {
     /// Memory ran out.
     Memory,
     /// The sink failed.
     Failed,
 }
 
-impl fmt::Display for TableFault {
+impl fmt::Display for CsvFault {
     ghost use Rattle.std.specs.Prelude.{Some};
     ghost use Rattle.csv_table.specs.FaultTexts.{fault_text};
 
@@ -21,32 +21,32 @@ impl fmt::Display for TableFault {
 
     fn fmt<W: fmt::Write>(&self, f: &mut fmt::Formatter<W>) -> fmt::Result {
         f.write_str(match self {
-            TableFault::Memory => "out of memory",
-            TableFault::Failed => "failed",
+            CsvFault::Memory => "out of memory",
+            CsvFault::Failed => "failed",
         })
     }
 }
 
-impl Error for TableFault {}
+impl Error for CsvFault {}
 
-impl From<Memory> for TableFault {
+impl From<Memory> for CsvFault {
     ghost use Rattle.std.specs.Prelude.{◌≡◌};
-    ghost use Rattle.csv_table.specs.declared.faults.TableFault.TheVariants.{Memory as MemoryFault};
+    ghost use Rattle.csv_table.specs.declared.faults.CsvFault.TheVariants.{Memory as MemoryFault};
 
     ghost from_gives = { λ _ fault. fault ≡ MemoryFault };
 
-    fn from(_: Memory) -> TableFault {
-        TableFault::Memory
+    fn from(_: Memory) -> CsvFault {
+        CsvFault::Memory
     }
 }
 
-impl From<Failed> for TableFault {
+impl From<Failed> for CsvFault {
     ghost use Rattle.std.specs.Prelude.{◌≡◌};
-    ghost use Rattle.csv_table.specs.declared.faults.TableFault.TheVariants.{Failed as FailedFault};
+    ghost use Rattle.csv_table.specs.declared.faults.CsvFault.TheVariants.{Failed as FailedFault};
 
     ghost from_gives = { λ _ fault. fault ≡ FailedFault };
 
-    fn from(_: Failed) -> TableFault {
-        TableFault::Failed
+    fn from(_: Failed) -> CsvFault {
+        CsvFault::Failed
     }
 }

@@ -6,5 +6,5 @@ mod faults;
 mod rows;
 
 pub use cells::Cell;
-pub use faults::TableFault;
+pub use faults::CsvFault;
 pub use rows::Rows;

@@ -9,7 +9,7 @@ ghost use Rattle.csv_table.specs.Tables.{rfc_4180, row_line};
 ghost use Rattle.csv_table.specs.Writers.{IsAtRow};
 
 use crate::cells::Cell;
-use crate::faults::TableFault;
+use crate::faults::CsvFault;
 use csv::{Terminator, Writer, WriterBuilder};
 use itoa::Buffer;
 use slot_core::Memory;
@@ -67,14 +67,14 @@ impl Rows {
     }
 
     /// Writes the text of the rows by one put. Want of memory comes before it.
-    pub fn put<K: Sink>(self, out: &mut K) -> Result<(), TableFault>
+    pub fn put<K: Sink>(self, out: &mut K) -> Result<(), CsvFault>
         ensures text { (text : List ℕ) → self ≡ Some text
             → OnOk result (Appends (K.written out.old) (K.written out.new) text) }
-        ensures memory { result ≡ Err (TableFault.Memory) → out.new ≡ out.old }
+        ensures memory { result ≡ Err (CsvFault.Memory) → out.new ≡ out.old }
         ensures part { (text : List ℕ) → self ≡ Some text
             → OnErr result (AppendsPart (K.written out.old) (K.written out.new) text) }
         ensures counted { K.faults out.old ≤ K.faults out.new }
-        ensures failed { result ≡ Err (TableFault.Failed)
+        ensures failed { result ≡ Err (CsvFault.Failed)
             → Rose (K.faults out.old) (K.faults out.new) }
     {
         let text = self.into_text()?;

@@ -13,8 +13,6 @@ ghost use Rattle.demand_test.specs.Verdicts.{verdict_of, AreOfSet, MeansSchedule
 mod arrivals;
 mod ends;
 mod offline;
-#[cfg(test)]
-mod tests;
 mod windows;
 
 pub use arrivals::arrivals_by;

@@ -1,6 +1,6 @@
 -- The search span by span where no sporadic task may need anything.
-use Rattle.std.proofs.Common.{◌≡◌, ℕ, zero, suc, ◌+◌, ◌-◌, ◌<◌, ◌≤◌, List, [], ◌∷◌, take, Option, Some, None, sym, ap, subst, inl, inr, arith}
-use Rattle.std.specs.Prelude.{slice_get, IfSome}
+use Rattle.std.proofs.Common.{◌≡◌, ℕ, zero, suc, ◌+◌, ◌-◌, ◌<◌, ◌≤◌, List, [], ◌∷◌, take, Some, None, sym, ap, subst, inl, inr, arith}
+use Rattle.std.specs.Prelude.{slice_get}
 use Rattle.std.specs.Option.{option_map}
 use Rattle.std.proofs.lemmas.Bool.{cases_lt, le-ltb}
 use Rattle.slot_core.specs.declared.jobs.Span.{Span}
@@ -9,7 +9,6 @@ use Rattle.spare_capacity.specs.Recurrence.{last_end, FollowOn}
 use Rattle.interval_row.specs.Tables.{works}
 use Rattle.sporadic_reserve.specs.Reserves.{Reserved}
 use Rattle.guarantee.specs.declared.search.Level.{Level}
-use Rattle.guarantee.specs.declared.walk.SpanPlace.{SpanPlace}
 use Rattle.guarantee.specs.Offers.{evidence_at, first_short, is_short, need_until}
 use Rattle.guarantee.specs.Places.{MayPass}
 use Rattle.guarantee.specs.Stretches.{evidence_of, IsLevelFrom, LeavesAll, NeedsNone}
@@ -72,12 +71,15 @@ end-short spans reserve t r slots now need room until follow quiet time last due
     ]
 
 -- times that may be passed leave what was asked for beside what may come
-pub LeavesAll-passed : (spans : List Span) (reserve : Reserved) (t r slots left most asked until from : ℕ) (later : Option SpanPlace) → asked ≡ t + slots + left + most → ((x : ℕ) → x < until → demand reserve r x ≤ most) → IfSome later (λ l. MayPass spans asked until from l.span.start) → IfSome later (λ l. LeavesAll (need_until spans reserve r) t slots left from l.span.start)
-LeavesAll-passed spans reserve t r slots left most asked until from None is may_come may = tt
-LeavesAll-passed spans reserve t r slots left most asked until from (Some later) is may_come may =
+pub LeavesAll-passed : (spans : List Span) (reserve : Reserved) (t r slots left most asked until from to : ℕ) → asked ≡ t + slots + left + most → ((x : ℕ) → x < until → demand reserve r x ≤ most) → MayPass spans asked until from to → LeavesAll (need_until spans reserve r) t slots left from to
+LeavesAll-passed spans reserve t r slots left most asked until from to is may_come may =
     record {
       at = λ x low high.
           let room = may.room x low high in
           let few = may_come x (may.before x low high) in
           omega (arith, is, room, few);
     }
+
+-- from a time to the same there is none
+pub LeavesAll-none : (need : ℕ → ℕ) (t slots left x : ℕ) → LeavesAll need t slots left x x
+LeavesAll-none need t slots left x = record { at = λ y low high. absurd (omega arith) }

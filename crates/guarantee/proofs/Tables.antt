@@ -1,6 +1,7 @@
 -- Tables read span by span.
-use Rattle.std.proofs.Common.{◌≡◌, ℕ, suc, ◌+◌, ◌^◌, ◌<◌, ◌≤◌, pos, ◌≤ℤ◌, List, [], ◌∷◌, length, take, Option, Some, None, refl, sym, ap, ◌∙◌, arith}
+use Rattle.std.proofs.Common.{◌≡◌, ℕ, suc, ◌+◌, ◌^◌, ◌<◌, ◌≤◌, pos, ◌≤ℤ◌, List, [], ◌∷◌, length, take, Option, Some, None, max, refl, sym, ap, ◌∙◌, subst, inl, inr, arith}
 use Rattle.std.specs.Prelude.{slice_get, IfSome, MatchOption}
+use Rattle.std.proofs.lemmas.Bool.{cases_lt}
 use Rattle.std.proofs.lemmas.List.{take_all}
 use Rattle.std.proofs.lemmas.Option.{slice_get_within}
 use Rattle.slot_core.specs.declared.jobs.Span.{Span}
@@ -39,6 +40,12 @@ IsSeen-place t limit pairs place table is =
       stands = Stands-at t place.index (spans_of_pairs pairs) place.span table.consecutive is.span;
       short = spare-small t place.index (spans_of_pairs pairs) place.span table.consecutive table.filled is.span;
     }
+
+-- it ends from the time on, and no later than the last end
+pub place-end : (t limit : ℕ) (pairs : List (Spot × Span)) (place : SpanPlace) → IsTable t pairs limit → IsPlace pairs place → (t ≤ place.span.end) × (place.span.end ≤ last_end t (spans_of_pairs pairs))
+place-end t limit pairs place table is =
+    let stands = (IsSeen-place t limit pairs place table is).stands in
+    (omega (arith, stands.after, stands.rising), stands.within)
 
 -- the place of the next span
 pub IsPlace-later : (pairs : List (Spot × Span)) (place : SpanPlace) (at : Spot) (s : Span) → IsPlace pairs place → spot_at pairs (place.index + 1) ≡ Some at → span_at pairs (place.index + 1) ≡ Some s → IsPlace pairs (record { at = at; index = place.index + 1; span = s; due = place.due + place.span.work })
@@ -94,24 +101,46 @@ IsFront-place pairs place front is same =
       works = is.due;
     })
 
--- up to the next span there is no time to pass
-pub MayPass-none : (t asked until : ℕ) (pairs : List (Spot × Span)) (place : SpanPlace) (later : Option SpanPlace) → FollowOn t (spans_of_pairs pairs) → IsPlace pairs place → MatchOption later (place.index + 1 ≡ length pairs) (λ l. l.index ≡ place.index + 1) → IfSome later (λ l. IsPlace pairs l) → IfSome later (λ l. MayPass (spans_of_pairs pairs) asked until place.span.end l.span.start)
-MayPass-none t asked until pairs place None follow is last there = tt
-MayPass-none t asked until pairs place (Some later) follow is last there =
-    let start = later-start t pairs place later follow is there last in
-    record {
-      before = λ x low high. absurd (omega arith);
-      room = λ x low high. absurd (omega arith);
-    }
+-- what holds of the end of a place holds of the start of the next span
+pub next-start : (t : ℕ) (pairs : List (Spot × Span)) (place : SpanPlace) (later : Option SpanPlace) (P : ℕ → Type 0) → FollowOn t (spans_of_pairs pairs) → IsPlace pairs place → MatchOption later (place.index + 1 ≡ length pairs) (λ l. l.index ≡ place.index + 1) → IfSome later (λ l. IsPlace pairs l) → P place.span.end → IfSome later (λ l. P l.span.start)
+next-start t pairs place None P follow is last there here = tt
+next-start t pairs place (Some later) P follow is last there here =
+    subst P (sym (later-start t pairs place later follow is there last)) here
 
--- up to the start of a span that was passed to there is room
-pub MayPass-room : (t asked until : ℕ) (pairs : List (Spot × Span)) (place later : SpanPlace) → FollowOn t (spans_of_pairs pairs) → IsPlace pairs later → later.span.start < until → ((x : ℕ) → place.span.end ≤ x → x < later.span.end → asked + work_until (spans_of_pairs pairs) x ≤ x) → MayPass (spans_of_pairs pairs) asked until place.span.end later.span.start
-MayPass-room t asked until pairs place later follow there reached room =
-    let stands = Stands-at t later.index (spans_of_pairs pairs) later.span follow there.span in
-    record {
-      before = λ x low high. omega arith;
-      room = λ x low high. room x low (omega (arith, stands.rising));
-    }
+-- what holds of it, and of the start of the span after those that are passed, holds of the start of
+-- the place that is reached
+pub past-start : (t count : ℕ) (pairs : List (Spot × Span)) (place : SpanPlace) (later : Option SpanPlace) (P : ℕ → Type 0) → FollowOn t (spans_of_pairs pairs) → IsPlace pairs place → IfSome later (λ l. IsPlace pairs l) → IfSome later (λ l. l.index ≡ max (place.index + 1) count) → place.index ≤ count → ((s : Span) → span_at pairs count ≡ Some s → P s.start) → P place.span.end → IfSome later (λ l. P l.span.start)
+past-start t count pairs place None P follow is there index few passed here = tt
+past-start t count pairs place (Some later) P follow is there index few passed here =
+    elim (cases_lt place.index count) [
+      | inl more ↦
+          let same : count ≡ later.index = omega (arith, index) in
+          passed later.span (ap (span_at pairs) same ∙ there.span)
+      | inr none ↦
+          let next : later.index ≡ place.index + 1 = omega (arith, index) in
+          subst P (sym (later-start t pairs place later follow is there next)) here
+    ]
+
+-- up to the start of a span that is reached there is room
+pub MayPass-reached : (t asked until count : ℕ) (pairs : List (Spot × Span)) (place : SpanPlace) (s : Span) → FollowOn t (spans_of_pairs pairs) → IsPlace pairs place → span_at pairs count ≡ Some s → place.index ≤ count → (place.index < count → s.start < until) → ((x : ℕ) → place.span.end ≤ x → x < s.end → asked + work_until (spans_of_pairs pairs) x ≤ x) → MayPass (spans_of_pairs pairs) asked until place.span.end s.start
+MayPass-reached t asked until count pairs place s follow is at few reached room =
+    let stands = Stands-at t count (spans_of_pairs pairs) s follow at in
+    elim (cases_lt place.index count) [
+      | inl more ↦
+          let early = reached more in
+          record {
+            before = λ x low high. omega (arith, early);
+            room = λ x low high. room x low (omega (arith, stands.rising));
+          }
+      | inr none ↦
+          let here : place.index ≡ count = omega arith in
+          let same : place.span ≡ s = cc (sym is.span ∙ ap (span_at pairs) here ∙ at) in
+          let back : s.start ≤ place.span.end = subst (λ (q : Span). s.start ≤ q.end) (sym same) stands.rising in
+          record {
+            before = λ x low high. absurd (omega arith);
+            room = λ x low high. absurd (omega arith);
+          }
+    ]
 
 -- the next place is a later one
 pub later-more : (place : SpanPlace) (count : ℕ) (later : Option SpanPlace) → MatchOption later (place.index + 1 ≡ count) (λ l. l.index ≡ place.index + 1) → MatchOption later (place.index + 1 ≡ count) (λ l. place.index < l.index)

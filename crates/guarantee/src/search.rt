@@ -1,20 +1,22 @@
 //! The search for the first time that is too short.
 
-ghost use Rattle.std.specs.Prelude.{◌≡◌, ℕ, [], None, Some, ◌+◌, ◌-◌, ◌≤◌, ◌<◌, ◌^◌, ◌↔◌, pos, ◌+ℤ◌, ◌≤ℤ◌, ◌<ℤ◌, IfOk, IfSome, IsTrue, MatchOption, OnOk, find, length, max, min};
+ghost use Rattle.std.specs.Prelude.{◌≡◌, ℕ, [], None, Some, ◌+◌, ◌-◌, ◌*◌, ◌≤◌, ◌<◌, ◌^◌, ◌↔◌, pos, ◌+ℤ◌, ◌≤ℤ◌, ◌<ℤ◌, IfOk, IfSome, IsTrue, MatchOption, OnOk, find, length, max, min};
 ghost use Rattle.std.specs.List.{range_with_len};
 ghost use Rattle.std.specs.Option.{option_map};
 ghost use Rattle.std.specs.Result.{result_err};
 ghost use Rattle.slot_core.specs.declared.TheConstants.{OFFER_LIMIT};
+ghost use Rattle.slot_core.specs.declared.jobs.Span.{Span};
 ghost use Rattle.spare_capacity.specs.Recurrence.{last_end};
+ghost use Rattle.interval_row.specs.declared.marks.TheConstants.{PAGE};
 ghost use Rattle.interval_row.specs.Changes.{ends_before};
-ghost use Rattle.interval_row.specs.Tables.{spans_of_pairs, IsTable};
+ghost use Rattle.interval_row.specs.Tables.{span_at, spans_of_pairs, IsFront, IsTable};
 ghost use Rattle.sporadic_reserve.specs.Reserves.{demand_limit, Reserved};
 ghost use Rattle.guarantee.specs.Offers.{evidence_at, first_short, need_until};
 ghost use Rattle.guarantee.specs.Places.{IsPlace};
 ghost use Rattle.guarantee.specs.Stretches.{exceeds, evidence_of, IsLevelFrom, LeavesAll, LeavesBetween, LeavesFrom, MostBetween, MostFrom, NeedsNone};
 
-use crate::walk::{SpanPlace, after, later, place_of};
-use interval_row::{PAGE, SpareTable};
+use crate::walk::{SpanPlace, after, later, passed, past, place_of};
+use interval_row::{Front, PAGE, SpareTable};
 use slot_core::{Evidence, Span, Steps};
 use sporadic_reserve::Reserve;
 use std::sync::ledger::Ledger;
@@ -164,7 +166,8 @@ fn first_short_on<T: SpareTable, L: Ledger>(
         if most == 0 && !covers(place.span, ask.now, due) {
             return Err(first_short_start(table, ask, place, steps));
         }
-        let Some(next) = onward(table, reserve, ask, place, tried.left, steps) else {
+        let demand = tried.level.demand;
+        let Some(next) = onward(table, reserve, ask, place, demand, tried.left, steps) else {
             let all = place.due + place.span.work;
             return left_between(reserve, ask, all, from.max(last), last + 1, tried);
         };
@@ -176,14 +179,14 @@ fn first_short_on<T: SpareTable, L: Ledger>(
 /// span, or a later one. None exactly after the last.
 ///
 /// Where the span crosses the border of a page, those after it are passed whose times leave `left`
-/// slots too, even beside the sporadic demand up to `far`. That lies after the end of the span by a
-/// page and a quarter of the slots from now to that end; no span that starts later is reached.
+/// slots too. `demand` is that of the level tried last, 0 before any; only steps depend on it.
 #[inline(always)]
 fn onward<T: SpareTable, L: Ledger>(
     table: &T,
     reserve: &Reserve,
     ask: Ask,
     place: SpanPlace,
+    demand: u64,
     left: u64,
     steps: &mut Steps<L>,
 ) -> Option<SpanPlace>
@@ -195,6 +198,7 @@ fn onward<T: SpareTable, L: Ledger>(
     requires some { 1 ≤ ask.slots }
     requires few { ask.slots ≤ OFFER_LIMIT }
     requires small { left < 2 ^ 41 }
+    requires demand { demand ≤ demand_limit }
     ensures last { MatchOption result
         (place.index + 1 ≡ length (T.pairs table.now))
         (λ later. place.index < later.index) }
@@ -210,19 +214,119 @@ fn onward<T: SpareTable, L: Ledger>(
         (steps.new ≡ steps.old)
         (λ later. steps.new ≡ steps.old + 1) }
 {
-    if place.span.start / PAGE == place.span.end / PAGE {
+    if place.span.start / PAGE == place.span.end / PAGE || has_long_spans(table, ask.now) {
         return after(table, place, steps);
     }
-    let far = place.span.end + PAGE + (place.span.end - ask.now) / 4;
+    let front = passed_at_once(table, reserve, ask, place, demand, left);
+    past(table, place, front, steps)
+}
+
+/// Whether spans are as long as a page or longer on average: there `skip` of our tables passes none.
+#[inline(always)]
+fn has_long_spans<T: SpareTable>(table: &T, now: u64) -> bool
+    requires after { now ≤ last_end (T.time table.now) (spans_of_pairs (T.pairs table.now)) }
+    ensures { IsTrue result ↔ (length (T.pairs table.now) * PAGE
+        ≤ last_end (T.time table.now) (spans_of_pairs (T.pairs table.now)) - now) }
+{
+    u64::from(table.count()) * PAGE <= table.last_end() - now
+}
+
+/// The spans before the first that is not passed. Those are passed whose times leave `left` slots,
+/// even beside the sporadic demand up to `far_end`, or, where that passes none, up to the end of the
+/// page in which the span ends.
+#[inline(always)]
+fn passed_at_once<T: SpareTable>(
+    table: &T,
+    reserve: &Reserve,
+    ask: Ask,
+    place: SpanPlace,
+    demand: u64,
+    left: u64,
+) -> Front
+    requires table { IsTable (T.time table.now) (T.pairs table.now) (T.limit table.now) }
+    requires place { IsPlace (T.pairs table.now) place }
+    requires now { ask.now ≡ T.time table.now }
+    requires arrivals { ask.arrivals < 2 ^ 41 }
+    requires near { last_end (T.time table.now) (spans_of_pairs (T.pairs table.now)) < 2 ^ 41 }
+    requires some { 1 ≤ ask.slots }
+    requires few { ask.slots ≤ OFFER_LIMIT }
+    requires small { left < 2 ^ 41 }
+    requires demand { demand ≤ demand_limit }
+    ensures front { IsFront (spans_of_pairs (T.pairs table.now)) result }
+    ensures later { place.index ≤ result.count }
+    ensures within { result.count < length (T.pairs table.now) }
+    ensures left { (later : Span) → span_at (T.pairs table.now) result.count ≡ Some later
+        → LeavesAll
+        (need_until (spans_of_pairs (T.pairs table.now)) reserve.now ask.arrivals)
+        (T.time table.now)
+        ask.slots
+        left
+        place.span.end
+        later.start }
+{
+    let far = far_end(ask, place, demand, left);
+    let front = passed_before(table, reserve, ask, place, left, far);
+    if place.index < front.count {
+        return front;
+    }
+    let near = (place.span.end / PAGE + 1) * PAGE;
+    passed_before(table, reserve, ask, place, left, near)
+}
+
+/// A time up to which spans may be passed at once: a page after the end of the span, and a part of
+/// the slots so far that is the smaller, the fewer are left beside all that is needed by then. At
+/// its rate so far the sporadic demand takes about half of what is left by then.
+#[inline(always)]
+fn far_end(ask: Ask, place: SpanPlace, demand: u64, left: u64) -> u64
+    requires after { ask.now ≤ place.span.end }
+    requires near { place.span.end < 2 ^ 41 }
+    requires few { ask.slots ≤ OFFER_LIMIT }
+    requires due { place.due ≤ 2 ^ 60 }
+    requires work { place.span.work ≤ 2 ^ 40 }
+    requires small { left < 2 ^ 41 }
+    requires demand { demand ≤ demand_limit }
+    ensures after { place.span.end + PAGE ≤ result }
+{
+    let so_far = place.span.end - ask.now;
+    let need = ask.slots + place.due + place.span.work + demand + left;
+    let spare = so_far.saturating_sub(need);
+    place.span.end + PAGE + so_far / (2 * demand / (spare + 1) + 1)
+}
+
+/// The spans before the first that is not passed. Those are passed whose times are before `far` and
+/// leave `left` slots, even beside the sporadic demand up to then.
+#[inline(always)]
+fn passed_before<T: SpareTable>(
+    table: &T,
+    reserve: &Reserve,
+    ask: Ask,
+    place: SpanPlace,
+    left: u64,
+    far: u64,
+) -> Front
+    requires table { IsTable (T.time table.now) (T.pairs table.now) (T.limit table.now) }
+    requires place { IsPlace (T.pairs table.now) place }
+    requires now { ask.now ≡ T.time table.now }
+    requires arrivals { ask.arrivals < 2 ^ 41 }
+    requires near { last_end (T.time table.now) (spans_of_pairs (T.pairs table.now)) < 2 ^ 41 }
+    requires some { 1 ≤ ask.slots }
+    requires few { ask.slots ≤ OFFER_LIMIT }
+    requires small { left < 2 ^ 41 }
+    ensures front { IsFront (spans_of_pairs (T.pairs table.now)) result }
+    ensures later { place.index ≤ result.count }
+    ensures within { result.count < length (T.pairs table.now) }
+    ensures left { (later : Span) → span_at (T.pairs table.now) result.count ≡ Some later
+        → LeavesAll
+        (need_until (spans_of_pairs (T.pairs table.now)) reserve.now ask.arrivals)
+        (T.time table.now)
+        ask.slots
+        left
+        place.span.end
+        later.start }
+{
     let until = table.last_end().min(far);
     let most = reserve.demand(ask.arrivals, until);
-    later(
-        table,
-        place,
-        until,
-        ask.now + ask.slots + left + most,
-        steps,
-    )
+    passed(table, place, until, ask.now + ask.slots + left + most)
 }
 
 /// The first time from the end of a span on that is too short, where no sporadic task may need

@@ -1,8 +1,9 @@
 //! Places in a table: spans, with the works before them.
 
-ghost use Rattle.std.specs.Prelude.{◌≡◌, ◌+◌, ◌≤◌, ◌<◌, ◌^◌, length, IfSome, MatchOption};
+ghost use Rattle.std.specs.Prelude.{◌≡◌, ◌+◌, ◌≤◌, ◌<◌, ◌^◌, length, max, IfSome, MatchOption, Some};
+ghost use Rattle.slot_core.specs.declared.jobs.Span.{Span};
 ghost use Rattle.spare_capacity.specs.Recurrence.{last_end};
-ghost use Rattle.interval_row.specs.Tables.{spans_of_pairs, IsFront, IsTable};
+ghost use Rattle.interval_row.specs.Tables.{span_at, spans_of_pairs, IsFront, IsTable};
 ghost use Rattle.guarantee.specs.Places.{IsPlace, MayPass};
 
 use interval_row::{Front, SpareTable, Spot};
@@ -14,12 +15,12 @@ use std::sync::ledger::Ledger;
 pub struct SpanPlace {
     /// The spot of the span.
     pub at: Spot,
+    /// The works of the spans before it, in slots.
+    pub due: u64,
     /// How many spans are before it.
     pub index: u32,
     /// The span.
     pub span: Span,
-    /// The works of the spans before it, in slots.
-    pub due: u64,
 }
 
 /// The place of the first span that ends at a time or later. The spans before it are read once at
@@ -112,11 +113,55 @@ pub(crate) fn later<T: SpareTable, L: Ledger>(
         (steps.new ≡ steps.old)
         (λ later. steps.new ≡ steps.old + 1) }
 {
+    let front = passed(table, place, until, asked);
+    past(table, place, front, steps)
+}
+
+/// The spans before the first that is not passed: up to its start the times from the end of the
+/// place on leave room for what is asked, all before `until`. Where none is passed, those before
+/// the place. No span is read.
+#[inline(always)]
+pub(crate) fn passed<T: SpareTable>(table: &T, place: SpanPlace, until: u64, asked: u64) -> Front
+    requires table { IsTable (T.time table.now) (T.pairs table.now) (T.limit table.now) }
+    requires place { IsPlace (T.pairs table.now) place }
+    requires until { until ≤ last_end (T.time table.now) (spans_of_pairs (T.pairs table.now)) }
+    requires some { 1 ≤ asked }
+    requires few { asked ≤ 2 ^ 62 }
+    ensures front { IsFront (spans_of_pairs (T.pairs table.now)) result }
+    ensures later { place.index ≤ result.count }
+    ensures within { result.count < length (T.pairs table.now) }
+    ensures passed { (later : Span) → span_at (T.pairs table.now) result.count ≡ Some later
+        → MayPass (spans_of_pairs (T.pairs table.now)) asked until place.span.end later.start }
+{
     let front = Front {
         count: place.index,
         works: place.due,
     };
-    let passed = table.skip(front, place.span, until, asked);
+    table.skip(front, place.span, until, asked)
+}
+
+/// The place after the spans that are passed, or after this one where none is. One read, and none
+/// exactly after the last.
+#[inline(always)]
+pub(crate) fn past<T: SpareTable, L: Ledger>(
+    table: &T,
+    place: SpanPlace,
+    passed: Front,
+    steps: &mut Steps<L>,
+) -> Option<SpanPlace>
+    requires place { IsPlace (T.pairs table.now) place }
+    requires front { IsFront (spans_of_pairs (T.pairs table.now)) passed }
+    requires later { place.index ≤ passed.count }
+    requires within { passed.count < length (T.pairs table.now) }
+    ensures last { MatchOption result
+        (place.index + 1 ≡ length (T.pairs table.now))
+        (λ later. place.index < later.index) }
+    ensures place { IfSome result (λ later. IsPlace (T.pairs table.now) later) }
+    ensures index { IfSome result (λ later. later.index ≡ max (place.index + 1) passed.count) }
+    ensures steps { MatchOption result
+        (steps.new ≡ steps.old)
+        (λ later. steps.new ≡ steps.old + 1) }
+{
     if passed.count == place.index {
         return after(table, place, steps);
     }

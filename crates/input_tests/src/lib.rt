@@ -8,8 +8,6 @@ mod cycles;
 #[cfg(test)]
 mod names_and_lists;
 #[cfg(test)]
-mod soundness;
-#[cfg(test)]
 mod task_files;
 #[cfg(test)]
 mod windows;

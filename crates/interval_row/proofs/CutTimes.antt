@@ -13,7 +13,7 @@ use Rattle.interval_row.specs.declared.table.Front.{Front}
 use Rattle.node_chain.specs.declared.marks.Mark.{Mark}
 use Rattle.interval_row.specs.Changes.{ends_before}
 use Rattle.interval_row.specs.Marks.{count_at, mark_index, page_of, works_at, works_in_page, IsMarked}
-use Rattle.interval_row.specs.Rows.{place_of}
+use Rattle.interval_row.specs.Spans.{place_of}
 use Rattle.interval_row.specs.Tables.{works, IsFront}
 use Rattle.interval_row.proofs.Places.{last_end-ge}
 
@@ -175,45 +175,45 @@ sum-parts P f g h (s ∷ ss) all parts =
 -- the end of a span lies within a lap of a time
 pub record IsInLap (time : ℕ) (s : Span) : Type 0 where
   pub late : time ≤ s.end
-  pub near : s.end < (time / 128 + 256) * 128
+  pub near : s.end < (time / 64 + 512) * 64
 
-pub AreInLap : (time start : ℕ) (rows : List Span) → FollowOn start rows → time ≤ start → last_end start rows < (time / 128 + 256) * 128 → AllByRecursion (IsInLap time) rows
+pub AreInLap : (time start : ℕ) (rows : List Span) → FollowOn start rows → time ≤ start → last_end start rows < (time / 64 + 512) * 64 → AllByRecursion (IsInLap time) rows
 AreInLap time start [] follow late near = tt
 AreInLap time start (s ∷ ss) follow late near =
     (record { late = omega (arith, follow.0, follow.1, late); near = omega (arith, near, last_end-ge s.end ss follow.4) }, AreInLap time s.end ss follow.4 (omega (arith, follow.0, follow.1, late)) near)
 
 -- within a lap a span that ends before the next page ends before this one or has its mark
-by-page : (time end page amount : ℕ) → time ≤ end → end < (time / 128 + 256) * 128 → time / 128 ≤ page → page < time / 128 + 256 → cond (ltb end ((page + 1) * 128)) amount 0 ≡ cond (ltb end (page * 128)) amount 0 + cond (eqb (mark_index end) (page % 256)) amount 0
+by-page : (time end page amount : ℕ) → time ≤ end → end < (time / 64 + 512) * 64 → time / 64 ≤ page → page < time / 64 + 512 → cond (ltb end ((page + 1) * 64)) amount 0 ≡ cond (ltb end (page * 64)) amount 0 + cond (eqb (mark_index end) (page % 512)) amount 0
 by-page time end page amount late near low high =
-    elim (cases_order (end / 128) page) [
+    elim (cases_order (end / 64) page) [
       | inl here ↦
-          rw (lt-ltb end ((page + 1) * 128) (omega (arith, here)), le-ltb end (page * 128) (omega (arith, here)), eq-eqb (mark_index end) (page % 256) (omega (arith, here))) (omega arith)
+          rw (lt-ltb end ((page + 1) * 64) (omega (arith, here)), le-ltb end (page * 64) (omega (arith, here)), eq-eqb (mark_index end) (page % 512) (omega (arith, here))) (omega arith)
       | inr (inl early) ↦
-          rw (lt-ltb end ((page + 1) * 128) (omega (arith, early)), lt-ltb end (page * 128) (omega (arith, early)), ne_eqb (mark_index end) (page % 256) (λ same. omega (arith, early, late, high, low, same))) (omega arith)
+          rw (lt-ltb end ((page + 1) * 64) (omega (arith, early)), lt-ltb end (page * 64) (omega (arith, early)), ne_eqb (mark_index end) (page % 512) (λ same. omega (arith, early, late, high, low, same))) (omega arith)
       | inr (inr after) ↦
-          rw (le-ltb end ((page + 1) * 128) (omega (arith, after)), le-ltb end (page * 128) (omega (arith, after)), ne_eqb (mark_index end) (page % 256) (λ same. omega (arith, after, near, low, same))) (omega arith)
+          rw (le-ltb end ((page + 1) * 64) (omega (arith, after)), le-ltb end (page * 64) (omega (arith, after)), ne_eqb (mark_index end) (page % 512) (λ same. omega (arith, after, near, low, same))) (omega arith)
     ]
 
-pub ends_before-page : (time page : ℕ) (rows : List Span) → AllByRecursion (IsInLap time) rows → time / 128 ≤ page → page < time / 128 + 256 → ends_before ((page + 1) * 128) rows ≡ ends_before (page * 128) rows + count_at (page % 256) rows
+pub ends_before-page : (time page : ℕ) (rows : List Span) → AllByRecursion (IsInLap time) rows → time / 64 ≤ page → page < time / 64 + 512 → ends_before ((page + 1) * 64) rows ≡ ends_before (page * 64) rows + count_at (page % 512) rows
 ends_before-page time page rows all low high =
-    sum-parts (IsInLap time) (λ (s : Span). cond (ltb s.end (page * 128)) 1 0) (λ (s : Span). cond (eqb (mark_index s.end) (page % 256)) 1 0) (λ (s : Span). cond (ltb s.end ((page + 1) * 128)) 1 0) rows all (λ s near. by-page time s.end page 1 near.late near.near low high)
+    sum-parts (IsInLap time) (λ (s : Span). cond (ltb s.end (page * 64)) 1 0) (λ (s : Span). cond (eqb (mark_index s.end) (page % 512)) 1 0) (λ (s : Span). cond (ltb s.end ((page + 1) * 64)) 1 0) rows all (λ s near. by-page time s.end page 1 near.late near.near low high)
 
-pub works_before-page : (time page : ℕ) (rows : List Span) → AllByRecursion (IsInLap time) rows → time / 128 ≤ page → page < time / 128 + 256 → works_before ((page + 1) * 128) rows ≡ works_before (page * 128) rows + works_at (page % 256) rows
+pub works_before-page : (time page : ℕ) (rows : List Span) → AllByRecursion (IsInLap time) rows → time / 64 ≤ page → page < time / 64 + 512 → works_before ((page + 1) * 64) rows ≡ works_before (page * 64) rows + works_at (page % 512) rows
 works_before-page time page rows all low high =
-    sum-parts (IsInLap time) (λ (s : Span). cond (ltb s.end (page * 128)) s.work 0) (λ (s : Span). cond (eqb (mark_index s.end) (page % 256)) s.work 0) (λ (s : Span). cond (ltb s.end ((page + 1) * 128)) s.work 0) rows all (λ s near. by-page time s.end page s.work near.late near.near low high)
+    sum-parts (IsInLap time) (λ (s : Span). cond (ltb s.end (page * 64)) s.work 0) (λ (s : Span). cond (eqb (mark_index s.end) (page % 512)) s.work 0) (λ (s : Span). cond (ltb s.end ((page + 1) * 64)) s.work 0) rows all (λ s near. by-page time s.end page s.work near.late near.near low high)
 
 -- what is due by a time: what is due before its page, and what is due in it
-until-page : (end x work : ℕ) → cond (leb end x) work 0 ≡ cond (ltb end (x / 128 * 128)) work 0 + cond (eqb (page_of end) (page_of x) && leb end x) work 0
+until-page : (end x work : ℕ) → cond (leb end x) work 0 ≡ cond (ltb end (x / 64 * 64)) work 0 + cond (eqb (page_of end) (page_of x) && leb end x) work 0
 until-page end x work =
     elim (cases_lt x end) [
       | inl early ↦
-          rw (lt-leb end x early, le-ltb end (x / 128 * 128) (omega (arith, early)), and_right (eqb (page_of end) (page_of x)) false refl) refl
+          rw (lt-leb end x early, le-ltb end (x / 64 * 64) (omega (arith, early)), and_right (eqb (page_of end) (page_of x)) false refl) refl
       | inr reached ↦
-          elim (cases_lt end (x / 128 * 128)) [
+          elim (cases_lt end (x / 64 * 64)) [
             | inl before ↦
-                rw (le-leb end x reached, lt-ltb end (x / 128 * 128) before, and_left (eqb (page_of end) (page_of x)) true (ne_eqb (page_of end) (page_of x) (λ same. omega (arith, before, same)))) (omega arith)
+                rw (le-leb end x reached, lt-ltb end (x / 64 * 64) before, and_left (eqb (page_of end) (page_of x)) true (ne_eqb (page_of end) (page_of x) (λ same. omega (arith, before, same)))) (omega arith)
             | inr inside ↦
-                rw (le-leb end x reached, le-ltb end (x / 128 * 128) inside, eq-eqb (page_of end) (page_of x) (omega (arith, inside, reached))) (omega arith)
+                rw (le-leb end x reached, le-ltb end (x / 64 * 64) inside, eq-eqb (page_of end) (page_of x) (omega (arith, inside, reached))) (omega arith)
           ]
     ]
 
@@ -221,9 +221,9 @@ any : (rows : List Span) → AllByRecursion (λ (s : Span). Unit {0}) rows
 any [] = tt
 any (s ∷ ss) = (tt, any ss)
 
-pub work_until-page : (x : ℕ) (rows : List Span) → work_until rows x ≡ works_before (x / 128 * 128) rows + works_in_page x rows
+pub work_until-page : (x : ℕ) (rows : List Span) → work_until rows x ≡ works_before (x / 64 * 64) rows + works_in_page x rows
 work_until-page x rows =
-    sum-parts (λ (s : Span). Unit {0}) (λ (s : Span). cond (ltb s.end (x / 128 * 128)) s.work 0) (λ (s : Span). cond (eqb (page_of s.end) (page_of x) && leb s.end x) s.work 0) (λ (s : Span). cond (leb s.end x) s.work 0) rows (any rows) (λ s t. until-page s.end x s.work)
+    sum-parts (λ (s : Span). Unit {0}) (λ (s : Span). cond (ltb s.end (x / 64 * 64)) s.work 0) (λ (s : Span). cond (eqb (page_of s.end) (page_of x) && leb s.end x) s.work 0) (λ (s : Span). cond (leb s.end x) s.work 0) rows (any rows) (λ s t. until-page s.end x s.work)
 
 -- by the last slot before a time what is due before it is due
 pub work_until-last : (y : ℕ) (rows : List Span) → 1 ≤ y → work_until rows (y - 1) ≡ works_before y rows
@@ -243,7 +243,7 @@ pub IsBefore-none : (start y : ℕ) (rows : List Span) → FollowOn start rows �
 IsBefore-none start y rows follow early =
     record { count = sym (ends_before-start start y rows follow early); works = sym (works_before-start start y rows follow early) }
 
-pub IsBefore-page : (time page : ℕ) (rows : List Span) (front : Front) (mark : Mark) → AllByRecursion (IsInLap time) rows → time / 128 ≤ page → page < time / 128 + 256 → IsMarked time rows (page % 256) mark → IsBefore (page * 128) rows front → IsBefore ((page + 1) * 128) rows (record { count = front.count + mark.count; works = front.works + mark.works })
+pub IsBefore-page : (time page : ℕ) (rows : List Span) (front : Front) (mark : Mark) → AllByRecursion (IsInLap time) rows → time / 64 ≤ page → page < time / 64 + 512 → IsMarked time rows (page % 512) mark → IsBefore (page * 64) rows front → IsBefore ((page + 1) * 64) rows (record { count = front.count + mark.count; works = front.works + mark.works })
 IsBefore-page time page rows front mark all low high marked before =
     record {
       count = omega (arith, before.count, marked.count, ends_before-page time page rows all low high);

@@ -9,7 +9,7 @@ use Rattle.spare_capacity.proofs.Free.{rest-filled}
 use Rattle.spare_capacity.proofs.Steps.{no_row}
 use Rattle.spare_capacity.specs.PlanSpans.{AreProper}
 use Rattle.interval_row.specs.Changes.{apart_from, cut, part_before, part_from}
-use Rattle.interval_row.specs.Rows.{place_of, HoldsInside}
+use Rattle.interval_row.specs.Spans.{place_of, HoldsInside}
 use Rattle.interval_row.proofs.Fillings.{filled-first, with_spare-LendsSame, LendsSame}
 
 -- the rows, where the one at this place is two

@@ -23,11 +23,11 @@ pub last_end-filled : (start : ℕ) (rows : List Span) → last_end start (fille
 last_end-filled start [] = refl
 last_end-filled start (s ∷ ss) = last_end-filled s.end ss
 
--- the same part of both capacities is borrowed from the row before
+-- the same part of both capacities is borrowed from the span before
 abbrev pub LendsSame : ℤ → ℤ → Type 0
 LendsSame a b = int_min (pos 0) a ≡ int_min (pos 0) b
 
--- a row has the same capacity before rows that borrow the same
+-- a span has the same capacity before rows that borrow the same
 pub with_spare-LendsSame : (s : Span) (a b : ℤ) → LendsSame a b → with_spare s a ≡ with_spare s b
 with_spare-LendsSame s a b e = ap (λ m. record s { spare = room s +ℤ m }) e
 

@@ -5,7 +5,7 @@ use Rattle.slot_core.specs.declared.jobs.Span.{Span}
 use Rattle.spare_capacity.specs.Recurrence.{filled, FollowOn, first_start, last_end}
 use Rattle.spare_capacity.specs.PlanSpans.{AreProper, ArePlanSpans}
 use Rattle.interval_row.specs.Changes.{after_pass, appended, cut, shifted}
-use Rattle.interval_row.specs.Rows.{AreRows, with_work_at}
+use Rattle.interval_row.specs.Spans.{AreFilled, with_work_at}
 use Rattle.interval_row.proofs.Cuts.{AreProper-cut, FollowOn-cut, length-cut, first_start-cut}
 use Rattle.interval_row.proofs.Cycles.{filled-appended, length-appended, last_end-some, FollowOn-append, FollowOn-shifted, AreProper-append, AreProper-shifted, first_start-append, AreCopies}
 use Rattle.spare_capacity.proofs.Filled.{filled-filled, FollowOn-filled}
@@ -19,8 +19,8 @@ pub record AreBare (rows : List Span) : Type 0 where
   pub proper : AreProper rows
   pub few : length rows ≤ 2 ^ 20
 
-pub AreRows-AreBare : (rows : List Span) → AreBare rows → AreRows (filled rows)
-AreRows-AreBare rows bare =
+pub AreFilled-AreBare : (rows : List Span) → AreBare rows → AreFilled (filled rows)
+AreFilled-AreBare rows bare =
     record {
       some = omega (arith, bare.some, length-filled rows);
       consecutive = rw (first_start-filled rows) (FollowOn-filled (first_start rows) rows bare.consecutive);
@@ -44,12 +44,12 @@ first_start-FollowOn start [] h some = absurd (omega arith)
 first_start-FollowOn start (s ∷ ss) h some = h.0
 
 -- a plan's spans are rows
-pub AreRows-ArePlanSpans : (spans : List Span) → ArePlanSpans spans → length spans ≤ 2 ^ 20 → AreRows spans
-AreRows-ArePlanSpans spans plan few =
+pub AreFilled-ArePlanSpans : (spans : List Span) → ArePlanSpans spans → length spans ≤ 2 ^ 20 → AreFilled spans
+AreFilled-ArePlanSpans spans plan few =
     record { some = plan.some; consecutive = follow_from_zero spans plan.consecutive; proper = plan.proper; filled = plan.filled; few = few }
 
--- a new work of one row
-pub AreBare-with_work_at : (place work : ℕ) (rows : List Span) → work ≤ 2 ^ 40 → AreRows rows → AreBare (with_work_at place work rows)
+-- a new work of one span
+pub AreBare-with_work_at : (place work : ℕ) (rows : List Span) → work ≤ 2 ^ 40 → AreFilled rows → AreBare (with_work_at place work rows)
 AreBare-with_work_at place work rows few h =
     record {
       some = omega (arith, h.some, length-with_work_at place work rows);
@@ -58,8 +58,8 @@ AreBare-with_work_at place work rows few h =
       few = omega (arith, h.few, length-with_work_at place work rows);
     }
 
--- a cut row
-pub AreBare-cut : (at : ℕ) (rows : List Span) → length rows < 2 ^ 20 → AreRows rows → AreBare (cut at rows)
+-- a cut span
+pub AreBare-cut : (at : ℕ) (rows : List Span) → length rows < 2 ^ 20 → AreFilled rows → AreBare (cut at rows)
 AreBare-cut at rows few h =
     record {
       some = omega (arith, h.some, (length-cut at rows).0);
@@ -69,14 +69,14 @@ AreBare-cut at rows few h =
     }
 
 -- the rows after the first, where there are some
-AreBare-rest : (s : Span) (ss : List Span) → AreRows (s ∷ ss) → s.end < last_end 0 (s ∷ ss) → AreBare ss
+AreBare-rest : (s : Span) (ss : List Span) → AreFilled (s ∷ ss) → s.end < last_end 0 (s ∷ ss) → AreBare ss
 AreBare-rest s [] h more = absurd (omega arith)
 AreBare-rest s (t ∷ ts) h more =
     let rest = h.consecutive.4 in
     record { some = omega arith; consecutive = (refl, rest.1, rest.2, rest.3, rest.4); proper = h.proper.1; few = omega (arith, h.few) }
 
 -- one slot later
-pub AreBare-after_pass : (rows : List Span) → AreRows rows → first_start rows + 1 < last_end 0 rows → AreBare (after_pass rows)
+pub AreBare-after_pass : (rows : List Span) → AreFilled rows → first_start rows + 1 < last_end 0 rows → AreBare (after_pass rows)
 AreBare-after_pass [] h more = absurd (omega (arith, h.some))
 AreBare-after_pass (s ∷ ss) h more =
     cond_both (eqb (s.start + 1) s.end) ss (record s { start = s.start + 1 } ∷ ss) AreBare
@@ -93,7 +93,7 @@ AreBare-after_pass (s ∷ ss) h more =
     })
 
 -- and its rows start one slot later
-pub first_start-after_pass : (rows : List Span) → AreRows rows → first_start rows + 1 < last_end 0 rows → first_start (after_pass rows) ≡ first_start rows + 1
+pub first_start-after_pass : (rows : List Span) → AreFilled rows → first_start rows + 1 < last_end 0 rows → first_start (after_pass rows) ≡ first_start rows + 1
 first_start-after_pass [] h more = absurd (omega (arith, h.some))
 first_start-after_pass (s ∷ []) h more =
     cond_both (eqb (s.start + 1) s.end) [] (record s { start = s.start + 1 } ∷ []) (λ xs. first_start xs ≡ s.start + 1)
@@ -110,8 +110,8 @@ length-after_pass (s ∷ ss) =
     cond_both (eqb (s.start + 1) s.end) ss (record s { start = s.start + 1 } ∷ ss) (λ xs. length xs ≤ suc (length ss)) (λ t. omega arith) (λ t. omega arith)
 
 -- a plan's spans appended
-pub AreRows-appended : (spans rows : List Span) → ArePlanSpans spans → AreRows rows → length rows + length spans ≤ 2 ^ 20 → AreRows (appended spans rows)
-AreRows-appended spans rows plan h few =
+pub AreFilled-appended : (spans rows : List Span) → ArePlanSpans spans → AreFilled rows → length rows + length spans ≤ 2 ^ 20 → AreFilled (appended spans rows)
+AreFilled-appended spans rows plan h few =
     let by = last_end 0 rows in
     let same : last_end (first_start rows) rows ≡ by = last_end-some (first_start rows) 0 rows h.some in
     let zero_by : 0 + by ≡ last_end (first_start rows) rows = omega (arith, same) in
@@ -125,6 +125,6 @@ AreRows-appended spans rows plan h few =
     }
 
 -- copies of a plan's spans are rows
-pub AreRows-AreCopies : (spans : List Span) (n : ℕ) (rows : List Span) → 1 ≤ length rows → length rows ≤ 2 ^ 20 → AreCopies spans n rows → AreRows rows
-AreRows-AreCopies spans n rows some few h =
+pub AreFilled-AreCopies : (spans : List Span) (n : ℕ) (rows : List Span) → 1 ≤ length rows → length rows ≤ 2 ^ 20 → AreCopies spans n rows → AreFilled rows
+AreFilled-AreCopies spans n rows some few h =
     record { some = some; consecutive = follow_from_zero rows h.consecutive; proper = h.proper; filled = h.filled; few = few }

@@ -15,13 +15,13 @@ use Rattle.interval_row.proofs.Cycles.{last_end-some}
 use Rattle.interval_row.proofs.Places.{last_end-ge}
 
 pub follows : {start end : ℕ} {rows : List Span} {marks : List Mark} → AreTimed start end rows marks → FollowOn start rows
-follows {rows = rows} h = subst (λ n. FollowOn n rows) (sym h.starts) h.rows.consecutive
+follows {rows = rows} h = subst (λ n. FollowOn n rows) (sym h.starts) h.filled.consecutive
 
 pub ends : {start end : ℕ} {rows : List Span} {marks : List Mark} → AreTimed start end rows marks → end ≡ last_end start rows
-ends {start = start} {rows = rows} h = h.ends ∙ last_end-some 0 start rows h.rows.some
+ends {start = start} {rows = rows} h = h.ends ∙ last_end-some 0 start rows h.filled.some
 
 -- within a lap
-pub lies-in-lap : {start end : ℕ} {rows : List Span} {marks : List Mark} → AreTimed start end rows marks → end < (start / 128 + 256) * 128 → AllByRecursion (IsInLap start) rows
+pub lies-in-lap : {start end : ℕ} {rows : List Span} {marks : List Mark} → AreTimed start end rows marks → end < (start / 64 + 512) * 64 → AllByRecursion (IsInLap start) rows
 lies-in-lap {start = start} {rows = rows} h lap = AreInLap start start rows (follows h) (omega arith) (omega (arith, lap, ends h))
 
 -- what ends before a time is small
@@ -38,22 +38,22 @@ works_before-small start y (s ∷ ss) follow =
 pub record IsNext (rows : List Span) (front : Front) (mark : Mark) (page : ℕ) : Type 0 where
   pub count : front.count + mark.count ≤ 2 ^ 20
   pub works : front.works + mark.works ≤ 2 ^ 60
-  pub before : IsBefore ((page + 1) * 128) rows (record { count = front.count + mark.count; works = front.works + mark.works })
+  pub before : IsBefore ((page + 1) * 64) rows (record { count = front.count + mark.count; works = front.works + mark.works })
 
-pub IsNext-page : {start end : ℕ} {rows : List Span} {marks : List Mark} (front : Front) (mark : Mark) (page x : ℕ) → AreTimed start end rows marks → end < (start / 128 + 256) * 128 → x ≤ end → start / 128 ≤ page → page < x / 128 → slice_get marks (page % 256) ≡ Some mark → IsBefore (page * 128) rows front → IsNext rows front mark page
+pub IsNext-page : {start end : ℕ} {rows : List Span} {marks : List Mark} (front : Front) (mark : Mark) (page x : ℕ) → AreTimed start end rows marks → end < (start / 64 + 512) * 64 → x ≤ end → start / 64 ≤ page → page < x / 64 → slice_get marks (page % 512) ≡ Some mark → IsBefore (page * 64) rows front → IsNext rows front mark page
 IsNext-page {start = start} {rows = rows} front mark page x h lap within low high at before =
-    let y = (page + 1) * 128 in
-    let next = IsBefore-page start page rows front mark (lies-in-lap h lap) low (omega (arith, lap, within, high)) (h.marked.each (page % 256) mark at) before in
+    let y = (page + 1) * 64 in
+    let next = IsBefore-page start page rows front mark (lies-in-lap h lap) low (omega (arith, lap, within, high)) (h.marked.each (page % 512) mark at) before in
     record {
-      count = omega (arith, next.count, h.rows.few, count_by-le-length (λ (s : Span). ltb s.end y) rows);
-      works = omega (arith, next.works, h.rows.few, works_before-small start y rows (follows h));
+      count = omega (arith, next.count, h.filled.few, count_by-le-length (λ (s : Span). ltb s.end y) rows);
+      works = omega (arith, next.works, h.filled.few, works_before-small start y rows (follows h));
       before = next;
     }
 
 -- which end before x too
-pub IsNext-early : (rows : List Span) (front : Front) (mark : Mark) (page x : ℕ) → IsNext rows front mark page → page < x / 128 → front.count + mark.count ≤ ends_before x rows
+pub IsNext-early : (rows : List Span) (front : Front) (mark : Mark) (page x : ℕ) → IsNext rows front mark page → page < x / 64 → front.count + mark.count ≤ ends_before x rows
 IsNext-early rows front mark page x next high =
-    omega (arith, next.before.count, ends_before-le ((page + 1) * 128) x rows (omega (arith, high)))
+    omega (arith, next.before.count, ends_before-le ((page + 1) * 64) x rows (omega (arith, high)))
 
 -- the end is no earlier than the start
 pub rises : {start end : ℕ} {rows : List Span} {marks : List Mark} → AreTimed start end rows marks → start ≤ end

@@ -1,10 +1,11 @@
 -- What a store over a shelf has, after a change of the shelf's spans or lifts.
-use Rattle.std.proofs.Common.{◌≡◌, ℕ, zero, suc, ℤ, pos, negsuc, ◌+ℤ◌, ◌-ℤ◌, ◌≤ℤ◌, List, [], ◌∷◌, ◌++◌, cond, get_or, set, insert, take, drop, slice_get, Some, inl, inr, refl, sym, ap, subst, ◌∙◌, arith, FitsSigned, w64}
+use Rattle.std.proofs.Common.{◌≡◌, ℕ, zero, suc, ℤ, pos, negsuc, ◌+ℤ◌, ◌-ℤ◌, ◌≤ℤ◌, List, [], ◌∷◌, ◌++◌, cond, eqb, get_or, set, insert, take, drop, slice_get, Some, inl, inr, refl, sym, ap, subst, ◌∙◌, arith, FitsSigned, w64}
 use Rattle.std.specs.Int.{int_max, int_wrap, saturate_signed}
 use Rattle.std.specs.Prelude.{option_map}
 use Rattle.std.proofs.lemmas.Bool.{cases_eq, eq-eqb, ne_eqb}
 use Rattle.std.proofs.lemmas.Int.{ints, clamps, int_wrap_fits, int_wrap-add_left, int_wrap-add_right}
 use Rattle.std.proofs.lemmas.List.{get_or-set_same, get_or-set_other, map-set, map_push}
+use Rattle.std.proofs.lemmas.List.Sums.{sum_by-cons}
 use Rattle.std.proofs.lemmas.List.Elements.{All-append, All-cons, All-drop, All-from_recursion, All-nil, All-set, All-take, recursion_from_All}
 use Rattle.std.proofs.lemmas.Option.{get_or_from_slice_get, same_Some, slice_get-map, slice_get_within}
 use Rattle.slot_core.specs.declared.jobs.Span.{Span}
@@ -12,7 +13,7 @@ use Rattle.spare_capacity.specs.Lending.{raised}
 use Rattle.node_chain.specs.declared.marks.Lift.{Lift}
 use Rattle.node_chain.specs.Laps.{blank_lift}
 use Rattle.interval_row.specs.Lifts.{lift_of, lifted, lifted_by, lifted_in, lowered_by, raised_at, raised_in, raised_lift, AreAtMost, AreCovered, MayRaise}
-use Rattle.interval_row.specs.Marks.{mark_index}
+use Rattle.interval_row.specs.Marks.{count_at, mark_index}
 use Rattle.interval_row.proofs.Stores.{map-insert}
 
 -- the capacity that is put is the one that is read
@@ -20,6 +21,13 @@ pub lifted-lowered : (add : ℤ) (s : Span) → FitsSigned w64 s.spare → lifte
 lifted-lowered add s fits =
     let back : s.spare -ℤ add +ℤ add ≡ s.spare = omega (arith, ints) in
     ap (λ (x : ℤ). record s { spare = x }) (int_wrap-add_left w64 (s.spare -ℤ add) add ∙ ap (int_wrap w64) back ∙ int_wrap_fits w64 s.spare fits)
+
+-- so is what is kept of a span once it has so much more capacity
+pub lifted-raised-by : (add more : ℤ) (s : Span) → lifted_by more s ≡ lowered_by add (raised more (lifted_by add s))
+lifted-raised-by add more s =
+    let back : s.spare +ℤ add +ℤ (more -ℤ add) ≡ s.spare +ℤ more = omega (arith, ints) in
+    let out : int_wrap w64 (s.spare +ℤ add) +ℤ (more -ℤ add) ≡ int_wrap w64 (s.spare +ℤ add) +ℤ more -ℤ add = omega (arith, ints) in
+    ap (λ (x : ℤ). record s { spare = x }) (ap (int_wrap w64) (sym back) ∙ sym (int_wrap-add_left w64 (s.spare +ℤ add) (more -ℤ add)) ∙ ap (int_wrap w64) out)
 
 -- lifts, where the one at an index was this and has become another
 module _ (lifts : List Lift) (j : ℕ) (was : Lift) (at : slice_get lifts j ≡ Some was) where
@@ -81,6 +89,13 @@ pub AreAtMost-more : (j : ℕ) (low high : ℤ) → low ≤ℤ high → (spans :
 AreAtMost-more j low high l [] h = tt
 AreAtMost-more j low high l (s ∷ ss) h =
     ((λ e. let there = h.0 e in omega (arith, ints, there, l)), AreAtMost-more j low high l ss h.1)
+
+-- where no span ends in the pages of a mark, all that do are below any number
+pub AreAtMost-none : (j : ℕ) (high : ℤ) (spans : List Span) → count_at j spans ≡ 0 → AreAtMost j high spans
+AreAtMost-none j high [] none = tt
+AreAtMost-none j high (s ∷ ss) none =
+    let sum = sum_by-cons (λ (t : Span). cond (eqb (mark_index t.end) j) 1 0) s ss in
+    ((λ e. let one = ap {B = ℕ} (λ b. cond b 1 0) (eq-eqb (mark_index s.end) j e) in omega (arith, ints, none, sum, one)), AreAtMost-none j high ss (omega (arith, none, sum)))
 
 -- a number that fits is below the nearest one that fits where it is below the number itself
 saturated : (x z : ℤ) → FitsSigned w64 x → x ≤ℤ z → x ≤ℤ saturate_signed w64 z
@@ -218,7 +233,7 @@ slice_get-lifted lifts spans i j s lift at mark there =
     ∙ ap (λ (l : Lift). Some (lifted_by l.add s)) (lift_of-there lifts j lift there s (sym mark))
 
 -- and what the shelf has where a span is read
-pub shelf-at : (lifts : List Lift) (spans : List Span) (i : ℕ) (row : Span) → slice_get (lifted lifts spans) i ≡ Some row → (s : Span) × (slice_get spans i ≡ Some s) × (lifted_in lifts s ≡ row)
-shelf-at lifts [] i row e = cc
-shelf-at lifts (s ∷ ss) zero row e = (s, refl, same_Some (lifted_in lifts s) row e)
-shelf-at lifts (s ∷ ss) (suc i) row e = shelf-at lifts ss i row e
+pub shelf-at : (lifts : List Lift) (spans : List Span) (i : ℕ) (span : Span) → slice_get (lifted lifts spans) i ≡ Some span → (s : Span) × (slice_get spans i ≡ Some s) × (lifted_in lifts s ≡ span)
+shelf-at lifts [] i span e = cc
+shelf-at lifts (s ∷ ss) zero span e = (s, refl, same_Some (lifted_in lifts s) span e)
+shelf-at lifts (s ∷ ss) (suc i) span e = shelf-at lifts ss i span e

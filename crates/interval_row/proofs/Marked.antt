@@ -16,7 +16,7 @@ use Rattle.interval_row.specs.declared.spans.Change.{Change}
 use Rattle.interval_row.specs.declared.spans.Change.TheVariants.{More, Fewer}
 use Rattle.interval_row.specs.Changes.{cut, part_before, part_from}
 use Rattle.interval_row.specs.Marks.{first_mark, count_at, mark_index, page_of, passed, with_change, with_cut, with_end, without_end, works_at, works_in_page, AreMarked, IsMarked}
-use Rattle.interval_row.specs.Rows.{place_of, with_work_at, HoldsInside}
+use Rattle.interval_row.specs.Spans.{place_of, with_work_at, HoldsInside}
 use Rattle.interval_row.specs.Works.{changed_by, MayChangeBy}
 use Rattle.interval_row.proofs.Cuts.{cut-halved, halved}
 use Rattle.interval_row.proofs.Works.{set-with_work_at}
@@ -56,22 +56,22 @@ pub Moves-filled : {rows new : List Span} {end work other : ℕ} → Moves rows 
 Moves-filled {new = new} {end = end} {work = work} h = record { sums = λ g. ap (λ n. n + g end work) (of_all-filled g new) ∙ h.sums g }
 
 -- the first span is one more than the others
-pub Gains-drop : (rows : List Span) (row : Span) → slice_get rows 0 ≡ Some row → Gains (drop 1 rows) rows row.end row.work
-Gains-drop [] row at = absurd (omega (arith, slice_get_within [] 0 row at))
-Gains-drop (s ∷ ss) row at =
-    let same : s ≡ row = same_Some s row at in
+pub Gains-drop : (rows : List Span) (span : Span) → slice_get rows 0 ≡ Some span → Gains (drop 1 rows) rows span.end span.work
+Gains-drop [] span at = absurd (omega (arith, slice_get_within [] 0 span at))
+Gains-drop (s ∷ ss) span at =
+    let same : s ≡ span = same_Some s span at in
     subst (λ (t : Span). Gains ss (s ∷ ss) t.end t.work) same (record { sums = λ g. omega (arith, of_all-cons g s ss) })
 
 -- a span that starts later
-pub Stays-set : (rows : List Span) (row new : Span) → slice_get rows 0 ≡ Some row → new.end ≡ row.end → new.work ≡ row.work → Stays rows (set rows 0 new)
-Stays-set rows row new at end work =
-    let is = get_or_from_slice_get rows 0 row no_row at in
-    let within = slice_get_within rows 0 row at in
+pub Stays-set : (rows : List Span) (span new : Span) → slice_get rows 0 ≡ Some span → new.end ≡ span.end → new.work ≡ span.work → Stays rows (set rows 0 new)
+Stays-set rows span new at end work =
+    let is = get_or_from_slice_get rows 0 span no_row at in
+    let within = slice_get_within rows 0 span at in
     record {
       sums = λ g.
           let put = sum_by-set (λ (t : Span). g t.end t.work) rows 0 new no_row within in
-          let old : g (get_or rows 0 no_row).end (get_or rows 0 no_row).work ≡ g row.end row.work = ap (λ (t : Span). g t.end t.work) is in
-          let now : g new.end new.work ≡ g row.end row.work = ap (λ n. g n new.work) end ∙ ap (g row.end) work in
+          let old : g (get_or rows 0 no_row).end (get_or rows 0 no_row).work ≡ g span.end span.work = ap (λ (t : Span). g t.end t.work) is in
+          let now : g new.end new.work ≡ g span.end span.work = ap (λ n. g n new.work) end ∙ ap (g span.end) work in
           omega (arith, put, old, now);
     }
 
@@ -89,16 +89,16 @@ Gains-cut start at place rows follow found inside =
     subst (λ xs. Gains rows xs at 0) (sym (cut-halved start at place rows follow found inside)) (Gains-halved place at rows inside)
 
 -- another work of the span at a place
-pub Moves-with_work_at : (rows : List Span) (place work : ℕ) (row : Span) → slice_get rows place ≡ Some row → Moves rows (with_work_at place work rows) row.end row.work work
-Moves-with_work_at rows place work row at =
-    let is = get_or_from_slice_get rows place row no_row at in
-    let within = slice_get_within rows place row at in
+pub Moves-with_work_at : (rows : List Span) (place work : ℕ) (span : Span) → slice_get rows place ≡ Some span → Moves rows (with_work_at place work rows) span.end span.work work
+Moves-with_work_at rows place work span at =
+    let is = get_or_from_slice_get rows place span no_row at in
+    let within = slice_get_within rows place span at in
     let worked = record (get_or rows place no_row) { work = work } in
     let put = set-with_work_at place work rows within in
     record {
       sums = λ g.
-          let old : g (get_or rows place no_row).end (get_or rows place no_row).work ≡ g row.end row.work = ap (λ (t : Span). g t.end t.work) is in
-          let now : g (get_or rows place no_row).end work ≡ g row.end work = ap (λ (t : Span). g t.end work) is in
+          let old : g (get_or rows place no_row).end (get_or rows place no_row).work ≡ g span.end span.work = ap (λ (t : Span). g t.end t.work) is in
+          let now : g (get_or rows place no_row).end work ≡ g span.end work = ap (λ (t : Span). g t.end work) is in
           let all : of_all g (set rows place worked) ≡ of_all g (with_work_at place work rows) = ap (of_all g) put in
           omega (arith, sum_by-set (λ (t : Span). g t.end t.work) rows place worked no_row within, old, now, all);
     }
@@ -127,7 +127,7 @@ works-other j end work other = ap (λ b. cond b work 0) (ne_eqb (mark_index end)
 
 in_page-other : (x end work : ℕ) → (mark_index end ≡ mark_index x → ⊥) → in_page x end work ≡ 0
 in_page-other x end work other =
-    ap (λ b. cond b work 0) (and_left (eqb (page_of end) (page_of x)) (leb end x) (ne_eqb (page_of end) (page_of x) (λ same. other (ap (λ n. n % 256) same))))
+    ap (λ b. cond b work 0) (and_left (eqb (page_of end) (page_of x)) (leb end x) (ne_eqb (page_of end) (page_of x) (λ same. other (ap (λ n. n % 512) same))))
 
 in_page-early : (x end work : ℕ) → x < end → in_page x end work ≡ 0
 in_page-early x end work early =
@@ -263,10 +263,10 @@ works-none j (s ∷ ss) none =
     ]
 
 -- the page of a time has passed
-IsMarked-passed : (time : ℕ) (rows : List Span) (mark : Mark) → (time + 1) % 128 ≡ 0 → IsMarked time rows (mark_index time) mark → IsMarked (time + 1) rows (mark_index time) (passed time mark)
+IsMarked-passed : (time : ℕ) (rows : List Span) (mark : Mark) → (time + 1) % 64 ≡ 0 → IsMarked time rows (mark_index time) mark → IsMarked (time + 1) rows (mark_index time) (passed time mark)
 IsMarked-passed time rows mark border h =
     let j = mark_index time in
-    cond_both (eqb mark.count 0) (record mark { low = (page_of time + 256) * 128 }) mark (IsMarked (time + 1) rows j)
+    cond_both (eqb mark.count 0) (record mark { low = (page_of time + 512) * 64 }) mark (IsMarked (time + 1) rows j)
     (λ t.
     let none : mark.count ≡ 0 = eqb-true mark.count 0 t in
     record {
@@ -283,7 +283,7 @@ pub IsMarked-first_mark : (j : ℕ) → IsMarked 0 [] j (first_mark j)
 IsMarked-first_mark j = record { count = refl; works = refl; low = λ some x late of. omega (arith, of) }
 
 -- a mark that is put among the marks
-AreMarked-put : {time later : ℕ} {rows new : List Span} {marks : List Mark} (i : ℕ) (mark : Mark) → AreMarked time rows marks → i < 256 → ((j : ℕ) (m : Mark) → (i ≡ j → ⊥) → IsMarked time rows j m → IsMarked later new j m) → IsMarked later new i mark → AreMarked later new (set marks i mark)
+AreMarked-put : {time later : ℕ} {rows new : List Span} {marks : List Mark} (i : ℕ) (mark : Mark) → AreMarked time rows marks → i < 512 → ((j : ℕ) (m : Mark) → (i ≡ j → ⊥) → IsMarked time rows j m → IsMarked later new j m) → IsMarked later new i mark → AreMarked later new (set marks i mark)
 AreMarked-put {later = later} {new = new} {marks = marks} i mark h within others own =
     let same = length-set marks i mark in
     record {
@@ -302,10 +302,10 @@ AreMarked-put {later = later} {new = new} {marks = marks} i mark h within others
     }
 
 -- the mark at a place
-pub IsMarked-at : {time : ℕ} {rows : List Span} {marks : List Mark} (i : ℕ) → AreMarked time rows marks → i < 256 → IsMarked time rows i (get_or marks i blank_mark)
+pub IsMarked-at : {time : ℕ} {rows : List Span} {marks : List Mark} (i : ℕ) → AreMarked time rows marks → i < 512 → IsMarked time rows i (get_or marks i blank_mark)
 IsMarked-at {marks = marks} i h within = h.each i (get_or marks i blank_mark) (slice_get-get_or marks i blank_mark (omega (arith, within, h.length)))
 
-mark_index-within : (x : ℕ) → mark_index x < 256
+mark_index-within : (x : ℕ) → mark_index x < 512
 mark_index-within x = omega arith
 
 pub AreMarked-gained : (time : ℕ) (rows new : List Span) (marks : List Mark) (end work : ℕ) → Gains rows new end work → AreMarked time rows marks → AreMarked time new (set marks (mark_index end) (with_end end work (get_or marks (mark_index end) blank_mark)))
@@ -328,7 +328,7 @@ AreMarked-changed time rows new marks end work change moves may h =
     let i = mark_index end in
     AreMarked-put i _ h (mark_index-within end) (λ j m other. IsMarked-Agrees (Agrees-Moves j moves other)) (IsMarked-changed time rows new end work change _ moves may (IsMarked-at i h (mark_index-within end)))
 
-pub AreMarked-passed : (time : ℕ) (rows : List Span) (marks : List Mark) → (time + 1) % 128 ≡ 0 → AreMarked time rows marks → AreMarked (time + 1) rows (set marks (mark_index time) (passed time (get_or marks (mark_index time) blank_mark)))
+pub AreMarked-passed : (time : ℕ) (rows : List Span) (marks : List Mark) → (time + 1) % 64 ≡ 0 → AreMarked time rows marks → AreMarked (time + 1) rows (set marks (mark_index time) (passed time (get_or marks (mark_index time) blank_mark)))
 AreMarked-passed time rows marks border h =
     let i = mark_index time in
     AreMarked-put i _ h (mark_index-within time) (λ j m other. IsMarked-later (omega arith)) (IsMarked-passed time rows _ border (IsMarked-at i h (mark_index-within time)))
@@ -380,10 +380,10 @@ few_works {rows = rows} {marks = marks} x h light few =
 
 -- marks of which so many are first_mark
 pub record AreFirst (marks : List Mark) (n : ℕ) : Type 0 where
-  pub length : length marks ≡ 256
+  pub length : length marks ≡ 512
   pub each : (j : ℕ) → j < n → get_or marks j blank_mark ≡ first_mark j
 
-pub AreFirst-next : (marks : List Mark) (n : ℕ) (mark : Mark) → mark ≡ first_mark n → n < 256 → AreFirst marks n → AreFirst (set marks n mark) (n + 1)
+pub AreFirst-next : (marks : List Mark) (n : ℕ) (mark : Mark) → mark ≡ first_mark n → n < 512 → AreFirst marks n → AreFirst (set marks n mark) (n + 1)
 AreFirst-next marks n mark is within h =
     record {
       length = length-set marks n mark ∙ h.length;
@@ -394,7 +394,7 @@ AreFirst-next marks n mark is within h =
           ];
     }
 
-pub AreMarked-AreFirst : (marks : List Mark) (n : ℕ) → 256 ≤ n → AreFirst marks n → AreMarked 0 [] marks
+pub AreMarked-AreFirst : (marks : List Mark) (n : ℕ) → 512 ≤ n → AreFirst marks n → AreMarked 0 [] marks
 AreMarked-AreFirst marks n all h =
     record {
       length = h.length;

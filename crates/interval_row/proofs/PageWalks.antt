@@ -15,13 +15,13 @@ use Rattle.spare_capacity.proofs.Free.{rest-filled}
 use Rattle.interval_row.specs.Changes.{ends_before}
 use Rattle.interval_row.specs.Lifts.{raised_at, AreAtMost, MayRaise}
 use Rattle.interval_row.specs.Marks.{count_at, mark_index, AreTimed}
-use Rattle.interval_row.specs.Rows.{with_work_at, AreRows}
+use Rattle.interval_row.specs.Spans.{with_work_at, AreFilled}
 use Rattle.interval_row.specs.Walks.{after_walk, walked, AreInPages, PagesGiveNone, IsPageOf}
 use Rattle.interval_row.specs.declared.walk_back.Walk.{Walk}
 use Rattle.interval_row.proofs.CutTimes.{ends_before-ended, ends_before-later, ends_before-page, ends_before-start, AreInLap, IsInLap}
 use Rattle.interval_row.proofs.Cycles.{last_end-some}
 use Rattle.interval_row.proofs.Fillings.{first_start-filled, last_end-filled}
-use Rattle.interval_row.proofs.Kept.{AreBare-with_work_at, AreRows-AreBare}
+use Rattle.interval_row.proofs.Kept.{AreBare-with_work_at, AreFilled-AreBare}
 use Rattle.interval_row.proofs.Works.{first_start-with_work_at, last_end-with_work_at}
 use Rattle.interval_row.proofs.Marked.{of_all, of_all-cons, Moves-filled, Moves-with_work_at}
 use Rattle.interval_row.proofs.WalkBack.{length-walked, walked-end, IsWithin, IsWithin-spare}
@@ -79,18 +79,18 @@ pub slice_get-drop : (k : ℕ) (rows new : List Span) → drop k new ≡ drop k 
 slice_get-drop k rows new same = sym (first-drop k new) ∙ ap (λ xs. slice_get xs 0) same ∙ first-drop k rows
 
 -- rows follow on where they do at the end of a walk
-pub follows-walk : (walk : Walk) (rows : List Span) → AreRows (after_walk walk rows) → FollowOn (first_start rows) rows
+pub follows-walk : (walk : Walk) (rows : List Span) → AreFilled (after_walk walk rows) → FollowOn (first_start rows) rows
 follows-walk walk rows are =
     subst (λ n. FollowOn n rows) (first_start-walked walk.more walk.index rows) (FollowOn-walked (first_start (after_walk walk rows)) walk.more walk.index rows are.consecutive)
 
 -- within a lap a span has the mark of a page where it ends in it
-before-page : (time end page : ℕ) → time ≤ end → end < page * 128 → page < time / 128 + 256 → mark_index end ≡ page % 256 → ⊥
+before-page : (time end page : ℕ) → time ≤ end → end < page * 64 → page < time / 64 + 512 → mark_index end ≡ page % 512 → ⊥
 before-page time end page late early high same = omega (arith, late, early, high, same)
 
-after-page : (time end page : ℕ) → (page + 1) * 128 ≤ end → end < (time / 128 + 256) * 128 → time / 128 ≤ page → mark_index end ≡ page % 256 → ⊥
+after-page : (time end page : ℕ) → (page + 1) * 64 ≤ end → end < (time / 64 + 512) * 64 → time / 64 ≤ page → mark_index end ≡ page % 512 → ⊥
 after-page time end page after near low same = omega (arith, after, near, low, same)
 
-in-page : (end page : ℕ) → page * 128 ≤ end → end < (page + 1) * 128 → mark_index end ≡ page % 256
+in-page : (end page : ℕ) → page * 64 ≤ end → end < (page + 1) * 64 → mark_index end ≡ page % 512
 in-page end page low high = omega (arith, low, high)
 
 -- a bound below 0, before and after, is one on what spans give
@@ -101,75 +101,75 @@ PagesGiveNone-AreAtMost j high more (s ∷ ss) low after h =
 
 -- spans in a lap from a time on, and one of its pages
 pub record IsPageIn (time page : ℕ) : Type 0 where
-  pub low : time / 128 ≤ page
-  pub high : page < time / 128 + 256
+  pub low : time / 64 ≤ page
+  pub high : page < time / 64 + 512
 
 -- a page leaves the spans after it
-raised_at-later : (time start page : ℕ) (more : ℤ) (rows : List Span) → IsPageIn time page → FollowOn start rows → AllByRecursion (IsInLap time) rows → (page + 1) * 128 ≤ start → raised_at (page % 256) more rows ≡ rows
+raised_at-later : (time start page : ℕ) (more : ℤ) (rows : List Span) → IsPageIn time page → FollowOn start rows → AllByRecursion (IsInLap time) rows → (page + 1) * 64 ≤ start → raised_at (page % 512) more rows ≡ rows
 raised_at-later time start page more [] is follow all after = refl
 raised_at-later time start page more (s ∷ ss) is follow all after =
-    let late : (page + 1) * 128 ≤ s.end = omega (arith, follow.0, follow.1, after) in
-    rw (ne_eqb (mark_index s.end) (page % 256) (after-page time s.end page late all.0.near is.low)) (ap (λ xs. s ∷ xs) (raised_at-later time s.end page more ss is follow.4 all.1 late))
+    let late : (page + 1) * 64 ≤ s.end = omega (arith, follow.0, follow.1, after) in
+    rw (ne_eqb (mark_index s.end) (page % 512) (after-page time s.end page late all.0.near is.low)) (ap (λ xs. s ∷ xs) (raised_at-later time s.end page more ss is follow.4 all.1 late))
 
 -- spans of which the first ends in a page or later: those of the page follow as a whole
 record FollowWhole (page : ℕ) (more : ℤ) (rows : List Span) : Type 0 where
-  carry : carry more (take (ends_before ((page + 1) * 128) rows) rows) ≡ more
-  spans : walked more (ends_before ((page + 1) * 128) rows) rows ≡ raised_at (page % 256) more rows
+  carry : carry more (take (ends_before ((page + 1) * 64) rows) rows) ≡ more
+  spans : walked more (ends_before ((page + 1) * 64) rows) rows ≡ raised_at (page % 512) more rows
 
-whole-first : (time start page : ℕ) (more : ℤ) (s : Span) (ss : List Span) → IsPageIn time page → FollowOn start (s ∷ ss) → AllByRecursion (IsInLap time) (s ∷ ss) → page * 128 ≤ s.end → PagesGiveNone (page % 256) more (s ∷ ss) → FollowWhole page more ss → FollowWhole page more (s ∷ ss)
+whole-first : (time start page : ℕ) (more : ℤ) (s : Span) (ss : List Span) → IsPageIn time page → FollowOn start (s ∷ ss) → AllByRecursion (IsInLap time) (s ∷ ss) → page * 64 ≤ s.end → PagesGiveNone (page % 512) more (s ∷ ss) → FollowWhole page more ss → FollowWhole page more (s ∷ ss)
 whole-first time start page more s ss is follow all reached none rest =
-    let y = (page + 1) * 128 in
+    let y = (page + 1) * 64 in
     elim (cases_lt s.end y) [
       | inl here ↦
-          let own : mark_index s.end ≡ page % 256 = in-page s.end page reached here in
+          let own : mark_index s.end ≡ page % 512 = in-page s.end page reached here in
           let count : ends_before y (s ∷ ss) ≡ suc (ends_before y ss) = ends_before-ended y s ss here in
           let gives = none.0 own in
           let passes : repaid s.spare (s.spare +ℤ more) ≡ more = omega (arith, ints, clamps, gives.0, gives.1) in
           let on : repaid s.spare (s.spare +ℤ carry more (take (ends_before y ss) ss)) ≡ more = rw rest.carry passes in
           record {
             carry = rw count on;
-            spans = rw (count, eq-eqb (mark_index s.end) (page % 256) own) (ap (λ c. raised c s ∷ walked more (ends_before y ss) ss) rest.carry ∙ ap (λ xs. raised more s ∷ xs) rest.spans);
+            spans = rw (count, eq-eqb (mark_index s.end) (page % 512) own) (ap (λ c. raised c s ∷ walked more (ends_before y ss) ss) rest.carry ∙ ap (λ xs. raised more s ∷ xs) rest.spans);
           }
       | inr late ↦
           let count : ends_before y (s ∷ ss) ≡ 0 = ends_before-later y s ss late ∙ ends_before-start s.end y ss follow.4 late in
           let same = raised_at-later time s.end page more ss is follow.4 all.1 late in
           record {
             carry = rw count refl;
-            spans = rw (count, ne_eqb (mark_index s.end) (page % 256) (after-page time s.end page late all.0.near is.low)) (ap (λ xs. s ∷ xs) (sym same));
+            spans = rw (count, ne_eqb (mark_index s.end) (page % 512) (after-page time s.end page late all.0.near is.low)) (ap (λ xs. s ∷ xs) (sym same));
           }
     ]
 
-whole : (time start page : ℕ) (more : ℤ) (rows : List Span) → IsPageIn time page → FollowOn start rows → AllByRecursion (IsInLap time) rows → page * 128 ≤ start → PagesGiveNone (page % 256) more rows → FollowWhole page more rows
+whole : (time start page : ℕ) (more : ℤ) (rows : List Span) → IsPageIn time page → FollowOn start rows → AllByRecursion (IsInLap time) rows → page * 64 ≤ start → PagesGiveNone (page % 512) more rows → FollowWhole page more rows
 whole time start page more [] is follow all late none = record { carry = refl; spans = refl }
 whole time start page more (s ∷ ss) is follow all late none =
-    let reached : page * 128 ≤ s.end = omega (arith, follow.0, follow.1, late) in
+    let reached : page * 64 ≤ s.end = omega (arith, follow.0, follow.1, late) in
     whole-first time start page more s ss is follow all reached none (whole time s.end page more ss is follow.4 all.1 reached none.1)
 
 -- a page whose spans have nothing to give is passed at once: the spans before it follow what all of
 -- them do
 pub record PassesPage (page : ℕ) (more : ℤ) (rows : List Span) : Type 0 where
   pub carry :
-      carry more (take (ends_before (page * 128) rows) (raised_at (page % 256) more rows))
-      ≡ carry more (take (ends_before ((page + 1) * 128) rows) rows)
+      carry more (take (ends_before (page * 64) rows) (raised_at (page % 512) more rows))
+      ≡ carry more (take (ends_before ((page + 1) * 64) rows) rows)
   pub spans :
-      walked more (ends_before (page * 128) rows) (raised_at (page % 256) more rows)
-      ≡ walked more (ends_before ((page + 1) * 128) rows) rows
+      walked more (ends_before (page * 64) rows) (raised_at (page % 512) more rows)
+      ≡ walked more (ends_before ((page + 1) * 64) rows) rows
 
-pub PassesPage-PagesGiveNone : (time start page : ℕ) (more : ℤ) (rows : List Span) → IsPageIn time page → FollowOn start rows → AllByRecursion (IsInLap time) rows → PagesGiveNone (page % 256) more rows → PassesPage page more rows
+pub PassesPage-PagesGiveNone : (time start page : ℕ) (more : ℤ) (rows : List Span) → IsPageIn time page → FollowOn start rows → AllByRecursion (IsInLap time) rows → PagesGiveNone (page % 512) more rows → PassesPage page more rows
 PassesPage-PagesGiveNone time start page more [] is follow all none = record { carry = refl; spans = refl }
 PassesPage-PagesGiveNone time start page more (s ∷ ss) is follow all none =
-    elim (cases_lt s.end (page * 128)) [
+    elim (cases_lt s.end (page * 64)) [
       | inl early ↦
           let rest = PassesPage-PagesGiveNone time s.end page more ss is follow.4 all.1 none.1 in
-          let low : ends_before (page * 128) (s ∷ ss) ≡ suc (ends_before (page * 128) ss) = ends_before-ended (page * 128) s ss early in
-          let high : ends_before ((page + 1) * 128) (s ∷ ss) ≡ suc (ends_before ((page + 1) * 128) ss) = ends_before-ended ((page + 1) * 128) s ss (omega (arith, early)) in
-          let other = ne_eqb (mark_index s.end) (page % 256) (before-page time s.end page all.0.late early is.high) in
+          let low : ends_before (page * 64) (s ∷ ss) ≡ suc (ends_before (page * 64) ss) = ends_before-ended (page * 64) s ss early in
+          let high : ends_before ((page + 1) * 64) (s ∷ ss) ≡ suc (ends_before ((page + 1) * 64) ss) = ends_before-ended ((page + 1) * 64) s ss (omega (arith, early)) in
+          let other = ne_eqb (mark_index s.end) (page % 512) (before-page time s.end page all.0.late early is.high) in
           record {
             carry = rw (low, high, other) (ap (λ c. repaid s.spare (s.spare +ℤ c)) rest.carry);
-            spans = rw (low, high, other) (ap (λ c. raised c s ∷ walked more (ends_before (page * 128) ss) (raised_at (page % 256) more ss)) rest.carry ∙ ap (λ xs. raised (carry more (take (ends_before ((page + 1) * 128) ss) ss)) s ∷ xs) rest.spans);
+            spans = rw (low, high, other) (ap (λ c. raised c s ∷ walked more (ends_before (page * 64) ss) (raised_at (page % 512) more ss)) rest.carry ∙ ap (λ xs. raised (carry more (take (ends_before ((page + 1) * 64) ss) ss)) s ∷ xs) rest.spans);
           }
       | inr reached ↦
-          let low : ends_before (page * 128) (s ∷ ss) ≡ 0 = ends_before-later (page * 128) s ss reached ∙ ends_before-start s.end (page * 128) ss follow.4 reached in
+          let low : ends_before (page * 64) (s ∷ ss) ≡ 0 = ends_before-later (page * 64) s ss reached ∙ ends_before-start s.end (page * 64) ss follow.4 reached in
           let all_of = whole-first time start page more s ss is follow all reached none (whole time s.end page more ss is follow.4 all.1 reached none.1) in
           record { carry = rw low (sym all_of.carry); spans = rw low (sym all_of.spans) }
     ]
@@ -184,34 +184,34 @@ MayRaise-raised_at j more (s ∷ ss) all = (
   MayRaise-raised_at j more ss all.1,
 )
 
-pub MayRaise-walked : (time start page : ℕ) (more : ℤ) (rows : List Span) → IsPageIn time page → FollowOn start rows → AllByRecursion (IsInLap time) rows → AllByRecursion (λ (s : Span). IsWithin s.spare) (walked more (ends_before (page * 128) rows) (raised_at (page % 256) more rows)) → MayRaise (page % 256) more rows
+pub MayRaise-walked : (time start page : ℕ) (more : ℤ) (rows : List Span) → IsPageIn time page → FollowOn start rows → AllByRecursion (IsInLap time) rows → AllByRecursion (λ (s : Span). IsWithin s.spare) (walked more (ends_before (page * 64) rows) (raised_at (page % 512) more rows)) → MayRaise (page % 512) more rows
 MayRaise-walked time start page more [] is follow all near = tt
 MayRaise-walked time start page more (s ∷ ss) is follow all near =
-    elim (cases_lt s.end (page * 128)) [
+    elim (cases_lt s.end (page * 64)) [
       | inl early ↦
-          let low : ends_before (page * 128) (s ∷ ss) ≡ suc (ends_before (page * 128) ss) = ends_before-ended (page * 128) s ss early in
+          let low : ends_before (page * 64) (s ∷ ss) ≡ suc (ends_before (page * 64) ss) = ends_before-ended (page * 64) s ss early in
           let other = before-page time s.end page all.0.late early is.high in
           let rest = (rw low at near).1 in
           (λ own. absurd (other own), MayRaise-walked time s.end page more ss is follow.4 all.1 rest)
       | inr reached ↦
-          let low : ends_before (page * 128) (s ∷ ss) ≡ 0 = ends_before-later (page * 128) s ss reached ∙ ends_before-start s.end (page * 128) ss follow.4 reached in
-          MayRaise-raised_at (page % 256) more (s ∷ ss) (rw low at near)
+          let low : ends_before (page * 64) (s ∷ ss) ≡ 0 = ends_before-later (page * 64) s ss reached ∙ ends_before-start s.end (page * 64) ss follow.4 reached in
+          MayRaise-raised_at (page % 512) more (s ∷ ss) (rw low at near)
     ]
 
 -- the capacities of a page are below a bound where those of its stretch of spans are
 abbrev pub AreUpTo : ℤ → List Span → Type 0
 AreUpTo high rows = AllByRecursion (λ (s : Span). s.spare ≤ℤ high) rows
 
-AreAtMost-later : (time start page : ℕ) (high : ℤ) (rows : List Span) → IsPageIn time page → FollowOn start rows → AllByRecursion (IsInLap time) rows → (page + 1) * 128 ≤ start → AreAtMost (page % 256) high rows
+AreAtMost-later : (time start page : ℕ) (high : ℤ) (rows : List Span) → IsPageIn time page → FollowOn start rows → AllByRecursion (IsInLap time) rows → (page + 1) * 64 ≤ start → AreAtMost (page % 512) high rows
 AreAtMost-later time start page high [] is follow all after = tt
 AreAtMost-later time start page high (s ∷ ss) is follow all after =
-    let late : (page + 1) * 128 ≤ s.end = omega (arith, follow.0, follow.1, after) in
+    let late : (page + 1) * 64 ≤ s.end = omega (arith, follow.0, follow.1, after) in
     (λ own. absurd (after-page time s.end page late all.0.near is.low own), AreAtMost-later time s.end page high ss is follow.4 all.1 late)
 
-below-from : (time start page n : ℕ) (high : ℤ) (rows : List Span) → IsPageIn time page → FollowOn start rows → AllByRecursion (IsInLap time) rows → ends_before ((page + 1) * 128) rows ≡ n → AreUpTo high (take n rows) → AreAtMost (page % 256) high rows
+below-from : (time start page n : ℕ) (high : ℤ) (rows : List Span) → IsPageIn time page → FollowOn start rows → AllByRecursion (IsInLap time) rows → ends_before ((page + 1) * 64) rows ≡ n → AreUpTo high (take n rows) → AreAtMost (page % 512) high rows
 below-from time start page n high [] is follow all count up = tt
 below-from time start page n high (s ∷ ss) is follow all count up =
-    let y = (page + 1) * 128 in
+    let y = (page + 1) * 64 in
     elim (cases_lt s.end y) [
       | inl here ↦
           let more : n ≡ suc (ends_before y ss) = sym count ∙ ends_before-ended y s ss here in
@@ -221,17 +221,17 @@ below-from time start page n high (s ∷ ss) is follow all count up =
           (λ own. absurd (after-page time s.end page late all.0.near is.low own), AreAtMost-later time s.end page high ss is follow.4 all.1 late)
     ]
 
-pub AreAtMost-AreUpTo : (time start page n : ℕ) (high : ℤ) (rows : List Span) → IsPageIn time page → FollowOn start rows → AllByRecursion (IsInLap time) rows → ends_before ((page + 1) * 128) rows ≡ ends_before (page * 128) rows + n → AreUpTo high (take n (drop (ends_before (page * 128) rows) rows)) → AreAtMost (page % 256) high rows
+pub AreAtMost-AreUpTo : (time start page n : ℕ) (high : ℤ) (rows : List Span) → IsPageIn time page → FollowOn start rows → AllByRecursion (IsInLap time) rows → ends_before ((page + 1) * 64) rows ≡ ends_before (page * 64) rows + n → AreUpTo high (take n (drop (ends_before (page * 64) rows) rows)) → AreAtMost (page % 512) high rows
 AreAtMost-AreUpTo time start page n high [] is follow all count up = tt
 AreAtMost-AreUpTo time start page n high (s ∷ ss) is follow all count up =
-    elim (cases_lt s.end (page * 128)) [
+    elim (cases_lt s.end (page * 64)) [
       | inl early ↦
-          let low : ends_before (page * 128) (s ∷ ss) ≡ suc (ends_before (page * 128) ss) = ends_before-ended (page * 128) s ss early in
-          let high_of : ends_before ((page + 1) * 128) (s ∷ ss) ≡ suc (ends_before ((page + 1) * 128) ss) = ends_before-ended ((page + 1) * 128) s ss (omega (arith, early)) in
-          let rest : AreUpTo high (take n (drop (ends_before (page * 128) ss) ss)) = rw low at up in
+          let low : ends_before (page * 64) (s ∷ ss) ≡ suc (ends_before (page * 64) ss) = ends_before-ended (page * 64) s ss early in
+          let high_of : ends_before ((page + 1) * 64) (s ∷ ss) ≡ suc (ends_before ((page + 1) * 64) ss) = ends_before-ended ((page + 1) * 64) s ss (omega (arith, early)) in
+          let rest : AreUpTo high (take n (drop (ends_before (page * 64) ss) ss)) = rw low at up in
           (λ own. absurd (before-page time s.end page all.0.late early is.high own), AreAtMost-AreUpTo time s.end page n high ss is follow.4 all.1 (omega (arith, count, low, high_of)) rest)
       | inr reached ↦
-          let low : ends_before (page * 128) (s ∷ ss) ≡ 0 = ends_before-later (page * 128) s ss reached ∙ ends_before-start s.end (page * 128) ss follow.4 reached in
+          let low : ends_before (page * 64) (s ∷ ss) ≡ 0 = ends_before-later (page * 64) s ss reached ∙ ends_before-start s.end (page * 64) ss follow.4 reached in
           below-from time start page n high (s ∷ ss) is follow all (omega (arith, count, low)) (rw low at up)
     ]
 
@@ -245,8 +245,8 @@ pub AreAtPage-walk : (walk : Walk) (page : ℕ) (rows : List Span) (marks : List
 AreAtPage-walk walk page rows marks pages is =
     let start = first_start rows in
     let same : first_start (after_walk walk rows) ≡ start = first_start-walked walk.more walk.index rows in
-    let follow = follows-walk walk rows pages.rows in
-    let some : 1 ≤ length rows = omega (arith, pages.rows.some, length-walked walk.more walk.index rows) in
+    let follow = follows-walk walk rows pages.filled in
+    let some : 1 ≤ length rows = omega (arith, pages.filled.some, length-walked walk.more walk.index rows) in
     let end : last_end 0 (after_walk walk rows) ≡ last_end start rows = last_end-walked 0 walk.more walk.index rows ∙ last_end-some 0 start rows some in
     record {
       is = record { low = omega (arith, is.first, same); high = omega (arith, is.last, same) };
@@ -264,19 +264,19 @@ up-more : (high more : ℤ) (rows : List Span) → high ≤ℤ more → AreUpTo 
 up-more high more [] l h = tt
 up-more high more (s ∷ ss) l h = (omega (arith, ints, l, h.0), up-more high more ss l h.1)
 
-pub AreUpTo-next : (high more : ℤ) (k n : ℕ) (row : Span) (old new : List Span) → slice_get new k ≡ Some row → drop (suc k) new ≡ drop (suc k) old → row.spare ≤ℤ more → high ≤ℤ more → AreUpTo high (take n (drop (suc k) old)) → AreUpTo more (take (suc n) (drop k new))
-AreUpTo-next high more k n row old new at same here l up =
+pub AreUpTo-next : (high more : ℤ) (k n : ℕ) (span : Span) (old new : List Span) → slice_get new k ≡ Some span → drop (suc k) new ≡ drop (suc k) old → span.spare ≤ℤ more → high ≤ℤ more → AreUpTo high (take n (drop (suc k) old)) → AreUpTo more (take (suc n) (drop k new))
+AreUpTo-next high more k n span old new at same here l up =
     let one : k + 1 ≡ suc k = omega arith in
-    let first : drop k new ≡ row ∷ drop (suc k) old =
-    (rw one at (drop_more new k no_row (slice_get_within new k row at)))
-    ∙ ap (λ s. s ∷ drop (suc k) new) (get_or_from_slice_get new k row no_row at)
-    ∙ ap (λ xs. row ∷ xs) same in
+    let first : drop k new ≡ span ∷ drop (suc k) old =
+    (rw one at (drop_more new k no_row (slice_get_within new k span at)))
+    ∙ ap (λ s. s ∷ drop (suc k) new) (get_or_from_slice_get new k span no_row at)
+    ∙ ap (λ xs. span ∷ xs) same in
     rw first (here, up-more high more (take n (drop (suc k) old)) l up)
 
 -- how many spans of a page there are, as its mark tells
-pub count_at-page : (page : ℕ) (walk : Walk) (rows : List Span) (marks : List Mark) (mark : Mark) → AreInPages (after_walk walk rows) marks → AreAtPage page rows → slice_get marks (page % 256) ≡ Some mark → ends_before ((page + 1) * 128) rows ≡ ends_before (page * 128) rows + mark.count
+pub count_at-page : (page : ℕ) (walk : Walk) (rows : List Span) (marks : List Mark) (mark : Mark) → AreInPages (after_walk walk rows) marks → AreAtPage page rows → slice_get marks (page % 512) ≡ Some mark → ends_before ((page + 1) * 64) rows ≡ ends_before (page * 64) rows + mark.count
 count_at-page page walk rows marks mark pages at told =
-    omega (arith, ends_before-page (first_start rows) page rows at.lap at.is.low at.is.high, pages.counts (page % 256) mark told, count_at-walked (page % 256) walk.more walk.index rows)
+    omega (arith, ends_before-page (first_start rows) page rows at.lap at.is.low at.is.high, pages.counts (page % 512) mark told, count_at-walked (page % 512) walk.more walk.index rows)
 
 -- all capacities are within bounds
 AreWithin : (start : ℕ) (rows : List Span) → FollowOn start rows → rows ≡ filled rows → length rows ≤ 2 ^ 20 → AllByRecursion (λ (s : Span). IsWithin s.spare) rows
@@ -286,27 +286,27 @@ AreWithin start (s ∷ ss) follow e few =
 
 -- where a walk comes to a page that gives nothing, it passes the page
 pub record PassesTo (walk : Walk) (page count : ℕ) (rows : List Span) : Type 0 where
-  pub may : MayRaise (page % 256) walk.more rows
+  pub may : MayRaise (page % 512) walk.more rows
   pub spans :
-      after_walk (record { index = walk.index - count; more = walk.more }) (raised_at (page % 256) walk.more rows)
+      after_walk (record { index = walk.index - count; more = walk.more }) (raised_at (page % 512) walk.more rows)
       ≡ after_walk walk rows
-  pub place : walk.index - count ≡ ends_before (page * 128) (raised_at (page % 256) walk.more rows)
+  pub place : walk.index - count ≡ ends_before (page * 64) (raised_at (page % 512) walk.more rows)
 
-pub PassesTo-PagesGiveNone : (walk : Walk) (page : ℕ) (mark : Mark) (rows : List Span) (marks : List Mark) → AreInPages (after_walk walk rows) marks → IsPageOf (after_walk walk rows) page → slice_get marks (page % 256) ≡ Some mark → walk.index ≡ ends_before ((page + 1) * 128) rows → PagesGiveNone (page % 256) walk.more rows → PassesTo walk page mark.count rows
+pub PassesTo-PagesGiveNone : (walk : Walk) (page : ℕ) (mark : Mark) (rows : List Span) (marks : List Mark) → AreInPages (after_walk walk rows) marks → IsPageOf (after_walk walk rows) page → slice_get marks (page % 512) ≡ Some mark → walk.index ≡ ends_before ((page + 1) * 64) rows → PagesGiveNone (page % 512) walk.more rows → PassesTo walk page mark.count rows
 PassesTo-PagesGiveNone walk page mark rows marks pages is told place none =
     let at = AreAtPage-walk walk page rows marks pages is in
     let count = count_at-page page walk rows marks mark pages at told in
-    let low : ends_before (page * 128) rows ≡ walk.index - mark.count = omega (arith, place, count) in
+    let low : ends_before (page * 64) rows ≡ walk.index - mark.count = omega (arith, place, count) in
     let start = first_start rows in
-    let new = raised_at (page % 256) walk.more rows in
+    let new = raised_at (page % 512) walk.more rows in
     let passes = PassesPage-PagesGiveNone start start page walk.more rows at.is at.follow at.lap none in
-    let same : walked walk.more (ends_before (page * 128) rows) new ≡ after_walk walk rows = passes.spans ∙ ap (λ n. walked walk.more n rows) (sym place) in
+    let same : walked walk.more (ends_before (page * 64) rows) new ≡ after_walk walk rows = passes.spans ∙ ap (λ n. walked walk.more n rows) (sym place) in
     let spans : walked walk.more (walk.index - mark.count) new ≡ after_walk walk rows = rw low at same in
-    let within = AreWithin (first_start (after_walk walk rows)) (after_walk walk rows) pages.rows.consecutive pages.rows.filled pages.rows.few in
+    let within = AreWithin (first_start (after_walk walk rows)) (after_walk walk rows) pages.filled.consecutive pages.filled.filled pages.filled.few in
     record {
       may = MayRaise-walked start start page walk.more rows at.is at.follow at.lap (subst (λ xs. AllByRecursion (λ (s : Span). IsWithin s.spare) xs) (sym same) within);
       spans = spans;
-      place = sym low ∙ sym (ends_before-walks (page * 128) (record { index = walk.index - mark.count; more = walk.more }) walk new rows spans);
+      place = sym low ∙ sym (ends_before-walks (page * 64) (record { index = walk.index - mark.count; more = walk.more }) walk new rows spans);
     }
 
 -- a walk has ended where nothing is repaid, or no span is left
@@ -319,31 +319,31 @@ walked-done walk rows done =
     ap (λ z. walked z walk.index rows) zero ∙ walked-end rows walk.index))
 
 -- before the first page no span is left
-pub none-before : (y : ℕ) (walk : Walk) (rows : List Span) → AreRows (after_walk walk rows) → y ≤ first_start (after_walk walk rows) → ends_before y rows ≡ 0
+pub none-before : (y : ℕ) (walk : Walk) (rows : List Span) → AreFilled (after_walk walk rows) → y ≤ first_start (after_walk walk rows) → ends_before y rows ≡ 0
 none-before y walk rows are early =
     ends_before-start (first_start rows) y rows (follows-walk walk rows are) (omega (arith, early, first_start-walked walk.more walk.index rows))
 
 -- what a walk asks of rows where one has another work
 pub record CanWalk (start end : ℕ) (target : List Span) (marks : List Mark) : Type 0 where
-  pub rows : AreRows target
+  pub filled : AreFilled target
   pub starts : first_start target ≡ start
   pub ends : last_end 0 target ≡ end
-  pub pages : end < (start / 128 + 256) * 128 → AreInPages target marks
+  pub pages : end < (start / 64 + 512) * 64 → AreInPages target marks
 
-pub CanWalk-AreTimed : {start end : ℕ} {rows : List Span} {marks : List Mark} (place work : ℕ) (row : Span) → AreTimed start end rows marks → slice_get rows place ≡ Some row → work ≤ 2 ^ 40 → CanWalk start end (filled (with_work_at place work rows)) marks
-CanWalk-AreTimed {start = start} {end = end} {rows = rows} {marks = marks} place work row h at few =
+pub CanWalk-AreTimed : {start end : ℕ} {rows : List Span} {marks : List Mark} (place work : ℕ) (span : Span) → AreTimed start end rows marks → slice_get rows place ≡ Some span → work ≤ 2 ^ 40 → CanWalk start end (filled (with_work_at place work rows)) marks
+CanWalk-AreTimed {start = start} {end = end} {rows = rows} {marks = marks} place work span h at few =
     let new = with_work_at place work rows in
-    let are = AreRows-AreBare new (AreBare-with_work_at place work rows few h.rows) in
+    let are = AreFilled-AreBare new (AreBare-with_work_at place work rows few h.filled) in
     let starts : first_start (filled new) ≡ start = first_start-filled new ∙ first_start-with_work_at place work rows ∙ sym h.starts in
     let ends : last_end 0 (filled new) ≡ end = last_end-filled 0 new ∙ last_end-with_work_at place work 0 rows ∙ sym h.ends in
-    let moves = Moves-filled (Moves-with_work_at rows place work row at) in
+    let moves = Moves-filled (Moves-with_work_at rows place work span at) in
     record {
-      rows = are;
+      filled = are;
       starts = starts;
       ends = ends;
       pages = λ lap.
           record {
-            rows = are;
+            filled = are;
             lap = omega (arith, lap, starts, ends);
             length = h.marked.length;
             counts = λ j mark told. omega (arith, (h.marked.each j mark told).count, moves.sums (λ end work. cond (eqb (mark_index end) j) 1 0));

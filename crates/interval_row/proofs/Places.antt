@@ -1,4 +1,4 @@
--- The place of the first row that ends at x or later.
+-- The place of the first span that ends at x or later.
 use Rattle.std.proofs.Common.{◌≡◌, ℕ, zero, suc, ◌<◌, ◌≤◌, ◌^◌, true, false, List, [], ◌∷◌, length, get_or, Option, Some, None, IsSome, IsSomeAnd, eqb, inl, inr, refl, ap, subst, sym, arith}
 use Rattle.std.proofs.lemmas.Bool.{false≢true, cases_eq, eq-eqb, ne_eqb, lt-ltb, le-ltb}
 use Rattle.std.proofs.lemmas.Option.{get_or_from_slice_get, slice_get_within}
@@ -8,9 +8,9 @@ use Rattle.spare_capacity.specs.PlanSpans.{AreProper}
 use Rattle.spare_capacity.specs.Recurrence.{FollowOn, last_end}
 use Rattle.spare_capacity.proofs.Steps.{no_row}
 use Rattle.interval_row.specs.Changes.{span_ending, with_work}
-use Rattle.interval_row.specs.Rows.{place_of, with_work_at}
+use Rattle.interval_row.specs.Spans.{place_of, with_work_at}
 
--- no row of consecutive ones ends before they start
+-- no span of consecutive ones ends before they start
 end-le : (start : ℕ) (rows : List Span) (k : ℕ) (d : Span) → FollowOn start rows → k < length rows → start ≤ (get_or rows k d).end
 end-le start [] k d h l = elim l [ ]
 end-le start (s ∷ ss) zero d h l = omega (arith, h.0, h.1)
@@ -22,7 +22,7 @@ end-lt start [] k h proper l = elim l [ ]
 end-lt start (s ∷ ss) zero h proper l = omega (arith, h.0, proper.0)
 end-lt start (s ∷ ss) (suc k) h proper l = omega (arith, h.0, h.1, end-lt s.end ss k h.4 proper.1 (omega arith))
 
--- the row at a place is the one that ends there, where it does
+-- the span at a place is the one that ends there, where it does
 pub place_of-ending : (start x : ℕ) (rows : List Span) (k : ℕ) → FollowOn start rows → AreProper rows → k < length rows → (get_or rows k no_row).end ≡ x → k ≡ place_of x rows
 place_of-ending start x [] k h proper l ends = elim l [ ]
 place_of-ending start x (s ∷ ss) zero h proper l ends = rw (le-ltb s.end x (omega (arith, ends))) refl
@@ -47,7 +47,7 @@ end-le-last_end start [] k h l = elim l [ ]
 end-le-last_end start (s ∷ ss) zero h l = (omega (arith, h.1, last_end-ge s.end ss h.4), last_end-ge s.end ss h.4)
 end-le-last_end start (s ∷ ss) (suc k) h l = end-le-last_end s.end ss k h.4 (omega arith)
 
--- the row that ends at a deadline: where it stands, what holds of it, and how its work changes
+-- the span that ends at a deadline: where it stands, what holds of it, and how its work changes
 pub record IsDueAt (deadline : ℕ) (P : Span → Type 0) (rows : List Span) (place : ℕ) : Type 0 where
   pub within : place < length rows
   pub ends : (get_or rows place no_row).end ≡ deadline
@@ -59,7 +59,7 @@ IsSomeAnd-IsSome : (o : Option Span) → IsSome o → IsSomeAnd o (λ s. Unit {0
 IsSomeAnd-IsSome None found = absurd (false≢true found)
 IsSomeAnd-IsSome (Some s) found = tt
 
--- a row that is found ends at the deadline, so no row before it does
+-- a span that is found ends at the deadline, so no span before it does
 pub IsDueAt-span_ending : (start : ℕ) (rows : List Span) (deadline : ℕ) (P : Span → Type 0) → FollowOn start rows → IsSomeAnd (span_ending deadline rows) P → IsDueAt deadline P rows (place_of deadline rows)
 IsDueAt-span_ending start [] deadline P h found = elim found [ ]
 IsDueAt-span_ending start (s ∷ ss) deadline P h found =

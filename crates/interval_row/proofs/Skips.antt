@@ -19,15 +19,15 @@ pub record Crosses (time : ℕ) (rows : List Span) (front : Front) (place : Span
   pub follow : FollowOn time rows
   pub is : IsFront rows front
   pub at : slice_get rows front.count ≡ Some place
-  pub border : place.start / 128 < place.end / 128
+  pub border : place.start / 64 < place.end / 64
 
 pub late : {time : ℕ} {rows : List Span} {front : Front} {place : Span} → Crosses time rows front place → time ≤ place.start
 late {time = time} {rows = rows} {front = front} {place = place} h = start-at time front.count rows place h.follow h.at
 
 -- its front is what ends before that page
-before-page : {time : ℕ} {rows : List Span} {front : Front} {place : Span} → Crosses time rows front place → IsBefore (place.end / 128 * 128) rows front
+before-page : {time : ℕ} {rows : List Span} {front : Front} {place : Span} → Crosses time rows front place → IsBefore (place.end / 64 * 64) rows front
 before-page {time = time} {rows = rows} {front = front} {place = place} h =
-    let y = place.end / 128 * 128 in
+    let y = place.end / 64 * 64 in
     let count : ends_before y rows ≡ front.count = ends_before-inside time y front.count rows place h.follow h.at (omega (arith, h.border)) (omega arith) in
     record {
       count = sym count;
@@ -36,13 +36,13 @@ before-page {time = time} {rows = rows} {front = front} {place = place} h =
 
 -- the pages up to one are passed
 pub record ArePassed (rows : List Span) (front now : Front) (place : Span) (until asked page : ℕ) : Type 0 where
-  pub from : place.end / 128 ≤ page
-  pub before : IsBefore (page * 128) rows now
+  pub from : place.end / 64 ≤ page
+  pub before : IsBefore (page * 64) rows now
   pub more : front.count ≤ now.count
-  pub reached : place.end / 128 < page → page * 128 ≤ until
-  pub room : (x : ℕ) → place.end ≤ x → x < page * 128 → asked + work_until rows x ≤ x
+  pub reached : place.end / 64 < page → page * 64 ≤ until
+  pub room : (x : ℕ) → place.end ≤ x → x < page * 64 → asked + work_until rows x ≤ x
 
-pub ArePassed-none : {time : ℕ} {rows : List Span} {front : Front} {place : Span} (until asked : ℕ) → Crosses time rows front place → ArePassed rows front front place until asked (place.end / 128)
+pub ArePassed-none : {time : ℕ} {rows : List Span} {front : Front} {place : Span} (until asked : ℕ) → Crosses time rows front place → ArePassed rows front front place until asked (place.end / 64)
 ArePassed-none until asked h =
     record {
       from = omega arith;
@@ -52,22 +52,22 @@ ArePassed-none until asked h =
       room = λ x low high. absurd (omega (arith, low, high));
     }
 
-pub ArePassed-next : {time : ℕ} {rows : List Span} {front now : Front} {place : Span} {until asked page : ℕ} (mark : Mark) → Crosses time rows front place → AllByRecursion (IsInLap time) rows → page < time / 128 + 256 → page < until / 128 → IsMarked time rows (page % 256) mark → 1 ≤ asked → asked + now.works ≤ mark.low → ArePassed rows front now place until asked page → ArePassed rows front (record { count = now.count + mark.count; works = now.works + mark.works }) place until asked (page + 1)
+pub ArePassed-next : {time : ℕ} {rows : List Span} {front now : Front} {place : Span} {until asked page : ℕ} (mark : Mark) → Crosses time rows front place → AllByRecursion (IsInLap time) rows → page < time / 64 + 512 → page < until / 64 → IsMarked time rows (page % 512) mark → 1 ≤ asked → asked + now.works ≤ mark.low → ArePassed rows front now place until asked page → ArePassed rows front (record { count = now.count + mark.count; works = now.works + mark.works }) place until asked (page + 1)
 ArePassed-next {time = time} {rows = rows} {front = front} {now = now} {place = place} {until = until} {asked = asked} {page = page} mark h all lap within marked some enough passed =
-    let after : time / 128 ≤ page = omega (arith, late h, h.border, passed.from) in
+    let after : time / 64 ≤ page = omega (arith, late h, h.border, passed.from) in
     record {
       from = omega (arith, passed.from);
       before = IsBefore-page time page rows now mark all after lap marked passed.before;
       more = omega (arith, passed.more);
       reached = λ l. omega (arith, within);
       room = λ x low high.
-          elim (cases_lt x (page * 128)) [
+          elim (cases_lt x (page * 64)) [
             | inl early ↦ passed.room x low early
             | inr inside ↦
-                let here : x / 128 ≡ page = omega (arith, inside, high) in
-                let own : mark_index x ≡ page % 256 = ap (λ n. n % 256) here in
+                let here : x / 64 ≡ page = omega (arith, inside, high) in
+                let own : mark_index x ≡ page % 512 = ap (λ n. n % 512) here in
                 let told = marked.low (omega (arith, some, enough)) x (omega (arith, late h, h.border, low)) own in
-                let due : work_until rows x ≡ works_before (page * 128) rows + works_in_page x rows = work_until-page x rows ∙ ap (λ n. works_before (n * 128) rows + works_in_page x rows) here in
+                let due : work_until rows x ≡ works_before (page * 64) rows + works_in_page x rows = work_until-page x rows ∙ ap (λ n. works_before (n * 64) rows + works_in_page x rows) here in
                 omega (arith, told, due, passed.before.works, enough)
           ];
     }
@@ -94,25 +94,25 @@ Skipped-none rows front place until asked is at =
     }
 
 -- the place of the first page is still the same
-still : {time : ℕ} {rows : List Span} {front now : Front} {place : Span} {until asked page : ℕ} → Crosses time rows front place → ArePassed rows front now place until asked page → page ≤ place.end / 128 → now.count ≡ front.count
+still : {time : ℕ} {rows : List Span} {front now : Front} {place : Span} {until asked page : ℕ} → Crosses time rows front place → ArePassed rows front now place until asked page → page ≤ place.end / 64 → now.count ≡ front.count
 still {rows = rows} {place = place} {page = page} h passed first =
-    let same : page ≡ place.end / 128 = omega (arith, first, passed.from) in
-    passed.before.count ∙ ap (λ n. ends_before (n * 128) rows) same ∙ sym (before-page h).count
+    let same : page ≡ place.end / 64 = omega (arith, first, passed.from) in
+    passed.before.count ∙ ap (λ n. ends_before (n * 64) rows) same ∙ sym (before-page h).count
 
 pub Skipped-ArePassed : {time : ℕ} {rows : List Span} {front now : Front} {place : Span} {until asked page : ℕ} → Crosses time rows front place → until ≤ last_end time rows → ArePassed rows front now place until asked page → Skipped rows front now place until asked
 Skipped-ArePassed {time = time} {rows = rows} {front = front} {now = now} {place = place} {until = until} {asked = asked} {page = page} h ends passed =
-    let y = page * 128 in
+    let y = page * 64 in
     let after : time < y = omega (arith, late h, h.border, passed.from) in
     record {
       is = IsFront-IsBefore time y rows now h.follow passed.before;
       later = passed.more;
       within =
-          elim (cases_lt (place.end / 128) page) [
+          elim (cases_lt (place.end / 64) page) [
             | inl more ↦ omega (arith, passed.before.count, ends_before-within time y rows h.follow after (omega (arith, passed.reached more, ends)))
             | inr first ↦ omega (arith, still h passed first, slice_get_within rows front.count place h.at)
           ];
       reached = λ later at more.
-          elim (cases_lt (place.end / 128) page) [
+          elim (cases_lt (place.end / 64) page) [
             | inl further ↦
                 let next = ComesNext-at time y rows later h.follow (rw passed.before.count at at) in
                 omega (arith, next.starts after, passed.reached further)
@@ -122,7 +122,7 @@ Skipped-ArePassed {time = time} {rows = rows} {front = front} {now = now} {place
           elim (cases_lt x y) [
             | inl early ↦ passed.room x low early
             | inr reached ↦
-                elim (cases_lt (place.end / 128) page) [
+                elim (cases_lt (place.end / 64) page) [
                   | inl more ↦
                       let due = work_until-next time y x rows later h.follow (rw passed.before.count at at) reached high in
                       let last = work_until-last y rows (omega (arith, after)) in
@@ -135,6 +135,6 @@ Skipped-ArePassed {time = time} {rows = rows} {front = front} {now = now} {place
     }
 
 -- a place whose span reaches another page than it starts in
-pub crosses : {time : ℕ} {rows : List Span} {front : Front} {place : Span} → FollowOn time rows → IsFront rows front → slice_get rows front.count ≡ Some place → (place.start / 128 ≡ place.end / 128 → ⊥) → Crosses time rows front place
+pub crosses : {time : ℕ} {rows : List Span} {front : Front} {place : Span} → FollowOn time rows → IsFront rows front → slice_get rows front.count ≡ Some place → (place.start / 64 ≡ place.end / 64 → ⊥) → Crosses time rows front place
 crosses {time = time} {rows = rows} {front = front} {place = place} follow is at other =
     record { follow = follow; is = is; at = at; border = omega (arith, rises-at time front.count rows place follow at, other) }

@@ -5,7 +5,7 @@ use Rattle.interval_row.specs.declared.table.Spot.{Spot}
 use Rattle.spare_capacity.specs.Recurrence.{first_start}
 use Rattle.interval_row.specs.Tables.{spans_of_pairs, spot_at, IsTable}
 use Rattle.interval_row.specs.Tables.{numbered}
-use Rattle.interval_row.specs.Rows.{AreRows}
+use Rattle.interval_row.specs.Spans.{AreFilled}
 
 pub spans_of_pairs-numbered : (n : ℕ) (spans : List Span) → spans_of_pairs (numbered n spans) ≡ spans
 spans_of_pairs-numbered n [] = refl
@@ -44,8 +44,8 @@ StandsAt-spot_at n (s ∷ ss) (suc i) spot e =
     record { within = omega (arith, rest.within); place = omega (arith, rest.place) }
 
 -- rows in a room are a table
-pub IsTable-AreRows : (rows : List Span) (room : ℕ) → AreRows rows → length rows ≤ room → room ≤ 2 ^ 20 → IsTable (first_start rows) (numbered 0 rows) room
-IsTable-AreRows rows room h few small =
+pub IsTable-AreFilled : (rows : List Span) (room : ℕ) → AreFilled rows → length rows ≤ room → room ≤ 2 ^ 20 → IsTable (first_start rows) (numbered 0 rows) room
+IsTable-AreFilled rows room h few small =
     let spans : spans_of_pairs (numbered 0 rows) ≡ rows = spans_of_pairs-numbered 0 rows in
     record {
       some = omega (arith, h.some, length-numbered 0 rows);

@@ -3,11 +3,11 @@ use Rattle.std.proofs.Common.{◌≡◌, ℕ, zero, suc, List, [], ◌∷◌, se
 use Rattle.std.proofs.lemmas.List.{map-set}
 use Rattle.slot_core.specs.declared.jobs.Span.{Span}
 use Rattle.node_chain.specs.declared.chain.NodeId.{NodeId}
-use Rattle.interval_row.specs.Stores.{spans_of}
+use Rattle.interval_row.specs.Stores.{chain_spans}
 
 -- a pair that is set
-pub spans_of-set : (ps : List (NodeId × Span)) (i : ℕ) (p : NodeId × Span) → spans_of (set ps i p) ≡ set (spans_of ps) i p.1
-spans_of-set ps i p = map-set (λ (q : NodeId × Span). q.1) ps i p
+pub chain_spans-set : (ps : List (NodeId × Span)) (i : ℕ) (p : NodeId × Span) → chain_spans (set ps i p) ≡ set (chain_spans ps) i p.1
+chain_spans-set ps i p = map-set (λ (q : NodeId × Span). q.1) ps i p
 
 -- an item that is put in, under a function of each
 pub map-insert : {X Y : Type 0} (f : X → Y) (xs : List X) (i : ℕ) (x : X) → map f (insert xs i x) ≡ insert (map f xs) i (f x)

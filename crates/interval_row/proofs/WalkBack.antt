@@ -1,9 +1,10 @@
 -- The capacities of rows whose spans are set one by one.
-use Rattle.std.proofs.Common.{◌≡◌, ℕ, zero, suc, ◌+◌, ◌-◌, ◌*◌, ◌<◌, ◌≤◌, ◌^◌, ℤ, pos, neg_ℤ, ◌+ℤ◌, ◌-ℤ◌, ◌≤ℤ◌, List, [], ◌∷◌, ◌++◌, length, get_or, set, insert, take, take-suc, drop, add-one, ltb, cond, inl, inr, refl, sym, subst, ◌∙◌, ap, arith}
+use Rattle.std.proofs.Common.{◌≡◌, ℕ, zero, suc, ◌+◌, ◌-◌, ◌*◌, ◌<◌, ◌≤◌, ◌^◌, ℤ, pos, neg_ℤ, ◌+ℤ◌, ◌-ℤ◌, ◌≤ℤ◌, List, [], ◌∷◌, ◌++◌, length, get_or, set, slice_get, Some, insert, take, take-suc, drop, add-one, ltb, cond, inl, inr, refl, sym, subst, ◌∙◌, ap, arith}
 use Rattle.std.proofs.lemmas.Bool.{lt-ltb, le-ltb, ne_eqb, cases_lt}
 use Rattle.std.proofs.lemmas.Int.{ints, clamps}
 use Rattle.std.proofs.lemmas.List.{append_assoc, drop-set, drop_more, set_split, take-append-drop, take-set}
 use Rattle.std.proofs.lemmas.List.Sums.{sum_by-cons}
+use Rattle.std.proofs.lemmas.Option.{get_or_from_slice_get}
 use Rattle.slot_core.specs.declared.jobs.Span.{Span}
 use Rattle.spare_capacity.specs.Recurrence.{filled, first_spare, with_spare, FollowOn}
 use Rattle.spare_capacity.specs.PlanSpans.{AreProper}
@@ -14,7 +15,7 @@ use Rattle.spare_capacity.proofs.Free.{rest-filled}
 use Rattle.spare_capacity.proofs.Lending.{filled-moved, moved-append, moved-zero}
 use Rattle.spare_capacity.proofs.Steps.{no_row, first_spare-low}
 use Rattle.interval_row.specs.Changes.{after_pass, ends_before, part_before, part_from}
-use Rattle.interval_row.specs.Rows.{place_of, with_work_at, AreRows, HoldsInside}
+use Rattle.interval_row.specs.Spans.{place_of, with_work_at, AreFilled, HoldsInside}
 use Rattle.interval_row.specs.declared.spans.Change.{Change}
 use Rattle.interval_row.specs.declared.spans.Change.TheVariants.{More, Fewer}
 use Rattle.interval_row.specs.Walks.{walked}
@@ -80,19 +81,19 @@ IsWithin-spare start (s ∷ ss) zero h e few l =
     record { low = omega (arith, ints, low, same); high = omega (arith, ints, clamps, own) }
 IsWithin-spare start (s ∷ ss) (suc k) h e few l = IsWithin-spare s.end ss k h.4 (rest-filled s ss e) (omega arith) (omega arith)
 
--- a consecutive row is short
+-- a consecutive span is short
 pub IsShort-at : (start : ℕ) (rows : List Span) (k : ℕ) → FollowOn start rows → k < length rows → IsShort (get_or rows k no_row)
 IsShort-at start [] k h l = elim l [ ]
 IsShort-at start (s ∷ ss) zero h l = record { rising = h.1; length = h.2; work = h.3 }
 IsShort-at start (s ∷ ss) (suc k) h l = IsShort-at s.end ss k h.4 (omega arith)
 
--- a row inside which a time lies starts before it and ends after it
+-- a span inside which a time lies starts before it and ends after it
 pub HoldsInside-at : (x k : ℕ) (rows : List Span) → HoldsInside x k rows → ((get_or rows k no_row).start < x) × (x < (get_or rows k no_row).end)
 HoldsInside-at x k [] inside = elim inside [ ]
 HoldsInside-at x zero (s ∷ ss) inside = inside
 HoldsInside-at x (suc k) (s ∷ ss) inside = HoldsInside-at x k ss inside
 
--- a proper row ends after it starts
+-- a proper span ends after it starts
 pub IsProper-first : (rows : List Span) → AreProper rows → 1 ≤ length rows → (get_or rows 0 no_row).start < (get_or rows 0 no_row).end
 IsProper-first [] h some = absurd (omega arith)
 IsProper-first (s ∷ ss) h some = h.0
@@ -120,7 +121,7 @@ changed_spare s m (Fewer slots) e may =
     let own : s.spare ≡ (with_spare s m).spare = ap (λ (x : Span). x.spare) e in
     omega (arith, ints, clamps, own)
 
--- each row has its capacity by the one after it
+-- each span has its capacity by the one after it
 own_spare : (rows : List Span) (k : ℕ) → rows ≡ filled rows → k < length rows → get_or rows k no_row ≡ with_spare (get_or rows k no_row) (first_spare (drop (suc k) rows))
 own_spare [] k e l = elim l [ ]
 own_spare (s ∷ ss) zero e l = filled-first s ss e
@@ -130,25 +131,25 @@ own_spare_after : (rows : List Span) (k : ℕ) → rows ≡ filled rows → k < 
 own_spare_after rows k e l = rw add-one (own_spare rows k e l)
 
 -- what is more work is less to spare
-pub with_spare-changed : (rows : List Span) (k : ℕ) (change : Change) (row : Span) → rows ≡ filled rows → k < length rows → row ≡ get_or rows k no_row → MayChangeBy change row.work → record row { work = changed_by change row.work; spare = spare_by change row.spare } ≡ with_spare (record row { work = changed_by change row.work }) (first_spare (drop (k + 1) rows))
-with_spare-changed rows k change row e l is may =
-    let own : row ≡ with_spare row (first_spare (drop (k + 1) rows)) = rw is (own_spare_after rows k e l) in
-    ap (λ z. record row { work = changed_by change row.work; spare = z }) (changed_spare row (first_spare (drop (k + 1) rows)) change own may)
+pub with_spare-changed : (rows : List Span) (k : ℕ) (change : Change) (span : Span) → rows ≡ filled rows → k < length rows → span ≡ get_or rows k no_row → MayChangeBy change span.work → record span { work = changed_by change span.work; spare = spare_by change span.spare } ≡ with_spare (record span { work = changed_by change span.work }) (first_spare (drop (k + 1) rows))
+with_spare-changed rows k change span e l is may =
+    let own : span ≡ with_spare span (first_spare (drop (k + 1) rows)) = rw is (own_spare_after rows k e l) in
+    ap (λ z. record span { work = changed_by change span.work; spare = z }) (changed_spare span (first_spare (drop (k + 1) rows)) change own may)
 
--- a row is put in the place of one, with another work and its capacity: the rows before it follow
-pub walked-put : (rows : List Span) (k : ℕ) (was row : Span) → AreRows rows → k < length rows → was ≡ get_or rows k no_row → row ≡ with_spare (record was { work = row.work }) (first_spare (drop (k + 1) rows)) → walked (repaid was.spare row.spare) k (set rows k row) ≡ filled (with_work_at k row.work rows)
-walked-put rows k was row h l is put =
+-- a span is put in the place of one, with another work and its capacity: the rows before it follow
+pub walked-put : (rows : List Span) (k : ℕ) (was span : Span) → AreFilled rows → k < length rows → was ≡ get_or rows k no_row → span ≡ with_spare (record was { work = span.work }) (first_spare (drop (k + 1) rows)) → walked (repaid was.spare span.spare) k (set rows k span) ≡ filled (with_work_at k span.work rows)
+walked-put rows k was span h l is put =
     let rest = drop (k + 1) rows in
-    let worked = record (get_or rows k no_row) { work = row.work } in
+    let worked = record (get_or rows k no_row) { work = span.work } in
     let one : k + 1 ≡ suc k = omega arith in
     let later : filled rest ≡ rest = sym (drop-filled (k + 1) rows) ∙ ap (drop (k + 1)) (sym h.filled) in
-    let made : row ≡ with_spare worked (first_spare rest) = rw is at put in
+    let made : span ≡ with_spare worked (first_spare rest) = rw is at put in
     let whole : take k rows ++ drop k rows ≡ filled (take k rows ++ drop k rows) = rw take-append-drop h.filled in
     let first : first_spare (drop k rows) ≡ was.spare = ap first_spare (drop_more rows k no_row l) ∙ ap (λ (s : Span). s.spare) (sym is) in
     let split : set rows k worked ≡ take k rows ++ worked ∷ rest = rw one (set_split rows k worked l) in
-    cc (filled-moved (take k rows) (drop k rows) (worked ∷ rest) whole, set-with_work_at k row.work rows l, take-set rows k row, drop-set rows k row l)
+    cc (filled-moved (take k rows) (drop k rows) (worked ∷ rest) whole, set-with_work_at k span.work rows l, take-set rows k span, drop-set rows k span l)
 
--- the row before the place is raised, and the rows before that one follow
+-- the span before the place is raised, and the rows before that one follow
 pub walked-next : (rows : List Span) (k : ℕ) (more : ℤ) → k < length rows → walked (repaid (get_or rows k no_row).spare ((get_or rows k no_row).spare +ℤ more)) k (set rows k (raised more (get_or rows k no_row))) ≡ walked more (suc k) rows
 walked-next rows k more l =
     let s = get_or rows k no_row in
@@ -171,17 +172,24 @@ walked-last more zero (s ∷ ss) l = refl
 walked-last more (suc k) (s ∷ ss) l = walked-last more k ss (omega arith)
 
 -- where the walk is to pass it, since it becomes one of rows
-pub IsWithin-raised : (rows : List Span) (k : ℕ) (more : ℤ) → k < length rows → AreRows (walked more (suc k) rows) → IsWithin ((get_or rows k no_row).spare +ℤ more)
+pub IsWithin-raised : (rows : List Span) (k : ℕ) (more : ℤ) → k < length rows → AreFilled (walked more (suc k) rows) → IsWithin ((get_or rows k no_row).spare +ℤ more)
 IsWithin-raised rows k more l are =
     let near = IsWithin-spare _ _ k are.consecutive are.filled are.few (omega (arith, l, length-walked more (suc k) rows)) in
     subst (λ (s : Span). IsWithin s.spare) (walked-last more k rows l) near
+
+-- as it is read
+pub IsWithin-read : (rows : List Span) (n : ℕ) (more : ℤ) (s : Span) → 1 ≤ n → n ≤ length rows → AreFilled (walked more n rows) → slice_get rows (n - 1) ≡ Some s → IsWithin (s.spare +ℤ more)
+IsWithin-read rows n more s some l are at =
+    let next : n ≡ suc (n - 1) = omega (arith, some) in
+    let filled : AreFilled (walked more (suc (n - 1)) rows) = subst (λ k. AreFilled (walked more k rows)) next are in
+    subst (λ (t : Span). IsWithin (t.spare +ℤ more)) (get_or_from_slice_get rows (n - 1) s no_row at) (IsWithin-raised rows (n - 1) more (omega (arith, some, l)) filled)
 
 second_spare : (s : Span) (m : ℤ) (x : ℕ) → s ≡ with_spare s m → s.start < x → x < s.end → s.spare -ℤ pos (x - s.start) ≡ (with_spare (part_from x s) m).spare
 second_spare s m x e low high =
     let own : s.spare ≡ (with_spare s m).spare = ap (λ (y : Span). y.spare) e in
     omega (arith, ints, clamps, own)
 
--- a row that becomes two with their capacities leaves all others as they are
+-- a span that becomes two with their capacities leaves all others as they are
 pub halves-filled : (x k : ℕ) (rows : List Span) (first second : Span) → rows ≡ filled rows → HoldsInside x k rows → second ≡ record (part_from x (get_or rows k no_row)) { spare = (get_or rows k no_row).spare -ℤ pos (x - (get_or rows k no_row).start) } → first ≡ with_spare (part_before x (get_or rows k no_row)) second.spare → set (insert rows k first) (suc k) second ≡ filled (halved k x rows)
 halves-filled x k [] first second e inside b a = elim inside [ ]
 halves-filled x zero (s ∷ ss) first second e inside b a =

@@ -1,15 +1,15 @@
--- A new work of one row.
+-- A new work of one span.
 use Rattle.std.proofs.Common.{◌≡◌, ℕ, zero, suc, ◌<◌, ◌≤◌, ◌^◌, List, [], ◌∷◌, length, get_or, set, refl, ap, arith}
 use Rattle.slot_core.specs.declared.jobs.Span.{Span}
 use Rattle.spare_capacity.specs.Recurrence.{FollowOn, first_start, last_end}
 use Rattle.spare_capacity.proofs.Steps.{no_row}
 use Rattle.spare_capacity.specs.PlanSpans.{AreProper}
-use Rattle.interval_row.specs.Rows.{with_work_at}
+use Rattle.interval_row.specs.Spans.{with_work_at}
 use Rattle.interval_row.specs.declared.spans.Change.{Change}
 use Rattle.interval_row.specs.declared.spans.Change.TheVariants.{More, Fewer}
 use Rattle.interval_row.specs.Works.{changed_by, MayChangeBy}
 
--- to write the row with the work
+-- to write the span with the work
 pub set-with_work_at : (place work : ℕ) (rows : List Span) → place < length rows → set rows place (record (get_or rows place no_row) { work = work }) ≡ with_work_at place work rows
 set-with_work_at place work [] l = elim l [ ]
 set-with_work_at zero work (s ∷ ss) l = refl

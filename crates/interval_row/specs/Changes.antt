@@ -54,9 +54,9 @@ apart_from at spans = filter (λ (s : Span). nat_lt s.end at || nat_lt at s.star
 abbrev pub shifted : ℕ → Span → Span
 shifted by s = record s { start = s.start + by; end = s.end + by }
 
--- the rows, and then the spans shifted to their last end
+-- spans, and then those of a plan shifted to their last end
 abbrev pub appended : List Span → List Span → List Span
-appended spans rows = rows ++ map (shifted (last_end 0 rows)) spans
+appended plan spans = spans ++ map (shifted (last_end 0 spans)) plan
 
 -- so many copies of the spans, one after the other
 abbrev pub copies_of : List Span → ℕ → List Span

@@ -65,7 +65,7 @@ walk_of_run = refl
 
 -- spans of which the last has run, and the two before it, of another page, have nothing to give
 abbrev pub lacking : List Span
-lacking = span 0 60 63 (negsuc 7) ∷ span 60 100 42 (negsuc 4) ∷ span 100 140 42 (negsuc 1) ∷ []
+lacking = span 0 30 33 (negsuc 7) ∷ span 30 50 22 (negsuc 4) ∷ span 50 90 42 (negsuc 1) ∷ []
 
 -- both follow as one
 pub walk_by_page :
@@ -74,9 +74,9 @@ walk_by_page = refl
 
 -- spans that end in two pages of one mark, a lap apart, and one between
 abbrev pub far : List Span
-far = span 0 100 7 (pos 93) ∷ span 100 150 9 (pos 41) ∷ span 150 32800 5 (pos 32645) ∷ []
+far = span 0 50 7 (pos 43) ∷ span 50 100 9 (pos 41) ∷ span 100 32800 5 (pos 32695) ∷ []
 
-pub far_marks : mark_index 100 ∷ mark_index 150 ∷ mark_index 32800 ∷ [] ≡ 0 ∷ 1 ∷ 0 ∷ []
+pub far_marks : mark_index 50 ∷ mark_index 100 ∷ mark_index 32800 ∷ [] ≡ 0 ∷ 1 ∷ 0 ∷ []
 far_marks = refl
 
 -- so two spans have the mark at 0, with twelve slots of work, of which five are in the later page
@@ -93,17 +93,17 @@ far_page = refl
 pub marks_followed :
     without_end
     120
-    (with_cut (with_change (More 1) (with_end 504 9 (with_end 484 120 (first_mark 3)))))
+    (with_cut (with_change (More 1) (with_end 504 9 (with_end 484 120 (first_mark 7)))))
     ≡ record { count = 2; works = 10; low = 363 }
 marks_followed = refl
 
 -- an empty page that has passed is the one a lap later
-pub mark_passed : passed 127 (first_mark 0) ≡ record { count = 0; works = 0; low = 32768 }
+pub mark_passed : passed 63 (first_mark 0) ≡ record { count = 0; works = 0; low = 32768 }
 mark_passed = refl
 
 -- a slot less for the spans that end in the pages of the mark at 0
 abbrev pub far_less : List Span
-far_less = span 0 100 7 (pos 92) ∷ span 100 150 9 (pos 41) ∷ span 150 32800 5 (pos 32644) ∷ []
+far_less = span 0 50 7 (pos 42) ∷ span 50 100 9 (pos 41) ∷ span 100 32800 5 (pos 32694) ∷ []
 
 pub far_raised : raised_at 0 (negsuc 0) far ≡ far_less
 far_raised = refl

@@ -2,7 +2,7 @@ pub mod Changes
 pub mod Examples
 pub mod Lifts
 pub mod Marks
-pub mod Rows
+pub mod Spans
 pub mod Stores
 pub mod Tables
 pub mod Walks

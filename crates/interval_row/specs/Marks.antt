@@ -8,7 +8,7 @@ use Rattle.node_chain.specs.declared.marks.TheConstants.{LAP}
 use Rattle.interval_row.specs.declared.marks.TheConstants.{PAGE}
 use Rattle.interval_row.specs.declared.spans.Change.{Change}
 use Rattle.interval_row.specs.declared.spans.Change.TheVariants.{More, Fewer}
-use Rattle.interval_row.specs.Rows.{AreRows}
+use Rattle.interval_row.specs.Spans.{AreFilled}
 
 -- the page of a time
 abbrev pub page_of : ℕ → ℕ
@@ -80,9 +80,9 @@ abbrev pub passed : ℕ → Mark → Mark
 passed time mark =
     if mark.count == 0 then record mark { low = (page_of time + LAP) * PAGE } else mark
 
--- rows with their first start, their last end of at most 2 ^ 60, and their marks
+-- spans with their first start, their last end of at most 2 ^ 60, and their marks
 pub record AreTimed (start end : ℕ) (spans : List Span) (marks : List Mark) : Type 0 where
-  pub rows : AreRows spans
+  pub filled : AreFilled spans
   pub starts : start ≡ first_start spans
   pub ends : end ≡ last_end 0 spans
   pub near : end ≤ 2 ^ 60

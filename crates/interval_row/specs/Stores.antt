@@ -8,8 +8,8 @@ use Rattle.node_chain.specs.Orders.{OrderParts}
 use Rattle.interval_row.specs.Marks.{AreTimed}
 
 -- the spans of a chain without their ids
-abbrev pub spans_of : List (NodeId × Span) → List Span
-spans_of pairs = map (λ (p : NodeId × Span). p.1) pairs
+abbrev pub chain_spans : List (NodeId × Span) → List Span
+chain_spans pairs = map (λ (p : NodeId × Span). p.1) pairs
 
 -- what contracts see of a table: the spans, and how many there is room for
 pub record Stored : Type 0 where
@@ -29,10 +29,10 @@ pub record StoreParts : Type 0 where
   pub marks : List Mark
 
 -- no more spans than there is room for, at most 2 ^ 20, with a place reserved for each
-pub record FitRoom (row : OrderParts Span) (room : ℕ) : Type 0 where
-  pub few : length row.items ≤ room
+pub record FitRoom (order : OrderParts Span) (room : ℕ) : Type 0 where
+  pub few : length order.items ≤ room
   pub small : room ≤ 2 ^ 20
-  pub fits : room ≤ row.places
+  pub fits : room ≤ order.places
 
 -- the spans of a table with their first start, their last end and their marks, no more than there
 -- is room for, at most 2 ^ 20

@@ -9,7 +9,7 @@ use Rattle.node_chain.specs.declared.marks.TheConstants.{LAP}
 use Rattle.interval_row.specs.declared.marks.TheConstants.{PAGE}
 use Rattle.interval_row.specs.declared.walk_back.Walk.{Walk}
 use Rattle.interval_row.specs.Marks.{count_at, mark_index, page_of}
-use Rattle.interval_row.specs.Rows.{AreRows}
+use Rattle.interval_row.specs.Spans.{AreFilled}
 
 -- the spans, where the first k of them follow what the last of these is repaid, as it goes back
 -- through them by the law of lending
@@ -20,9 +20,9 @@ walked more k spans = moved more (take k spans) ++ drop k spans
 abbrev pub after_walk : Walk → List Span → List Span
 after_walk walk spans = walked walk.more walk.index spans
 
--- rows within a lap of pages, and marks that tell how many of them end in each page
+-- spans within a lap of pages, and marks that tell how many of them end in each page
 pub record AreInPages (spans : List Span) (marks : List Mark) : Type 0 where
-  pub rows : AreRows spans
+  pub filled : AreFilled spans
   pub lap : last_end 0 spans < (page_of (first_start spans) + LAP) * PAGE
   pub length : length marks ≡ LAP
   pub counts :

@@ -6,7 +6,7 @@ ghost use Rattle.slot_core.specs.declared.jobs.Span.{Span};
 ghost use Rattle.spare_capacity.specs.Recurrence.{filled, first_start, last_end};
 ghost use Rattle.interval_row.specs.Changes.{after_pass, appended, cut, ends_before, span_ending, with_work};
 ghost use Rattle.interval_row.specs.Marks.{AreMarked, AreTimed};
-ghost use Rattle.interval_row.specs.Rows.{place_of, AreRows, HoldsInside};
+ghost use Rattle.interval_row.specs.Spans.{place_of, AreFilled, HoldsInside};
 ghost use Rattle.interval_row.specs.Works.{changed_by, MayChangeBy};
 
 use crate::marks;
@@ -20,7 +20,7 @@ use std::sync::ledger::Ledger;
 /// Takes the first slot from the first span, which goes where that was its last. Returns the hint,
 /// and one less where the span went. At most three steps.
 pub(crate) fn pass<S: Store, L: Ledger>(store: &mut S, hint: u32, steps: &mut Steps<L>) -> u32
-    requires rows { AreRows (S.spans store.old) }
+    requires filled { AreFilled (S.spans store.old) }
     requires goes_on { first_start (S.spans store.old) + 1 < last_end 0 (S.spans store.old) }
     requires marked { AreMarked (first_start (S.spans store.old)) (S.spans store.old)
         (S.marks store.old) }
@@ -32,13 +32,13 @@ pub(crate) fn pass<S: Store, L: Ledger>(store: &mut S, hint: u32, steps: &mut St
     ensures steps { steps.old ≤ steps.new }
     ensures few_steps { steps.new ≤ steps.old + 3 }
 {
-    let row = store.at(0, steps);
-    if row.start + 1 == row.end {
+    let span = store.at(0, steps);
+    if span.start + 1 == span.end {
         let passed = store.pop_front(steps);
         marks::drop_span(store, passed);
         return hint.saturating_sub(1);
     }
-    store.set(0, spans::later_start(row), steps);
+    store.set(0, spans::later_start(span), steps);
     hint
 }
 
@@ -65,9 +65,9 @@ pub(crate) fn change_work<S: Store, L: Ledger>(
         + 3 * ends_before deadline (S.spans store.old) + 3 }
 {
     let place = find_hinted(store, times, hint, deadline, steps);
-    let row = spans::changed(place.row, change);
-    set_work(store, times, place, row, steps);
-    marks::change_span(store, place.row.end, change);
+    let span = spans::changed(place.span, change);
+    set_work(store, times, place, span, steps);
+    marks::change_span(store, place.span.end, change);
     place.index
 }
 
@@ -92,7 +92,7 @@ pub(crate) fn split<S: Store, L: Ledger>(
     ensures few_steps { steps.new ≤ steps.old + ends_before at (S.spans store.old) + 5 }
 {
     let place = find(store, times, at, steps);
-    if place.row.end != at {
+    if place.span.end != at {
         halve(store, place, at, steps);
         marks::cut_span(store, at);
     }
@@ -101,19 +101,19 @@ pub(crate) fn split<S: Store, L: Ledger>(
 
 /// The span at a place becomes two at `at`, with their capacities. Four steps.
 fn halve<S: Store, L: Ledger>(store: &mut S, place: FoundSpan, at: u64, steps: &mut Steps<L>)
-    requires rows { AreRows (S.spans store.old) }
+    requires filled { AreFilled (S.spans store.old) }
     requires free { length (S.spans store.old) < S.room store.old }
     requires found { place.index ≡ place_of at (S.spans store.old) }
-    requires row { slice_get (S.spans store.old) place.index ≡ Some place.row }
+    requires span { slice_get (S.spans store.old) place.index ≡ Some place.span }
     requires inside { HoldsInside at place.index (S.spans store.old) }
     ensures spans { S.spans store.new ≡ filled (cut at (S.spans store.old)) }
     ensures marks { S.marks store.new ≡ S.marks store.old }
     ensures room { S.room store.new ≡ S.room store.old }
     ensures steps { steps.new ≡ steps.old + 4 }
 {
-    let row = place.row;
-    let second = spans::lowered(spans::part_from(row, at), at - row.start);
-    let first = spans::refilled(spans::part_before(row, at), second);
+    let span = place.span;
+    let second = spans::lowered(spans::part_from(span, at), at - span.start);
+    let first = spans::refilled(spans::part_before(span, at), second);
     store.insert(place.index, first, steps);
     store.set(place.index + 1, second, steps);
 }
@@ -126,7 +126,7 @@ pub(crate) fn append<S: Store, L: Ledger>(
     steps: &mut Steps<L>,
 )
     requires free { length (S.spans store.old) + length spans.now ≤ S.room store.old }
-    requires spans { AreRows spans.now }
+    requires spans { AreFilled spans.now }
     requires end { by ≡ last_end 0 (S.spans store.old) }
     requires near { by + last_end 0 spans.now < 2 ^ 64 }
     requires few { length (S.spans store.old) + length spans.now ≤ 2 ^ 20 }

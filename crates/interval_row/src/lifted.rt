@@ -7,6 +7,7 @@ ghost use Rattle.interval_row.specs.Marks.{mark_index};
 
 use crate::marks::mark_index;
 use crate::shelf::Shelf;
+use crate::spans;
 use crate::store::Store;
 use node_chain::{Lift, Mark};
 use slot_core::{Memory, Span, Steps};
@@ -20,7 +21,7 @@ use std::sync::ledger::Ledger;
 /// is the capacity all the same. No capacity is above the `high` of its lift.
 #[derive(Drop)]
 pub struct Lifted<S: Shelf> {
-    shelf: S,
+    pub(crate) shelf: S,
 }
 
 impl<S: Shelf> Model for Lifted<S> {
@@ -67,11 +68,11 @@ impl<S: Shelf> Store for Lifted<S> {
         self.shelf.set(index, lowered_by(lift, span), steps);
     }
 
-    fn set_spare<L: Ledger>(&mut self, index: u32, row: Span, spare: i64, steps: &mut Steps<L>) {
-        let span = Span { spare, ..row };
-        let lift = cover(&mut self.shelf, span);
-        let kept = lowered_by(lift, span);
-        self.shelf.set_spare(index, kept.spare, steps);
+    fn raise_at<L: Ledger>(&mut self, index: u32, more: i64, steps: &mut Steps<L>) -> Span {
+        let kept = self.shelf.raise_at(index, more, steps);
+        let span = lifted_by(self.shelf.lift(mark_index(kept.end)), kept);
+        let _lift = cover(&mut self.shelf, spans::raised_by(span, more));
+        span
     }
 
     fn insert<L: Ledger>(&mut self, index: u32, span: Span, steps: &mut Steps<L>) {
@@ -154,10 +155,12 @@ fn cover<S: Shelf>(shelf: &mut S, span: Span) -> Lift
 {
     let index = mark_index(span.end);
     let lift = shelf.lift(index);
-    let after = Lift {
-        high: lift.high.max(span.spare),
-        ..lift
-    };
-    shelf.set_lift(index, after);
+    if lift.high < span.spare {
+        let after = Lift {
+            high: span.spare,
+            ..lift
+        };
+        shelf.set_lift(index, after);
+    }
     lift
 }

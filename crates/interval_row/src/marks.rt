@@ -11,7 +11,7 @@ use node_chain::{LAP, Mark};
 use slot_core::Span;
 
 /// How many slots a page has.
-pub const PAGE: u64 = 128;
+pub const PAGE: u64 = 64;
 
 /// The index of the mark of a time.
 pub(crate) fn mark_index(x: u64) -> u32
@@ -150,7 +150,7 @@ fn changed(mark: Mark, change: Change) -> Mark
 
 /// The time goes on by one slot.
 pub(crate) fn pass_time<S: Store>(store: &mut S, time: u64)
-    requires marks { length (S.marks store.old) ≡ LAP }
+    requires marked { AreMarked time (S.spans store.old) (S.marks store.old) }
     requires near { time ≤ 2 ^ 60 }
     ensures marked { (spans : List Span) → AreMarked time spans (S.marks store.old)
         → AreMarked (time + 1) spans (S.marks store.new) }
@@ -162,9 +162,10 @@ pub(crate) fn pass_time<S: Store>(store: &mut S, time: u64)
     }
 }
 
-/// The page of a time has passed.
+/// The page of a time has passed. Where no span has its mark, the mark is from then on that of the
+/// page a lap later, and its bound starts anew.
 fn leave_page<S: Store>(store: &mut S, time: u64)
-    requires marks { length (S.marks store.old) ≡ LAP }
+    requires marked { AreMarked time (S.spans store.old) (S.marks store.old) }
     requires near { time ≤ 2 ^ 60 }
     ensures marks { IfSome (slice_get (S.marks store.old) (mark_index time)) (λ m.
         S.marks store.new ≡ slice_set (S.marks store.old) (mark_index time) (passed time m)) }
@@ -173,10 +174,9 @@ fn leave_page<S: Store>(store: &mut S, time: u64)
 {
     let index = mark_index(time);
     let mark = store.mark(index);
-    let later = (time / PAGE + u64::from(LAP)) * PAGE;
-    let after = Mark {
-        low: if mark.count == 0 { later } else { mark.low },
-        ..mark
-    };
-    store.set_mark(index, after);
+    if mark.count == 0 {
+        let low = (time / PAGE + u64::from(LAP)) * PAGE;
+        store.set_mark(index, Mark { low, ..mark });
+        store.set_high(index, i64::MIN);
+    }
 }

@@ -1,6 +1,7 @@
 //! Spans in a plain list.
 
 use crate::shelf::Shelf;
+use crate::spans;
 use node_chain::order::Order;
 use node_chain::{Lift, Mark, Marks};
 use slot_core::{Memory, Span, Steps};
@@ -8,12 +9,11 @@ use std::alloc::Global;
 use std::marker::Model;
 use std::sync::ledger::Ledger;
 
-/// Spans in a list whose places are reserved once, and laps of marks
-/// and lifts. A table over it answers as
-/// every table does, and promises no bound on steps but that of `read`.
+/// Spans in a list whose places are reserved once, and laps of marks and lifts. A table
+/// over it answers as every table does, and promises no bound on steps but that of `read`.
 #[derive(Drop)]
 pub struct Rows {
-    rows: Order<Span>,
+    spans: Order<Span>,
     room: u32,
     laps: Marks,
 }
@@ -23,9 +23,9 @@ impl Model for Rows {
 
     ghost Value = { Listed };
 
-    ghost view = { λ r. record { spans = r.rows.items; room = r.room; laps = r.laps } };
+    ghost view = { λ r. record { spans = r.spans.items; room = r.room; laps = r.laps } };
 
-    ghost invariant = { λ r. FitRoom r.rows r.room };
+    ghost invariant = { λ r. FitRoom r.spans r.room };
 }
 
 impl Shelf for Rows {
@@ -41,48 +41,49 @@ impl Shelf for Rows {
 
     fn with_room(alloc: Global, places: u32) -> Result<Self, Memory> {
         Ok(Rows {
-            rows: Order::with_capacity(alloc, places)?,
+            spans: Order::with_capacity(alloc, places)?,
             room: places,
             laps: Marks::new(alloc)?,
         })
     }
 
     fn len(&self) -> u32 {
-        self.rows.len() as u32
+        self.spans.len() as u32
     }
 
     fn at<L: Ledger>(&self, index: u32, steps: &mut Steps<L>) -> Span {
         steps.tick();
-        self.rows.at(index)
+        self.spans.at(index)
     }
 
     fn set<L: Ledger>(&mut self, index: u32, span: Span, steps: &mut Steps<L>) {
         steps.tick();
-        self.rows.set(index, span);
+        self.spans.set(index, span);
     }
 
-    fn set_spare<L: Ledger>(&mut self, index: u32, spare: i64, steps: &mut Steps<L>) {
+    fn raise_at<L: Ledger>(&mut self, index: u32, more: i64, steps: &mut Steps<L>) -> Span {
         let span = self.at(index, steps);
-        self.rows.set(index, Span { spare, ..span });
+        self.set(index, spans::wrapped_by(span, more), steps);
+        span
     }
 
     fn insert<L: Ledger>(&mut self, index: u32, span: Span, steps: &mut Steps<L>) {
         steps.tick();
         steps.tick();
         steps.tick();
-        self.rows.insert(index as usize, span);
+        self.spans.insert(index as usize, span);
     }
 
     fn push<L: Ledger>(&mut self, span: Span, steps: &mut Steps<L>) {
         steps.tick();
         steps.tick();
-        self.rows.push(span);
+        self.spans.push(span);
     }
 
     fn pop_front<L: Ledger>(&mut self, steps: &mut Steps<L>) -> Span {
         let first = self.at(0, steps);
         steps.tick();
-        self.rows.pop_front();
+        self.spans.pop_front();
         first
     }
 

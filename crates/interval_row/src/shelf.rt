@@ -4,7 +4,9 @@ ghost use Rattle.std.specs.Prelude.{◌≡◌, ℕ, ◌+◌, ◌≤◌, ◌<◌,
 ghost use Rattle.slot_core.specs.declared.jobs.Span.{Span};
 ghost use Rattle.node_chain.specs.Laps.{blank_laps, Laps};
 ghost use Rattle.node_chain.specs.declared.marks.TheConstants.{LAP};
+ghost use Rattle.interval_row.specs.Lifts.{lifted_by};
 
+use crate::spans;
 use node_chain::{Chain, Lift, Mark};
 use slot_core::{Memory, Span, Steps};
 use std::alloc::Global;
@@ -52,14 +54,16 @@ pub trait Shelf: Drop {
         ensures laps { laps self.new ≡ laps self.old }
         ensures one_step { steps.new ≡ steps.old + 1 };
 
-    /// Gives the span there another capacity. One step.
-    fn set_spare<L: Ledger>(&mut self, index: u32, spare: i64, steps: &mut Steps<L>)
+    /// Gives the span there so much more capacity, a sum that wraps round, and tells the span as it
+    /// was. Two steps.
+    fn raise_at<L: Ledger>(&mut self, index: u32, more: i64, steps: &mut Steps<L>) -> Span
         requires { index < length (spans self.old) }
-        ensures spans { (s : Span) → slice_get (spans self.old) index ≡ Some s
-            → spans self.new ≡ slice_set (spans self.old) index (record s { spare = spare }) }
+        ensures span { slice_get (spans self.old) index ≡ Some result }
+        ensures spans { spans self.new
+            ≡ slice_set (spans self.old) index (lifted_by more result) }
         ensures room { room self.new ≡ room self.old }
         ensures laps { laps self.new ≡ laps self.old }
-        ensures one_step { steps.new ≡ steps.old + 1 };
+        ensures two_steps { steps.new ≡ steps.old + 2 };
 
     /// Puts a span in before the one there. Three steps.
     fn insert<L: Ledger>(&mut self, index: u32, span: Span, steps: &mut Steps<L>)
@@ -117,13 +121,13 @@ pub trait Shelf: Drop {
 /// The chain, where each step is a node. A table over it bounds its steps.
 impl Shelf for Chain {
     ghost use Rattle.std.specs.Prelude.{true};
-    ghost use Rattle.interval_row.specs.Stores.{spans_of};
+    ghost use Rattle.interval_row.specs.Stores.{chain_spans};
 
-    ghost spans = { λ c. spans_of c.pairs };
+    ghost spans = { λ c. chain_spans c.pairs };
 
     ghost room = { λ c. c.capacity };
 
-    ghost laps = { λ c. c.marks };
+    ghost laps = { λ c. c.laps };
 
     ghost counted = { true };
 
@@ -143,8 +147,11 @@ impl Shelf for Chain {
         self.set(self.at(index), span, steps);
     }
 
-    fn set_spare<L: Ledger>(&mut self, index: u32, spare: i64, steps: &mut Steps<L>) {
-        self.set_spare(self.at(index), spare, steps);
+    fn raise_at<L: Ledger>(&mut self, index: u32, more: i64, steps: &mut Steps<L>) -> Span {
+        let id = self.at(index);
+        let span = self.get(id, steps);
+        self.set_spare(id, spans::wrapped_by(span, more).spare, steps);
+        span
     }
 
     fn insert<L: Ledger>(&mut self, index: u32, span: Span, steps: &mut Steps<L>) {

@@ -6,6 +6,7 @@ ghost use Rattle.spare_capacity.specs.Lending.{raised, repaid};
 ghost use Rattle.spare_capacity.specs.Recurrence.{last_end, with_spare};
 ghost use Rattle.spare_capacity.specs.Refill.{IsShort};
 ghost use Rattle.interval_row.specs.Changes.{part_before, part_from, shifted};
+ghost use Rattle.interval_row.specs.Lifts.{lifted_by};
 ghost use Rattle.interval_row.specs.Works.{changed_by, spare_by, MayChangeBy};
 
 use slot_core::Span;
@@ -29,108 +30,122 @@ pub(crate) fn last_end(spans: &[Span]) -> u64
 }
 
 /// The span with its capacity, where this is the span after it.
-pub(crate) fn refilled(row: Span, after: Span) -> Span
-    requires short { IsShort row }
+pub(crate) fn refilled(span: Span, after: Span) -> Span
+    requires short { IsShort span }
     requires borrows_few { neg_ℤ (pos (2 ^ 61)) ≤ℤ after.spare }
-    ensures { result ≡ with_spare row after.spare }
+    ensures { result ≡ with_spare span after.spare }
 {
-    with_spare(row, after.spare)
+    with_spare(span, after.spare)
 }
 
 /// The span with so many slots less to spare.
-pub(crate) fn lowered(row: Span, slots: u64) -> Span
-    requires low { neg_ℤ (pos (2 ^ 60)) ≤ℤ row.spare }
+pub(crate) fn lowered(span: Span, slots: u64) -> Span
+    requires low { neg_ℤ (pos (2 ^ 60)) ≤ℤ span.spare }
     requires few { slots ≤ 2 ^ 40 }
-    ensures { result ≡ record row { spare = row.spare -ℤ pos slots } }
+    ensures { result ≡ record span { spare = span.spare -ℤ pos slots } }
 {
     Span {
-        spare: row.spare - slots as i64,
-        ..row
+        spare: span.spare - slots as i64,
+        ..span
     }
 }
 
 /// The span with so many slots more to spare.
-fn raised(row: Span, slots: u64) -> Span
-    requires high { row.spare ≤ℤ pos (2 ^ 60) }
+fn raised(span: Span, slots: u64) -> Span
+    requires high { span.spare ≤ℤ pos (2 ^ 60) }
     requires few { slots ≤ 2 ^ 40 }
-    ensures { result ≡ record row { spare = row.spare +ℤ pos slots } }
+    ensures { result ≡ record span { spare = span.spare +ℤ pos slots } }
 {
     Span {
-        spare: row.spare + slots as i64,
-        ..row
+        spare: span.spare + slots as i64,
+        ..span
     }
 }
 
 /// The span with so much more capacity.
-pub(crate) fn raised_by(row: Span, more: i64) -> Span
-    requires { FitsSigned w64 (row.spare +ℤ more) }
-    ensures { result ≡ raised more row }
+pub(crate) fn raised_by(span: Span, more: i64) -> Span
+    requires { FitsSigned w64 (span.spare +ℤ more) }
+    ensures { result ≡ raised more span }
 {
     Span {
-        spare: row.spare + more,
-        ..row
+        spare: span.spare + more,
+        ..span
     }
 }
 
-/// What the span before is repaid where a capacity goes from one to the other.
+/// The span with so much more capacity, a sum that wraps round.
+pub(crate) fn wrapped_by(span: Span, more: i64) -> Span
+    ensures { result ≡ lifted_by more span }
+{
+    Span {
+        spare: span.spare.wrapping_add(more),
+        ..span
+    }
+}
+
+/// What the span before is repaid where a capacity goes from one to the other. Mostly neither is
+/// above 0, and it is the difference.
 pub(crate) fn repaid(before: i64, after: i64) -> i64
     requires { FitsSigned w64 (repaid before after) }
     ensures { result ≡ repaid before after }
 {
+    if before.max(after) <= 0 {
+        return after - before;
+    }
     after.min(0) - before.min(0)
 }
 
 /// The span without its first slot.
-pub(crate) fn later_start(row: Span) -> Span
-    requires low { neg_ℤ (pos (2 ^ 60)) ≤ℤ row.spare }
-    requires more { row.start < row.end }
-    ensures { result ≡ record row { start = row.start + 1; spare = row.spare -ℤ pos 1 } }
+pub(crate) fn later_start(span: Span) -> Span
+    requires low { neg_ℤ (pos (2 ^ 60)) ≤ℤ span.spare }
+    requires more { span.start < span.end }
+    ensures { result ≡ record span { start = span.start + 1; spare = span.spare -ℤ pos 1 } }
 {
     Span {
-        start: row.start + 1,
-        ..lowered(row, 1)
+        start: span.start + 1,
+        ..lowered(span, 1)
     }
 }
 
 /// The span with another work, and as many slots fewer or more to spare.
-pub(crate) fn changed(row: Span, change: Change) -> Span
-    requires low { neg_ℤ (pos (2 ^ 60)) ≤ℤ row.spare }
-    requires high { row.spare ≤ℤ pos (2 ^ 60) }
-    requires few { row.work ≤ 2 ^ 40 }
-    requires change { MayChangeBy change row.work }
-    ensures { result ≡ record row {
-      work = changed_by change row.work;
-      spare = spare_by change row.spare;
+pub(crate) fn changed(span: Span, change: Change) -> Span
+    requires low { neg_ℤ (pos (2 ^ 60)) ≤ℤ span.spare }
+    requires high { span.spare ≤ℤ pos (2 ^ 60) }
+    requires few { span.work ≤ 2 ^ 40 }
+    requires change { MayChangeBy change span.work }
+    ensures { result ≡ record span {
+      work = changed_by change span.work;
+      spare = spare_by change span.spare;
     } }
 {
     match change {
         Change::More(slots) => Span {
-            work: row.work + u64::from(slots),
-            ..lowered(row, u64::from(slots))
+            work: span.work + u64::from(slots),
+            ..lowered(span, u64::from(slots))
         },
         Change::Fewer(slots) => Span {
-            work: row.work - u64::from(slots),
-            ..raised(row, u64::from(slots))
+            work: span.work - u64::from(slots),
+            ..raised(span, u64::from(slots))
         },
     }
 }
 
 /// The part of the span before `at`, without work.
-pub(crate) fn part_before(row: Span, at: u64) -> Span
-    ensures { result ≡ part_before at row }
+pub(crate) fn part_before(span: Span, at: u64) -> Span
+    ensures { result ≡ part_before at span }
 {
     Span {
         end: at,
         work: 0,
-        ..row
+        ..span
     }
 }
 
 /// The part of the span from `at` on, with all its work.
-pub(crate) fn part_from(row: Span, at: u64) -> Span
-    ensures { result ≡ part_from at row }
+pub(crate) fn part_from(span: Span, at: u64) -> Span
+    ensures { result ≡ part_from at span }
 {
-    Span { start: at, ..row }
+    Span { start: at, ..span }
 }
 
 /// The span, so many slots later.

@@ -1,7 +1,9 @@
 //! What a table sees of what it keeps its spans in.
 
-ghost use Rattle.std.specs.Prelude.{◌≡◌, ℕ, ◌+◌, ◌≤◌, ◌<◌, ◌^◌, Bool, List, [], ◌∷◌, ◌++◌, drop, insert, length, replicate, Some, IfOk, slice_get, slice_set};
+ghost use Rattle.std.specs.Int.{w64};
+ghost use Rattle.std.specs.Prelude.{◌≡◌, ℕ, ◌+◌, ◌≤◌, ◌<◌, ◌^◌, ◌+ℤ◌, Bool, FitsSigned, List, [], ◌∷◌, ◌++◌, drop, insert, length, replicate, Some, IfOk, slice_get, slice_set};
 ghost use Rattle.slot_core.specs.declared.jobs.Span.{Span};
+ghost use Rattle.spare_capacity.specs.Lending.{raised};
 ghost use Rattle.node_chain.specs.Laps.{blank_mark};
 ghost use Rattle.node_chain.specs.declared.marks.Mark.{Mark};
 ghost use Rattle.node_chain.specs.declared.marks.TheConstants.{LAP};
@@ -55,14 +57,17 @@ pub trait Store: Drop {
         ensures marks { marks self.new ≡ marks self.old }
         ensures one_step { steps.new ≡ steps.old + 1 };
 
-    /// Gives the span there, which is `row`, another capacity. One step.
-    fn set_spare<L: Ledger>(&mut self, index: u32, row: Span, spare: i64, steps: &mut Steps<L>)
-        requires { slice_get (spans self.old) index ≡ Some row }
+    /// Gives the span there so much more capacity, and tells the span as it was. Two steps.
+    fn raise_at<L: Ledger>(&mut self, index: u32, more: i64, steps: &mut Steps<L>) -> Span
+        requires within { index < length (spans self.old) }
+        requires fits { (s : Span) → slice_get (spans self.old) index ≡ Some s
+            → FitsSigned w64 (s.spare +ℤ more) }
+        ensures span { slice_get (spans self.old) index ≡ Some result }
         ensures spans { spans self.new
-            ≡ slice_set (spans self.old) index (record row { spare = spare }) }
+            ≡ slice_set (spans self.old) index (raised more result) }
         ensures room { room self.new ≡ room self.old }
         ensures marks { marks self.new ≡ marks self.old }
-        ensures one_step { steps.new ≡ steps.old + 1 };
+        ensures two_steps { steps.new ≡ steps.old + 2 };
 
     /// Puts a span in before the one there. Three steps.
     fn insert<L: Ledger>(&mut self, index: u32, span: Span, steps: &mut Steps<L>)

@@ -45,7 +45,7 @@ pub trait SpareTable: Drop {
     ghost counted: { Bool };
 
     /// A table at time 0 of so many copies of a plan's spans, one after the other, with room for
-    /// `room` spans, and 10 KB of marks and lifts.
+    /// `room` spans, and 20 KB of marks and lifts.
     fn with_room(alloc: Global, spans: &[Span], copies: u32, room: u32) -> Result<Self, Memory>
         requires plan { ArePlanSpans spans.now }
         requires some { 1 ≤ copies }

@@ -4,7 +4,7 @@ ghost use Rattle.std.specs.Prelude.{◌≡◌, ℕ, ◌+◌, ◌*◌, ◌≤◌,
 ghost use Rattle.spare_capacity.specs.Recurrence.{filled, first_spare, with_spare};
 ghost use Rattle.interval_row.specs.Changes.{span_ending};
 ghost use Rattle.interval_row.specs.Marks.{AreTimed};
-ghost use Rattle.interval_row.specs.Rows.{place_of, with_work_at, AreRows};
+ghost use Rattle.interval_row.specs.Spans.{place_of, with_work_at, AreFilled};
 ghost use Rattle.interval_row.specs.Walks.{after_walk};
 
 use crate::marks::PAGE;
@@ -19,7 +19,7 @@ use std::sync::ledger::Ledger;
 #[derive(Clone, Copy)]
 pub struct FoundSpan {
     pub index: u32,
-    pub row: Span,
+    pub span: Span,
 }
 
 /// The first span that ends at `x` or later. At most one step for each that ends before, and one:
@@ -33,15 +33,15 @@ pub(crate) fn find<S: Store, L: Ledger>(
     requires timed { AreTimed times.start times.end (S.spans store.now) (S.marks store.now) }
     requires within { place_of x (S.spans store.now) < length (S.spans store.now) }
     ensures index { result.index ≡ place_of x (S.spans store.now) }
-    ensures row { slice_get (S.spans store.now) result.index ≡ Some result.row }
+    ensures span { slice_get (S.spans store.now) result.index ≡ Some result.span }
     ensures steps { steps.old ≤ steps.new }
     ensures few_steps { steps.new ≤ steps.old + result.index + 1 }
 {
     let front = pages::near(store, times, x);
     for index in front.count..store.len() {
-        let row = store.at(index, steps);
-        if x <= row.end {
-            return FoundSpan { index, row };
+        let span = store.at(index, steps);
+        if x <= span.end {
+            return FoundSpan { index, span };
         }
     }
     unreachable!()
@@ -59,16 +59,16 @@ pub(crate) fn find_hinted<S: Store, L: Ledger>(
     requires timed { AreTimed times.start times.end (S.spans store.now) (S.marks store.now) }
     requires within { place_of x (S.spans store.now) < length (S.spans store.now) }
     ensures index { result.index ≡ place_of x (S.spans store.now) }
-    ensures row { slice_get (S.spans store.now) result.index ≡ Some result.row }
+    ensures span { slice_get (S.spans store.now) result.index ≡ Some result.span }
     ensures steps { steps.old ≤ steps.new }
     ensures few_steps { steps.new ≤ steps.old + result.index + 2 }
     ensures hinted { hint ≡ place_of x (S.spans store.now)
         → IsSome (span_ending x (S.spans store.now)) → steps.new ≡ steps.old + 1 }
 {
     if hint < store.len() {
-        let row = store.at(hint, steps);
-        if row.end == x {
-            return FoundSpan { index: hint, row };
+        let span = store.at(hint, steps);
+        if span.end == x {
+            return FoundSpan { index: hint, span };
         }
     }
     find(store, times, x, steps)
@@ -76,30 +76,30 @@ pub(crate) fn find_hinted<S: Store, L: Ledger>(
 
 /// The span at a place becomes this one, with another work and its capacity. Those before it are
 /// yet to follow. One step.
-fn set_row<S: Store, L: Ledger>(
+fn set_span<S: Store, L: Ledger>(
     store: &mut S,
     place: FoundSpan,
-    row: Span,
+    span: Span,
     steps: &mut Steps<L>,
 ) -> Followed
-    requires rows { AreRows (S.spans store.old) }
-    requires row { slice_get (S.spans store.old) place.index ≡ Some place.row }
-    requires spare { row ≡ with_spare
-        (record place.row { work = row.work })
+    requires filled { AreFilled (S.spans store.old) }
+    requires span { slice_get (S.spans store.old) place.index ≡ Some place.span }
+    requires spare { span ≡ with_spare
+        (record place.span { work = span.work })
         (first_spare (drop (place.index + 1) (S.spans store.old))) }
     ensures spans { after_walk result.walk (S.spans store.new)
-        ≡ filled (with_work_at place.index row.work (S.spans store.old)) }
+        ≡ filled (with_work_at place.index span.work (S.spans store.old)) }
     ensures index { result.walk.index ≡ place.index }
-    ensures row { result.row ≡ row }
-    ensures placed { slice_get (S.spans store.new) place.index ≡ Some row }
+    ensures span { result.span ≡ span }
+    ensures placed { slice_get (S.spans store.new) place.index ≡ Some span }
     ensures room { S.room store.new ≡ S.room store.old }
     ensures marks { S.marks store.new ≡ S.marks store.old }
     ensures one_step { steps.new ≡ steps.old + 1 }
 {
-    store.set(place.index, row, steps);
-    let more = spans::repaid(place.row.spare, row.spare);
+    store.set(place.index, span, steps);
+    let more = spans::repaid(place.span.spare, span.spare);
     Followed {
-        row,
+        span,
         walk: Walk {
             index: place.index,
             more,
@@ -114,28 +114,28 @@ pub(crate) fn set_work<S: Store, L: Ledger>(
     store: &mut S,
     times: Times,
     place: FoundSpan,
-    row: Span,
+    span: Span,
     steps: &mut Steps<L>,
 )
     requires timed { AreTimed times.start times.end (S.spans store.old) (S.marks store.old) }
-    requires row { slice_get (S.spans store.old) place.index ≡ Some place.row }
-    requires few { row.work ≤ 2 ^ 40 }
-    requires spare { row ≡ with_spare
-        (record place.row { work = row.work })
+    requires span { slice_get (S.spans store.old) place.index ≡ Some place.span }
+    requires few { span.work ≤ 2 ^ 40 }
+    requires spare { span ≡ with_spare
+        (record place.span { work = span.work })
         (first_spare (drop (place.index + 1) (S.spans store.old))) }
     ensures spans { S.spans store.new
-        ≡ filled (with_work_at place.index row.work (S.spans store.old)) }
+        ≡ filled (with_work_at place.index span.work (S.spans store.old)) }
     ensures room { S.room store.new ≡ S.room store.old }
     ensures marks { S.marks store.new ≡ S.marks store.old }
     ensures steps { steps.old ≤ steps.new }
     ensures few_steps { steps.new ≤ steps.old + 2 * place.index + 1 }
 {
-    let from = set_row(store, place, row, steps);
+    let from = set_span(store, place, span, steps);
     if !tell_pages(times, store.len()) {
         follow_spans(store, from, 0, steps);
         return;
     }
-    let page = row.end / PAGE;
+    let page = span.end / PAGE;
     let walk = follow_spans(store, from, page * PAGE, steps);
     follow_pages(store, times.start / PAGE, page, walk, steps);
 }

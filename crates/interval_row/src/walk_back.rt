@@ -6,7 +6,7 @@ ghost use Rattle.interval_row.specs.declared.marks.TheConstants.{PAGE};
 ghost use Rattle.spare_capacity.specs.Recurrence.{first_start, last_end};
 ghost use Rattle.interval_row.specs.Changes.{ends_before};
 ghost use Rattle.interval_row.specs.Marks.{page_of};
-ghost use Rattle.interval_row.specs.Rows.{AreRows};
+ghost use Rattle.interval_row.specs.Spans.{AreFilled};
 ghost use Rattle.interval_row.specs.Walks.{after_walk, AreInPages, PagesGiveNone, IsPageOf};
 
 use crate::store::Store;
@@ -26,7 +26,7 @@ pub struct Walk {
 /// The span that followed last, as it is now, and the walk from there.
 #[derive(Clone, Copy)]
 pub struct Followed {
-    pub row: Span,
+    pub span: Span,
     pub walk: Walk,
 }
 
@@ -34,23 +34,22 @@ pub struct Followed {
 fn follow<S: Store, L: Ledger>(store: &mut S, walk: Walk, steps: &mut Steps<L>) -> Followed
     requires some { 1 ≤ walk.index }
     requires within { walk.index ≤ length (S.spans store.old) }
-    requires rows { AreRows (after_walk walk (S.spans store.old)) }
+    requires filled { AreFilled (after_walk walk (S.spans store.old)) }
     ensures spans { after_walk result.walk (S.spans store.new)
         ≡ after_walk walk (S.spans store.old) }
     ensures index { result.walk.index + 1 ≡ walk.index }
-    ensures row { slice_get (S.spans store.new) result.walk.index ≡ Some result.row }
+    ensures span { slice_get (S.spans store.new) result.walk.index ≡ Some result.span }
     ensures rest { drop walk.index (S.spans store.new) ≡ drop walk.index (S.spans store.old) }
     ensures room { S.room store.new ≡ S.room store.old }
     ensures marks { S.marks store.new ≡ S.marks store.old }
     ensures two_steps { steps.new ≡ steps.old + 2 }
 {
     let index = walk.index - 1;
-    let before = store.at(index, steps);
-    let row = spans::raised_by(before, walk.more);
-    store.set_spare(index, before, row.spare, steps);
-    let more = spans::repaid(before.spare, row.spare);
+    let before = store.raise_at(index, walk.more, steps);
+    let span = spans::raised_by(before, walk.more);
+    let more = spans::repaid(before.spare, span.spare);
     Followed {
-        row,
+        span,
         walk: Walk { index, more },
     }
 }
@@ -63,9 +62,9 @@ pub(crate) fn follow_spans<S: Store, L: Ledger>(
     border: u64,
     steps: &mut Steps<L>,
 ) -> Walk
-    requires row { slice_get (S.spans store.old) from.walk.index ≡ Some from.row }
-    requires rows { AreRows (after_walk from.walk (S.spans store.old)) }
-    requires border { border ≤ from.row.end }
+    requires span { slice_get (S.spans store.old) from.walk.index ≡ Some from.span }
+    requires filled { AreFilled (after_walk from.walk (S.spans store.old)) }
+    requires border { border ≤ from.span.end }
     ensures spans { after_walk result (S.spans store.new)
         ≡ after_walk from.walk (S.spans store.old) }
     ensures place { (result.more ≡ pos 0 → ⊥)
@@ -77,7 +76,7 @@ pub(crate) fn follow_spans<S: Store, L: Ledger>(
 {
     let mut last = from;
     for _index in (0..from.walk.index).rev() {
-        if last.walk.more == 0 || last.row.start < border {
+        if last.walk.more == 0 || last.span.start < border {
             return last.walk;
         }
         last = follow(store, last.walk, steps);
@@ -113,7 +112,7 @@ fn follow_each<S: Store, L: Ledger>(
             return walk;
         }
         let last = follow(store, walk, steps);
-        high = high.max(last.row.spare);
+        high = high.max(last.span.spare);
         walk = last.walk;
     }
     store.set_high(marks::index_of_page(page), high);
@@ -122,11 +121,11 @@ fn follow_each<S: Store, L: Ledger>(
 
 /// True only where no span that ends in the pages of a mark has any capacity, before and after so
 /// much more.
-pub(crate) fn gives_nothing<S: Store>(store: &S, index: u32, more: i64) -> bool
-    requires { index < LAP }
-    ensures { IsTrue result → PagesGiveNone index more (S.spans store.now) }
+pub(crate) fn has_none_to_give<S: Store>(store: &S, mark_index: u32, more: i64) -> bool
+    requires { mark_index < LAP }
+    ensures { IsTrue result → PagesGiveNone mark_index more (S.spans store.now) }
 {
-    store.high(index) <= 0 - more.max(0)
+    store.high(mark_index) <= 0 - more.max(0)
 }
 
 /// The spans of a page follow: all at once, without a step, where none has any capacity before and
@@ -148,15 +147,15 @@ fn follow_page<S: Store, L: Ledger>(
     ensures steps { steps.old ≤ steps.new }
     ensures few_steps { steps.new + 2 * result.index ≤ steps.old + 2 * walk.index }
 {
-    let index = marks::index_of_page(page);
-    let count = store.mark(index).count;
+    let mark_index = marks::index_of_page(page);
+    let count = store.mark(mark_index).count;
     if count == 0 {
         return walk;
     }
-    if !gives_nothing(store, index, walk.more) {
+    if !has_none_to_give(store, mark_index, walk.more) {
         return follow_each(store, page, count, walk, steps);
     }
-    store.raise(index, walk.more);
+    store.raise(mark_index, walk.more);
     Walk {
         index: walk.index - count,
         more: walk.more,
@@ -167,17 +166,17 @@ fn follow_page<S: Store, L: Ledger>(
 /// two steps each.
 pub(crate) fn follow_pages<S: Store, L: Ledger>(
     store: &mut S,
-    first: u64,
-    end: u64,
+    first_page: u64,
+    end_page: u64,
     from: Walk,
     steps: &mut Steps<L>,
 )
     requires pages { AreInPages (after_walk from (S.spans store.old)) (S.marks store.old) }
-    requires first { first ≡ page_of (first_start (after_walk from (S.spans store.old))) }
-    requires end { end ≤ page_of (last_end 0 (after_walk from (S.spans store.old))) }
-    requires rising { first ≤ end }
+    requires first { first_page ≡ page_of (first_start (after_walk from (S.spans store.old))) }
+    requires end { end_page ≤ page_of (last_end 0 (after_walk from (S.spans store.old))) }
+    requires rising { first_page ≤ end_page }
     requires place { (from.more ≡ pos 0 → ⊥)
-        → from.index ≡ ends_before (end * PAGE) (S.spans store.old) }
+        → from.index ≡ ends_before (end_page * PAGE) (S.spans store.old) }
     ensures spans { S.spans store.new ≡ after_walk from (S.spans store.old) }
     ensures room { S.room store.new ≡ S.room store.old }
     ensures marks { S.marks store.new ≡ S.marks store.old }
@@ -185,7 +184,7 @@ pub(crate) fn follow_pages<S: Store, L: Ledger>(
     ensures few_steps { steps.new ≤ steps.old + 2 * from.index }
 {
     let mut walk = from;
-    for page in (first..end).rev() {
+    for page in (first_page..end_page).rev() {
         if walk.more == 0 {
             return;
         }

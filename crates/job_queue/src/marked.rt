@@ -1,6 +1,6 @@
 //! Jobs with marks of their keys.
 
-ghost use Rattle.std.specs.Prelude.{◌≡◌, ℕ, ◌+◌, ◌-◌, ◌<◌, ◌≤◌, [], false, count_by, insert, length, remove, slice_index_or, IfOk};
+ghost use Rattle.std.specs.Prelude.{◌≡◌, ℕ, ◌+◌, ◌-◌, ◌<◌, ◌≤◌, [], false, count_by, insert, length, remove, slice_index_or, vec_capacity, IfOk};
 ghost use Rattle.slot_core.specs.declared.jobs.Job.{Job};
 ghost use Rattle.slot_core.specs.Offline.Keys.{same_key};
 ghost use Rattle.job_queue.specs.declared.marked.TheConstants.{COUNT_LIMIT, MARK_COUNT};
@@ -91,13 +91,14 @@ impl MarkedJobs {
     }
 
     /// Takes out the job at a place.
+    #[inline(always)]
     pub(crate) fn remove(&mut self, place: usize) -> Job
         requires within { place < length self.old.items }
         ensures value { result ≡ slice_index_or self.old.items place result }
         ensures items { self.new.items ≡ remove self.old.items place }
         ensures places { self.new.places ≡ self.old.places }
     {
-        let job = self.jobs.remove(place);
+        let job = remove_at(&mut self.jobs, place);
         let mark = key_mark(job.key);
         self.counts[mark] = one_less(self.counts[mark]);
         job
@@ -112,6 +113,34 @@ impl MarkedJobs {
     {
         self.jobs[place].left -= 1;
     }
+}
+
+/// Takes out the job at a place. Mostly it is the last, and none has to move.
+#[inline(always)]
+fn remove_at(jobs: &mut Vec<Job>, place: usize) -> Job
+    requires { place < length jobs.old.items }
+    ensures value { result ≡ slice_index_or jobs.old.items place result }
+    ensures items { jobs.new.items ≡ remove jobs.old.items place }
+    ensures places { vec_capacity jobs.new ≡ vec_capacity jobs.old }
+{
+    if place + 1 == jobs.len() {
+        let job = jobs[place];
+        jobs.truncate(place);
+        job
+    } else {
+        remove_inside(jobs, place)
+    }
+}
+
+/// The same, where others move.
+#[inline(never)]
+fn remove_inside(jobs: &mut Vec<Job>, place: usize) -> Job
+    requires { place < length jobs.old.items }
+    ensures value { result ≡ slice_index_or jobs.old.items place result }
+    ensures items { jobs.new.items ≡ remove jobs.old.items place }
+    ensures places { vec_capacity jobs.new ≡ vec_capacity jobs.old }
+{
+    jobs.remove(place)
 }
 
 /// The mark of a key.

@@ -113,8 +113,9 @@ impl JobQueue {
         }
     }
 
-    /// Slot `now` has come: jobs that may start by then are put in order, so that `earliest` and
-    /// `ran` look at the earliest first. The jobs stay. One step a job looked at.
+    /// Slot `now` has come: listed jobs that may start by then are put in order, and those beside
+    /// up to one that may not, so that `earliest` and `ran` look at the earliest first. The jobs
+    /// stay. One step a job looked at.
     pub fn come<L: Ledger>(&mut self, now: u64, steps: &mut Steps<L>)
         ensures jobs { HaveSameItems self.new.jobs self.old.jobs }
         ensures capacity { self.new.capacity ≡ self.old.capacity }
@@ -165,8 +166,8 @@ impl JobQueue {
 
     /// The job that earliest deadline first runs in slot `now`. None exactly where no job may start
     /// by then. One step a job looked at: those beside, those that have come up to the first that
-    /// may start, and the listed ones up to the first that starts later. Where `come` has put all
-    /// in order that may start, these are two at most.
+    /// may start, and the listed ones up to the first that starts later. Where none stands beside
+    /// and `come` has put all in order that may start, these are two at most.
     #[inline(always)]
     pub fn earliest<L: Ledger>(&self, now: u64, steps: &mut Steps<L>) -> Option<Job>
         ensures job { result ≡ earliest (ready now self.now.jobs) }

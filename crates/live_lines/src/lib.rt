@@ -15,10 +15,10 @@ use trace_text::{DECIMAL_LIMIT, KEY_LIMIT};
 const FAULT_TEXT_LIMIT: usize = 11 + DECIMAL_LIMIT;
 
 /// Most bytes of what stands before a number: `withdraw` and the comma before it.
-const WORD_LIMIT: usize = 9;
+const ROW_WORD_LIMIT: usize = 9;
 
 /// Most bytes of a word, a comma and a number.
-const WORDED_LIMIT: usize = WORD_LIMIT + 1 + DECIMAL_LIMIT;
+const WORDED_LIMIT: usize = ROW_WORD_LIMIT + 1 + DECIMAL_LIMIT;
 
 /// Most bytes of an event: `done`, the commas around it, and a key.
 const EVENT_LIMIT: usize = 6 + KEY_LIMIT;

@@ -5,7 +5,7 @@ ghost use Rattle.slot_core.specs.Output.Texts.{sporadic_name};
 ghost use Rattle.slot_core.specs.Runs.Arrivals.{event_fits};
 ghost use Rattle.slot_core.specs.declared.TheConstants.{NAME_LIMIT};
 ghost use Rattle.trace_text.specs.declared.TheConstants.{LINE_LIMIT};
-ghost use Rattle.live_lines.specs.declared.TheConstants.{EVENT_LIMIT, WORDED_LIMIT, WORD_LIMIT};
+ghost use Rattle.live_lines.specs.declared.TheConstants.{EVENT_LIMIT, WORDED_LIMIT, ROW_WORD_LIMIT};
 ghost use Rattle.live_lines.specs.Rows.{event_text, record_row};
 
 use slot_core::{Arrival, Event, TaskSet};
@@ -51,7 +51,7 @@ fn push_event(line: &mut Line, tasks: &TaskSet, event: Event)
 
 /// Appends the word, a comma and the number.
 fn push_worded(line: &mut Line, word: &[u8], number: u32)
-    requires word { length word.now ≤ WORD_LIMIT }
+    requires word { length word.now ≤ ROW_WORD_LIMIT }
     requires room { length line.old + WORDED_LIMIT ≤ LINE_LIMIT }
     ensures text { line.new ≡ line.old ++ word.now ++ 44 ∷ decimal number }
     ensures short { length line.new ≤ length line.old + WORDED_LIMIT }

@@ -1,6 +1,6 @@
 -- The file in which arrivals are recorded.
 use Rattle.std.specs.Prelude.{◌≡◌, ℕ, Bool, true, false, List, [], Option, IfSome}
-use Rattle.live_dialogue.specs.Streams.{Seen}
+use Rattle.live_run.specs.Streams.{Seen}
 
 -- nothing is written, where that is told
 abbrev pub IsEmpty : Option (List ℕ) → Type 0

@@ -1,7 +1,7 @@
 -- How a live run comes out: done, or refused, with a status and the line that tells why.
 use Rattle.std.specs.Prelude.{ℕ, Bool, true, false, List, [], ◌∷◌, ◌++◌, codes, Result}
-use Rattle.live_dialogue.specs.declared.streams.DialogueFault.{DialogueFault}
-use Rattle.live_dialogue.specs.declared.streams.DialogueFault.TheVariants.{Input, Record, Output}
+use Rattle.live_run.specs.declared.streams.DialogueFault.{DialogueFault}
+use Rattle.live_run.specs.declared.streams.DialogueFault.TheVariants.{Input, Record, Output}
 use Rattle.run_outcome.specs.declared.refusal.Refusal.TheVariants.{WriteFault as OutputFault}
 use Rattle.run_outcome.specs.declared.status.Status.{Status}
 use Rattle.run_outcome.specs.Refusals.{has_fixed_line, reason_of, refusal_status}

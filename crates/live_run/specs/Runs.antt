@@ -5,8 +5,8 @@ use Rattle.slot_core.specs.Calls.Counts.{Rose}
 use Rattle.slot_core.specs.Keeping.Plans.{PlanParts, IsPlan}
 use Rattle.slot_io.specs.Files.{Held}
 use Rattle.line_source.specs.Lines.{Heard}
-use Rattle.live_dialogue.specs.declared.streams.DialogueFault.TheVariants.{Input, Record, Output}
-use Rattle.live_dialogue.specs.Streams.{Seen, IsDialogue, IsBroken}
+use Rattle.live_run.specs.declared.streams.DialogueFault.TheVariants.{Input, Record, Output}
+use Rattle.live_run.specs.Streams.{Seen, IsDialogue, IsBroken}
 use Rattle.run_outcome.specs.declared.refusal.Refusal.TheVariants.{WriteFault, Memory}
 use Rattle.run_outcome.specs.declared.status.Status.{Status}
 use Rattle.run_outcome.specs.Refusals.{Outcome}

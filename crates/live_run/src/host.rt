@@ -1,6 +1,6 @@
 //! `run` over a host: its arguments, its files and its standard streams.
 
-ghost use Rattle.std.specs.Prelude.{◌≡◌, ◌↔◌, None, IfOk, IsErr};
+ghost use Rattle.std.specs.Prelude.{◌≡◌, None, IfOk, IsErr};
 ghost use Rattle.std.specs.Process.{exit_status};
 ghost use Rattle.run_outcome.specs.declared.status.Status.{Status};
 ghost use Rattle.run_outcome.specs.Statuses.{exit_number};
@@ -8,8 +8,8 @@ ghost use Rattle.live_run.specs.Calls.{live_call_of};
 
 use crate::record::HostRecord;
 use crate::runs::run;
+use crate::streams::Streams;
 use line_source::InputLines;
-use live_dialogue::Streams;
 use run_outcome::Status;
 use slot_core::{Memory, Words};
 use slot_io::{HostFiles, HostSink, words_of};
@@ -45,6 +45,7 @@ where
     E: Write + Drop,
     R: Files + Input + AllocGlobal,
     ensures memory { IsErr words → result ≡ Status.Memory }
+    ensures usage { IfOk words (λ words. result ≡ Status.Usage → live_call_of words ≡ None) }
 {
     match words {
         Ok(words) => run_over(out, err, rt, &words),
@@ -58,6 +59,7 @@ where
     O: Write + Drop,
     E: Write + Drop,
     R: Files + Input + AllocGlobal,
+    ensures { result ≡ Status.Usage → live_call_of words.now ≡ None }
 {
     let alloc = rt.alloc();
     match BufReader::new(alloc, rt.reader()) {

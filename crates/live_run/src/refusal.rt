@@ -5,7 +5,7 @@ ghost use Rattle.run_outcome.specs.declared.refusal.Refusal.TheVariants.{Memory 
 ghost use Rattle.live_run.specs.Refusals.{live_status, of_dialogue};
 ghost use Rattle.live_run.specs.declared.refusal.LiveRefusal.TheVariants.{Run as RunRefusal};
 
-use live_dialogue::DialogueFault;
+use crate::streams::DialogueFault;
 use run_outcome::{Refusal, Status};
 use slot_core::Memory;
 

@@ -1,7 +1,7 @@
 //! A live run as a whole.
 
 ghost use Rattle.std.specs.Prelude.{◌≡◌, ◌↔◌, [], None, Some};
-ghost use Rattle.live_dialogue.specs.Streams.{seen};
+ghost use Rattle.live_run.specs.Streams.{seen};
 ghost use Rattle.live_run.specs.Calls.{live_call_of, plan_words, HasPlan};
 ghost use Rattle.live_run.specs.Runs.{IsLiveRun, IsRunOf, IsStatusTold};
 
@@ -9,9 +9,9 @@ use crate::call::{LiveCall, live_call_of, plan_words};
 use crate::record::RecordFile;
 use crate::refusal::LiveRefusal;
 use crate::report::tell;
+use crate::streams::Streams;
 use crate::work::work;
 use line_source::LineSource;
-use live_dialogue::Streams;
 use run_outcome::Status;
 use slot_core::{Memory, Words};
 use slot_io::{Files, Sink};

@@ -2,8 +2,7 @@
 
 use crate::record::MemoryRecord;
 use line_source::InputLines;
-use live_dialogue::Streams;
-use live_run::run;
+use live_run::{Streams, run};
 use run_outcome::Status;
 use slot_core::Words;
 use slot_io::{MemoryFiles, MemorySink};

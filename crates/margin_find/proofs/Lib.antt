@@ -1,3 +1,4 @@
+pub mod FoundMargins
 pub mod Growths
 pub mod LongerChains
 pub mod LongerSets
@@ -5,4 +6,3 @@ pub mod MarginLists
 pub mod Pairs
 pub mod SoundGrowths
 pub mod WholeCycle
-pub mod MarginTexts

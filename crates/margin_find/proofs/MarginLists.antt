@@ -15,7 +15,7 @@ use Rattle.slot_facts.proofs.Lists.Members.{Has, Has-from_Contains, Has-append_c
 use Rattle.margin_find.specs.declared.margin.Margin.{Margin}
 use Rattle.margin_find.specs.declared.margin.TaskMargin.{TaskMargin}
 use Rattle.margin_find.specs.Parts.{IsTaskOf}
-use Rattle.margin_find.specs.Texts.{AreMargins, graph_parts, parts_of}
+use Rattle.margin_find.specs.Margins.{AreMargins, graph_parts, parts_of}
 use Rattle.std.proofs.lemmas.Option.{slice_get_within}
 
 -- the tasks in order are tasks of the set

@@ -11,7 +11,7 @@ use Rattle.slot_core.specs.Feasibility.Feasible.{IsFeasible, demand}
 use Rattle.slot_core.specs.Claims.Growth.{grown, StillFits, IsMargin}
 use Rattle.margin_find.specs.declared.margin.TaskMargin.{TaskMargin}
 use Rattle.margin_find.specs.Parts.{IsTaskOf}
-use Rattle.margin_find.specs.Texts.{margin_of}
+use Rattle.margin_find.specs.Margins.{margin_of}
 
 -- the same job of longer tasks starts no earlier, is due no later, and has no fewer slots
 pub record HasNoMoreRoom (job longer : Job) : Type 0 where

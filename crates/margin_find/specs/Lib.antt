@@ -1,4 +1,4 @@
 pub mod Laws
+pub mod Margins
 pub mod Parts
 pub mod Search
-pub mod Texts

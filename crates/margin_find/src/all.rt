@@ -8,7 +8,7 @@ ghost use Rattle.slot_core.specs.declared.tasks.Graph.{Graph};
 ghost use Rattle.slot_core.specs.declared.tasks.Sporadic.{Sporadic};
 ghost use Rattle.slot_core.specs.Sets.Ranges.{is_sound};
 ghost use Rattle.margin_find.specs.Parts.{IsTaskOf};
-ghost use Rattle.margin_find.specs.Texts.{AreMargins, graph_parts, parts_of};
+ghost use Rattle.margin_find.specs.Margins.{AreMargins, graph_parts, parts_of};
 
 use crate::margin::{TaskMargin, margin_near};
 use cycle_plan::Plan;

@@ -7,9 +7,7 @@ mod copies;
 pub mod laws;
 mod margin;
 mod search;
-mod text;
 mod whole;
 
 pub use all::find_margins;
 pub use margin::{Margin, TaskMargin, find_margin, margin_near};
-pub use text::put_margins;

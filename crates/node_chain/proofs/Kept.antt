@@ -207,8 +207,8 @@ pub listed-place : (nodes : List Node) (len : ℕ) (ps : List (NodeId × Span)) 
 listed-place nodes len ps was i id e =
     id-place nodes (order nodes len) i id (subst (λ qs. id_at qs i ≡ Some id) (sym was) e)
 
-module _ {marks : Laps} (nodes : List Node) (free len : ℕ) (l : IsLinked nodes free len) (v : Chained)
-    (is : record { pairs = pairs_of nodes (order nodes len); capacity = length nodes - 1; marks = marks } ≡ v) where
+module _ {laps : Laps} (nodes : List Node) (free len : ℕ) (l : IsLinked nodes free len) (v : Chained)
+    (is : record { pairs = pairs_of nodes (order nodes len); capacity = length nodes - 1; laps = laps } ≡ v) where
   -- a chain with room has an unused place
   pub has_room : length v.pairs < v.capacity → len + 1 < length nodes
   has_room room =

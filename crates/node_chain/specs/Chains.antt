@@ -10,7 +10,7 @@ use Rattle.node_chain.specs.Links.{span_of}
 pub record Chained : Type 0 where
   pub pairs : List (NodeId × Span)
   pub capacity : ℕ
-  pub marks : Laps
+  pub laps : Laps
 
 -- the id at a place of the list
 abbrev pub id_at : List (NodeId × Span) → ℕ → Option NodeId

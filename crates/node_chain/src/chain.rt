@@ -36,7 +36,7 @@ pub struct Chain {
     /// The first unused place, where there is one.
     free: u32,
     len: u32,
-    marks: Marks,
+    laps: Marks,
 }
 
 impl Model for Chain {
@@ -50,7 +50,7 @@ impl Model for Chain {
     ghost view = { λ c. record {
       pairs = pairs_of c.block (order c.block c.len);
       capacity = length c.block - 1;
-      marks = c.marks;
+      laps = c.laps;
     } };
 
     ghost invariant = { λ c. IsLinked c.block c.free c.len
@@ -58,14 +58,14 @@ impl Model for Chain {
 }
 
 impl Chain {
-    /// An empty chain with room for `n` spans, of about 44 bytes each, and 10 KB of marks and lifts
+    /// An empty chain with room for `n` spans, of about 44 bytes each, and 20 KB of marks and lifts
     /// without numbers.
     pub fn with_capacity(alloc: Global, n: u32) -> Result<Chain, Memory>
         requires some { 1 ≤ n }
         requires small { n ≤ 2 ^ 20 }
         ensures empty { IfOk result (λ made. made.pairs ≡ []) }
         ensures capacity { IfOk result (λ made. made.capacity ≡ n) }
-        ensures marks { IfOk result (λ made. made.marks ≡ blank_laps) }
+        ensures laps { IfOk result (λ made. made.laps ≡ blank_laps) }
     {
         let mut block = Block::new(alloc, n + 1)?;
         set_next(&mut block, ENDS, ENDS);
@@ -74,7 +74,7 @@ impl Chain {
             ids: Order::with_capacity(alloc, n)?,
             free: 1,
             len: 0,
-            marks: Marks::new(alloc)?,
+            laps: Marks::new(alloc)?,
         })
     }
 
@@ -162,7 +162,7 @@ impl Chain {
         ensures span { (i : ℕ) → id_at self.old.pairs i ≡ Some id
             → self.new.pairs ≡ slice_set self.old.pairs i (id, span) }
         ensures capacity { self.new.capacity ≡ self.old.capacity }
-        ensures marks { self.new.marks ≡ self.old.marks }
+        ensures laps { self.new.laps ≡ self.old.laps }
         ensures one_step { steps.new ≡ steps.old + 1 }
     {
         let NodeId(place) = id;
@@ -177,7 +177,7 @@ impl Chain {
             → span_at self.old.pairs i ≡ Some s
             → self.new.pairs ≡ slice_set self.old.pairs i (id, record s { spare = spare }) }
         ensures capacity { self.new.capacity ≡ self.old.capacity }
-        ensures marks { self.new.marks ≡ self.old.marks }
+        ensures laps { self.new.laps ≡ self.old.laps }
         ensures one_step { steps.new ≡ steps.old + 1 }
     {
         let NodeId(place) = id;
@@ -199,7 +199,7 @@ impl Chain {
             → self.new.pairs ≡ insert self.old.pairs i (result, span) }
         ensures fresh { IsListed self.old.pairs result → ⊥ }
         ensures capacity { self.new.capacity ≡ self.old.capacity }
-        ensures marks { self.new.marks ≡ self.old.marks }
+        ensures laps { self.new.laps ≡ self.old.laps }
         ensures three_steps { steps.new ≡ steps.old + 3 }
     {
         let index = self.ids.index_of(id);
@@ -214,7 +214,7 @@ impl Chain {
         ensures span { self.new.pairs ≡ insert self.old.pairs index (result, span) }
         ensures fresh { IsListed self.old.pairs result → ⊥ }
         ensures capacity { self.new.capacity ≡ self.old.capacity }
-        ensures marks { self.new.marks ≡ self.old.marks }
+        ensures laps { self.new.laps ≡ self.old.laps }
         ensures three_steps { steps.new ≡ steps.old + 3 }
     {
         let NodeId(after) = self.at(index);
@@ -232,7 +232,7 @@ impl Chain {
         ensures span { self.new.pairs ≡ self.old.pairs ++ (result, span) ∷ [] }
         ensures fresh { IsListed self.old.pairs result → ⊥ }
         ensures capacity { self.new.capacity ≡ self.old.capacity }
-        ensures marks { self.new.marks ≡ self.old.marks }
+        ensures laps { self.new.laps ≡ self.old.laps }
         ensures two_steps { steps.new ≡ steps.old + 2 }
     {
         let place = self.free;
@@ -248,7 +248,7 @@ impl Chain {
         ensures span { span_at self.old.pairs 0 ≡ Some result }
         ensures rest { self.new.pairs ≡ drop 1 self.old.pairs }
         ensures capacity { self.new.capacity ≡ self.old.capacity }
-        ensures marks { self.new.marks ≡ self.old.marks }
+        ensures laps { self.new.laps ≡ self.old.laps }
         ensures two_steps { steps.new ≡ steps.old + 2 }
     {
         let place = self.block.node(ENDS).next;
@@ -262,9 +262,9 @@ impl Chain {
     /// The mark at an index.
     pub fn mark(&self, index: u32) -> Mark
         requires { index < LAP }
-        ensures { slice_get self.now.marks.marks index ≡ Some result }
+        ensures { slice_get self.now.laps.marks index ≡ Some result }
     {
-        self.marks.at(index)
+        self.laps.at(index)
     }
 
     /// Puts another mark at an index.
@@ -272,18 +272,18 @@ impl Chain {
         requires { index < LAP }
         ensures pairs { self.new.pairs ≡ self.old.pairs }
         ensures capacity { self.new.capacity ≡ self.old.capacity }
-        ensures marks { self.new.marks
-            ≡ record self.old.marks { marks = slice_set self.old.marks.marks index mark } }
+        ensures laps { self.new.laps
+            ≡ record self.old.laps { marks = slice_set self.old.laps.marks index mark } }
     {
-        self.marks.set(index, mark);
+        self.laps.set(index, mark);
     }
 
     /// The lift at an index.
     pub fn lift(&self, index: u32) -> Lift
         requires { index < LAP }
-        ensures { slice_get self.now.marks.lifts index ≡ Some result }
+        ensures { slice_get self.now.laps.lifts index ≡ Some result }
     {
-        self.marks.lift_at(index)
+        self.laps.lift_at(index)
     }
 
     /// Puts another lift at an index.
@@ -291,10 +291,10 @@ impl Chain {
         requires { index < LAP }
         ensures pairs { self.new.pairs ≡ self.old.pairs }
         ensures capacity { self.new.capacity ≡ self.old.capacity }
-        ensures marks { self.new.marks
-            ≡ record self.old.marks { lifts = slice_set self.old.marks.lifts index lift } }
+        ensures laps { self.new.laps
+            ≡ record self.old.laps { lifts = slice_set self.old.laps.lifts index lift } }
     {
-        self.marks.set_lift(index, lift);
+        self.laps.set_lift(index, lift);
     }
 }
 

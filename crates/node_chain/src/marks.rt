@@ -9,7 +9,7 @@ use std::alloc::Global;
 use std::marker::Model;
 
 /// How many marks there are, and how many lifts: the pages of a lap.
-pub const LAP: u32 = 256;
+pub const LAP: u32 = 512;
 
 /// Plain numbers about the pages of time that share an index. What they mean is up to whoever puts
 /// them; here is what a table of spans puts.
@@ -19,13 +19,13 @@ pub struct Mark {
     pub count: u32,
     /// How many slots are due at their ends.
     pub works: u64,
-    /// At least so many slots each time in the pages, from the table's time on, is above what is due
-    /// in its page by then. 0 says nothing.
+    /// At least so many slots each time in the pages, from the table's time on, is above what is
+    /// due in its page by then. 0 says nothing.
     pub low: u64,
 }
 
-/// Two plain numbers more about these pages. What they mean is up to whoever puts them; here is what
-/// a table of spans puts.
+/// Two plain numbers more about these pages. What they mean is up to whoever puts them; here is
+/// what a table of spans puts.
 #[derive(Clone, Copy)]
 pub struct Lift {
     /// No capacity of the spans that end in the pages is above this.

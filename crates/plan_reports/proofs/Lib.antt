@@ -1,2 +1,3 @@
 pub mod CheckLines
+pub mod MarginLines
 pub mod PlanLines

@@ -4,10 +4,10 @@ use Rattle.slot_core.specs.declared.events.Arrival.{Arrival}
 use Rattle.slot_core.specs.Keeping.Plans.{PlanParts}
 use Rattle.slot_core.specs.Output.Reports.{check_line, show_text}
 use Rattle.table_codec.specs.Grammar.{spelling}
-use Rattle.margin_find.specs.Texts.{margin_text}
 use Rattle.command_line.specs.declared.PlanOutput.{PlanOutput}
 use Rattle.command_line.specs.declared.PlanOutput.TheVariants.{Counts, Table, Listing, Margins, Lines}
 use Rattle.plan_reports.specs.Lines.{verified_line}
+use Rattle.plan_reports.specs.MarginLines.{margin_text}
 
 -- what is written of a plan, and of these arrivals over so many slots
 abbrev pub plan_text : PlanOutput → ℕ → PlanParts → List Arrival → List ℕ

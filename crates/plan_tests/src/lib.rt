@@ -2,10 +2,8 @@
 #![tactic(auto)]
 
 #[cfg(test)]
-mod capacities;
-#[cfg(test)]
 mod plans;
 #[cfg(test)]
-mod spans;
-#[cfg(test)]
 mod tables;
+#[cfg(test)]
+mod verdicts;

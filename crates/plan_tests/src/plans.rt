@@ -1,14 +1,8 @@
-//! Plans of small sets, and sets that have none.
+//! The plan of a flight controller.
 
-ghost use Rattle.std.specs.Prelude.{◌≡◌, true};
-ghost use Rattle.slot_core.specs.Sets.Ranges.{is_sound};
-
-use crate::spans::expect_spans;
-use cycle_plan::{Plan, PlanFault, counterexample, make_plan};
-use sample_sets::{crowded_set, overlong_set, unmanned_flight_set};
-use slot_core::{Job, Key, TaskSet, Window};
-use std::alloc::Global;
-use std::process::Abort;
+use cycle_plan::{Plan, make_plan};
+use sample_sets::unmanned_flight_set;
+use slot_core::{Job, Key, Span};
 use std::test::Fail;
 
 /// The start, the end, the work and the capacity of each span of the flight controller's plan.
@@ -46,61 +40,48 @@ const LATER: Job = Job {
 
 #[test]
 fn plans_a_flight_controller(rt: HostRuntime) -> Result<(), Fail> {
-    let alloc = rt.alloc();
-    let plan = make_plan(alloc, unmanned_flight_set(alloc)?)
-        .ok()
-        .ok_or("no plan")?;
-    expect_flight(&rt, &plan)
-}
-
-/// The plan has the cycle, the jobs and the spans of the flight controller.
-fn expect_flight<R: Abort>(rt: &R, plan: &Plan) -> Result<(), Fail> {
-    assert!(rt; (plan.cycle(), plan.jobs().len()) == (40, 21));
-    expect_spans(rt, plan.spans(), &FLIGHT_SPANS);
-    let last = plan.jobs().len().checked_sub(1).ok_or("no job")?;
-    assert!(rt; plan.job_in_cycle(last, 2) == LATER);
-    let ninth = plan.jobs_by_start().get(8).copied().ok_or("no job")?;
-    assert!(rt; plan.later_job(ninth, 2) == LATER);
-    assert!(rt; plan.jobs_by_start().len() == FLIGHT_STARTS.len());
-    for (job, start) in plan.jobs_by_start().iter().zip(&FLIGHT_STARTS) {
-        assert!(rt; job.est == *start);
-    }
+    let tasks = unmanned_flight_set(rt.alloc())?;
+    let plan = make_plan(rt.alloc(), tasks).ok().ok_or("no plan")?;
+    assert!(rt; is_flight(&plan));
     Ok(())
 }
 
-#[test]
-fn refuses_windows_of_too_much_demand(rt: HostRuntime) -> Result<(), Fail> {
-    let alloc = rt.alloc();
-    assert!(rt; window_of(alloc, crowded_set(alloc)?)? == Some(window(5, 7, 3)));
-    assert!(rt; window_of(alloc, overlong_set(alloc)?)? == Some(window(0, 2, 3)));
-    assert!(rt; window_of(alloc, unmanned_flight_set(alloc)?)?.is_none());
-    Ok(())
+/// Whether the plan has the cycle, the jobs and the spans of the flight controller.
+fn is_flight(plan: &Plan) -> bool {
+    (plan.cycle(), plan.jobs().len()) == (40, 21)
+        && are_spans(plan.spans(), &FLIGHT_SPANS)
+        && are_starts(plan.jobs_by_start(), &FLIGHT_STARTS)
+        && tells_later(plan)
 }
 
-/// The window of too much demand that is found, for which there is no plan.
-fn window_of(alloc: Global, tasks: TaskSet) -> Result<Option<Window>, Fail>
-    requires { is_sound tasks ≡ true }
-{
-    let found = counterexample(alloc, &tasks)?;
-    if fault_of(alloc, tasks) == found.map(PlanFault::Infeasible) {
-        Ok(found)
-    } else {
-        Err("another window".into())
+/// Whether the spans have these starts, ends, works and capacities.
+fn are_spans(spans: &[Span], rows: &[(u64, u64, u64, i64)]) -> bool {
+    for (span, row) in spans.iter().zip(rows) {
+        if (span.start, span.end, span.work, span.spare) != *row {
+            return false;
+        }
     }
+    spans.len() == rows.len()
 }
 
-/// The fault of a set that has no plan.
-fn fault_of(alloc: Global, tasks: TaskSet) -> Option<PlanFault>
-    requires { is_sound tasks ≡ true }
-{
-    make_plan(alloc, tasks).err()
+/// Whether the jobs start so.
+fn are_starts(jobs: &[Job], starts: &[u64]) -> bool {
+    for (job, start) in jobs.iter().zip(starts) {
+        if job.est != *start {
+            return false;
+        }
+    }
+    jobs.len() == starts.len()
 }
 
-/// The window [from, until) with this demand.
-fn window(from: u64, until: u64, demand: u64) -> Window {
-    Window {
-        from,
-        until,
-        demand,
+/// Whether the last job, and the ninth by start, are the one of the radio link two cycles later.
+fn tells_later(plan: &Plan) -> bool {
+    let last = plan.jobs().len().checked_sub(1);
+    let ninth = plan.jobs_by_start().get(8);
+    match (last, ninth) {
+        (Some(last), Some(ninth)) => {
+            plan.job_in_cycle(last, 2) == LATER && plan.later_job(*ninth, 2) == LATER
+        }
+        _ => false,
     }
 }

@@ -5,6 +5,7 @@ ghost use Rattle.std.specs.Prelude.{◌+◌, ◌≤◌, length};
 use cycle_plan::Plan;
 use slot_core::{Job, Key, Span};
 use std::alloc::Global;
+use std::process::Abort;
 use std::test::Fail;
 use table_codec::{TableFault, decode, encode};
 
@@ -263,8 +264,8 @@ fn writes_the_second_version_of_both(rt: HostRuntime) -> Result<(), Fail> {
 
 #[test]
 fn writes_changed_bytes_that_are_read(rt: HostRuntime) -> Result<(), Fail> {
-    for (first, second, byte) in SPELLED {
-        let is_written = is_change_written(rt.alloc(), first, second, byte)?;
+    for (first, second, byte) in &SPELLED {
+        let is_written = is_change_written(rt.alloc(), *first, *second, *byte)?;
         assert!(rt; is_written, "at {first}");
     }
     Ok(())
@@ -295,18 +296,20 @@ fn is_alarm_written(alloc: Global, table: &[u8]) -> Result<bool, Fail> {
 }
 
 #[test]
-fn tells_first_faults_of_the_first_version(rt: HostRuntime) -> Result<(), Fail> {
-    for (count, place, byte, want) in FIRST_FAULTS {
-        let is_told = is_told(rt.alloc(), &FIRST, count, place, byte, want)?;
-        assert!(rt; is_told, "of {count} bytes, at {place}");
-    }
-    Ok(())
+fn tells_first_faults(rt: HostRuntime) -> Result<(), Fail> {
+    expect_faults(&rt, rt.alloc(), &FIRST, &FIRST_FAULTS)?;
+    expect_faults(&rt, rt.alloc(), &SECOND, &SECOND_FAULTS)
 }
 
-#[test]
-fn tells_first_faults_of_the_second_version(rt: HostRuntime) -> Result<(), Fail> {
-    for (count, place, byte, want) in SECOND_FAULTS {
-        let is_told = is_told(rt.alloc(), &SECOND, count, place, byte, want)?;
+/// Each of these is told of the table with one byte changed.
+fn expect_faults<R: Abort>(
+    rt: &R,
+    alloc: Global,
+    table: &[u8],
+    faults: &[(usize, usize, u8, &str)],
+) -> Result<(), Fail> {
+    for (count, place, byte, want) in faults {
+        let is_told = is_told(alloc, table, *count, *place, *byte, want)?;
         assert!(rt; is_told, "of {count} bytes, at {place}");
     }
     Ok(())

@@ -1,14 +1,12 @@
-//! Calls that a generator draws, each time against capacities from nothing, on spans of several
-//! pages of time.
+//! Calls that a generator draws, each time against a plain list with capacities from nothing, on
+//! spans of several pages of time.
 
-ghost use Rattle.std.specs.Prelude.{◌≡◌, ◌<◌, [], ◌∷◌, IsTrue};
-ghost use Rattle.spare_capacity.specs.Recurrence.{FollowOn};
+ghost use Rattle.std.specs.Prelude.{◌≡◌, ◌<◌};
 ghost use Rattle.interval_row.specs.Tables.{IsLive};
 
 use crate::fronts::expect_fronts;
 use interval_row::{ChainTable, RowTable, SpareTable, Spot};
 use slot_core::{Memory, Span, Steps};
-use spare_capacity::fill;
 use std::alloc::Global;
 use std::marker::Brand;
 use std::process::Abort;
@@ -20,50 +18,95 @@ const ROOM: u32 = 24;
 
 #[test]
 fn drawn_calls_keep_capacities(rt: HostRuntime) -> Result<(), Fail> {
-    drawn_calls::<HostRuntime, Brand>(&rt, rt.alloc(), Blank::new(1))
+    on_a_table::<RowTable, HostRuntime, Brand>(&rt, rt.alloc(), Blank::new(1))?;
+    on_a_table::<ChainTable, HostRuntime, Brand>(&rt, rt.alloc(), Blank::new(1))?;
+    Ok(())
 }
 
-fn drawn_calls<R: Abort, L: Ledger>(rt: &R, alloc: Global, blank: Blank) -> Result<(), Fail>
+/// A table of three cycles.
+fn on_a_table<T: SpareTable, R: Abort, L: Ledger>(
+    rt: &R,
+    alloc: Global,
+    blank: Blank,
+) -> Result<(), Memory>
     requires name { blank.name ≡ L.name }
     requires parts { blank.parts ≡ L.parts }
     requires some { 0 < L.parts }
 {
-    let cycle = [span(0, 16, 4, 4), span(16, 40, 32, -8)];
     let mut steps: Steps<L> = Steps::new(blank);
-    let mut table = RowTable::with_room(alloc, &cycle, 3, ROOM)?;
-    let mut chain = ChainTable::with_room(alloc, &cycle, 3, ROOM)?;
+    let cycle = [span(0, 16, 4, 4), span(16, 40, 32, -8)];
+    let mut table = T::with_room(alloc, &cycle, 3, ROOM)?;
+    beside_a_list(rt, alloc, &mut table, &mut steps)
+}
+
+/// The same spans on a list.
+fn beside_a_list<T: SpareTable, R: Abort, L: Ledger>(
+    rt: &R,
+    alloc: Global,
+    table: &mut T,
+    steps: &mut Steps<L>,
+) -> Result<(), Memory>
+    requires { T.limit table.old ≡ 24 }
+{
     let mut list = Vec::new(alloc);
+    drawn_calls(rt, table, &mut list, steps)
+}
+
+/// Each call is made on both, after which they have the same spans.
+fn drawn_calls<T: SpareTable, R: Abort, L: Ledger>(
+    rt: &R,
+    table: &mut T,
+    list: &mut Vec<Span>,
+    steps: &mut Steps<L>,
+) -> Result<(), Memory>
+    requires { T.limit table.old ≡ 24 }
+{
     for copy in 0..3 {
-        append(&mut list, 40 * copy)?;
+        append(list, 40 * copy)?;
     }
     let mut word: u64 = 1;
     for _call in 0..3000 {
         word = word.wrapping_mul(6_364_136_223_846_793_005).wrapping_add(1);
-        call(&mut table, word >> 32, &mut steps);
-        call(&mut chain, word >> 32, &mut steps);
-        plain_call(&mut list, word >> 32)?;
-        expect_alike(rt, alloc, &table, &chain, &mut steps)?;
-        expect_listed(rt, alloc, &table, list.as_slice(), &mut steps)?;
-        expect_fronts(rt, &table, list.as_slice(), word >> 35, &mut steps);
-        expect_fronts(rt, &chain, list.as_slice(), word >> 35, &mut steps);
+        call(table, word >> 32, steps);
+        plain_call(list, word >> 32)?;
+        refill(list);
+        assert!(rt; has_spans(table, list, steps));
+        expect_fronts(rt, table, list, word >> 35, steps);
     }
     Ok(())
 }
 
-/// The tables have the same spans, and those are filled.
-fn expect_alike<R: Abort, L: Ledger>(
-    rt: &R,
-    alloc: Global,
-    table: &RowTable,
-    chain: &ChainTable,
-    steps: &mut Steps<L>,
-) -> Result<(), Fail> {
-    expect_filled(rt, alloc, table, steps)?;
-    assert!(rt; (chain.time(), chain.last_end()) == (table.time(), table.last_end()));
-    let rows = spans(alloc, table, steps)?;
-    let others = spans(alloc, chain, steps)?;
-    assert!(rt; rows.as_slice() == others.as_slice());
-    Ok(())
+/// The capacities of the spans, from the last one back.
+fn refill(list: &mut [Span]) {
+    let mut later: i64 = 0;
+    for i in (0..list.len()).rev() {
+        let row = list[i];
+        let length = i64::try_from(row.end.saturating_sub(row.start)).unwrap_or(0);
+        let work = i64::try_from(row.work).unwrap_or(0);
+        list[i].spare = length.saturating_sub(work).saturating_add(later.min(0));
+        later = list[i].spare;
+    }
+}
+
+/// Whether these are the spans of the table.
+fn has_spans<T: SpareTable, L: Ledger>(table: &T, list: &[Span], steps: &mut Steps<L>) -> bool {
+    let mut spot = table.first();
+    for row in list {
+        if table.read(spot, steps) != *row {
+            return false;
+        }
+        if let Some(next) = table.next(spot) {
+            spot = next;
+        }
+    }
+    let ends = (table.time(), table.last_end());
+    table.count() as usize == list.len() && ends == ends_of(list)
+}
+
+/// Where the list starts and ends.
+fn ends_of(list: &[Span]) -> (u64, u64) {
+    let start = list.first().map_or(0, |row| row.start);
+    (start, list.last().map_or(0, |row| row.end))
 }
 
 /// The call that this word names, where its conditions hold.
@@ -116,10 +159,9 @@ fn change_work<T: SpareTable, L: Ledger>(
     }
 }
 
-/// The same call on a plain list of spans, whose capacities are left out.
+/// The same call on a plain list of spans, but for their capacities.
 fn plain_call(list: &mut Vec<Span>, word: u64) -> Result<(), Memory> {
-    let time = list.first().map_or(0, |row| row.start);
-    let end = list.last().map_or(0, |row| row.end);
+    let (time, end) = ends_of(list);
     let free = list.len() <= ROOM as usize - 2;
     let amount = (word / 8 % 64) as u32;
     match word % 8 {
@@ -197,27 +239,6 @@ fn append(list: &mut Vec<Span>, by: u64) -> Result<(), Memory> {
     Ok(())
 }
 
-/// The spans of the table are those of the list, but for their capacities.
-fn expect_listed<R: Abort, L: Ledger>(
-    rt: &R,
-    alloc: Global,
-    table: &RowTable,
-    list: &[Span],
-    steps: &mut Steps<L>,
-) -> Result<(), Memory> {
-    let mut rows = spans(alloc, table, steps)?;
-    leave_capacities_out(&mut rows);
-    assert!(rt; rows.as_slice() == list);
-    Ok(())
-}
-
-/// Leaves the capacities out.
-fn leave_capacities_out(rows: &mut [Span]) {
-    for i in 0..rows.len() {
-        rows[i].spare = 0;
-    }
-}
-
 /// The spot of the span at this place, or of the last one.
 fn spot_near<T: SpareTable>(table: &T, place: u32) -> Spot
     ensures { IsLive (T.pairs table.now) result }
@@ -229,62 +250,6 @@ fn spot_near<T: SpareTable>(table: &T, place: u32) -> Spot
         }
     }
     spot
-}
-
-/// The spans of a table.
-fn spans<T: SpareTable, L: Ledger>(
-    alloc: Global,
-    table: &T,
-    steps: &mut Steps<L>,
-) -> Result<Vec<Span>, Memory> {
-    let mut rows = Vec::new(alloc);
-    let mut spot = table.first();
-    for _place in 0..table.count() {
-        rows.push(table.read(spot, steps))?;
-        if let Some(next) = table.next(spot) {
-            spot = next;
-        }
-    }
-    Ok(rows)
-}
-
-/// The table's spans are those that `fill` makes of them without their capacities.
-fn expect_filled<R: Abort, L: Ledger>(
-    rt: &R,
-    alloc: Global,
-    table: &RowTable,
-    steps: &mut Steps<L>,
-) -> Result<(), Fail> {
-    let start = table.time();
-    let count = table.count();
-    let mut rows = Vec::new(alloc);
-    let mut filled = Vec::new(alloc);
-    let mut end = start;
-    let mut next = Some(table.first());
-    for _place in 0..count {
-        if let Some(spot) = next {
-            let row = table.read(spot, steps);
-            let bare = Span { spare: 0, ..row };
-            if !goes_on(bare, end) {
-                return Err("a span does not follow on".into());
-            }
-            rows.push(row)?;
-            filled.push(bare)?;
-            end = row.end;
-            next = table.next(spot);
-        }
-    }
-    assert!(rt; rows.len() == count as usize);
-    fill(&mut filled);
-    assert!(rt; rows == filled);
-    Ok(())
-}
-
-/// Whether the row starts there, and is no longer and has no more work than a table allows.
-fn goes_on(row: Span, start: u64) -> bool
-    ensures { IsTrue result → FollowOn start (row ∷ []) }
-{
-    row.start == start && start <= row.end && row.end - start <= 1 << 40 && row.work <= 1 << 40
 }
 
 fn span(start: u64, end: u64, work: u64, spare: i64) -> Span

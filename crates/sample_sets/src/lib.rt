@@ -4,12 +4,9 @@
 #![tactic(auto)]
 
 mod graphs;
-mod pairs;
 mod sets;
 
 pub use graphs::four_tasks;
-pub use pairs::{Case, NoSet, two_pairs};
 pub use sets::{
-    alarm_set, borrowing_set, crowded_set, long_names_set, offset_set, overlong_set, pair_set,
-    two_periods_set, unmanned_flight_set,
+    alarm_set, borrowing_set, long_names_set, pair_set, two_periods_set, unmanned_flight_set,
 };

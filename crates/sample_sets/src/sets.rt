@@ -2,7 +2,7 @@
 
 ghost use Rattle.std.specs.Prelude.{◌≡◌, [], ◌∷◌, true, codes, IfOk};
 ghost use Rattle.slot_core.specs.Sets.Names.{is_name};
-ghost use Rattle.sample_sets.specs.Sets.{alarm_set, borrowing_set, crowded_set, gps_graph, imu_graph, link_graph, long_names_set, offset_set, overlong_set, pair_set, plain_graph, set_of, sporadic, task, two_periods_set, unmanned_flight_set};
+ghost use Rattle.sample_sets.specs.Sets.{alarm_set, borrowing_set, gps_graph, imu_graph, link_graph, long_names_set, pair_set, plain_graph, set_of, sporadic, task, two_periods_set, unmanned_flight_set};
 
 use crate::graphs::{graph_of_three, graph_of_two, lone_task, task};
 use slot_core::{Graph, Graphs, Memory, Name, Sporadic, Sporadics, TaskSet};
@@ -63,29 +63,6 @@ pub fn borrowing_set(alloc: Global) -> Result<TaskSet, Memory>
     let p = lone_task(alloc, b"p", 10, 0, 4, 1)?;
     let q = lone_task(alloc, b"q", 10, 0, 10, 8)?;
     set_of_two(alloc, p, q)
-}
-
-/// A task with an offset, and stretches without jobs.
-pub fn offset_set(alloc: Global) -> Result<TaskSet, Memory>
-    ensures { IfOk result (λ set. set ≡ offset_set) }
-{
-    set_of_one(alloc, lone_task(alloc, b"h", 6, 2, 3, 2)?)
-}
-
-/// Two jobs that together need three of two slots.
-pub fn crowded_set(alloc: Global) -> Result<TaskSet, Memory>
-    ensures { IfOk result (λ set. set ≡ crowded_set) }
-{
-    let c = lone_task(alloc, b"c", 10, 5, 2, 2)?;
-    let d = lone_task(alloc, b"d", 10, 6, 1, 1)?;
-    set_of_two(alloc, c, d)
-}
-
-/// A task longer than its cycle.
-pub fn overlong_set(alloc: Global) -> Result<TaskSet, Memory>
-    ensures { IfOk result (λ set. set ≡ overlong_set) }
-{
-    set_of_one(alloc, lone_task(alloc, b"g", 2, 0, 2, 3)?)
 }
 
 /// Two tasks of one slot with these periods.

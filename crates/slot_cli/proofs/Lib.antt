@@ -1,5 +1,7 @@
 pub mod ChangedRuns
 pub mod CheckedCommands
+pub mod ExplainedRows
+pub mod Explanations
 pub mod InfeasibleRuns
 pub mod NamedFiles
 pub mod PrintedRuns
@@ -8,6 +10,7 @@ pub mod ServedRuns
 pub mod StatusLemmas
 pub mod TableReplays
 pub mod TextStages
+pub mod TraceLines
 pub mod VerdictLemmas
 pub mod VerifiedRuns
 pub mod WorkLemmas

@@ -14,7 +14,7 @@ use Rattle.command_line.specs.Commands.{command_of, slots_of}
 use Rattle.run_steps.specs.Readings.{plan_from, second_from}
 use Rattle.slot_cli.specs.Due.{arrivals_for, check_for, expected, output_due, plan_of_run, writing_for, writing_from, writing_of}
 use Rattle.slot_cli.specs.Printed.{IsPrinted}
-use Rattle.run_reports.proofs.ExplainedRows.{row-shows_why}
+use Rattle.slot_cli.proofs.ExplainedRows.{row-shows_why}
 use Rattle.command_line.specs.declared.Output.{Output}
 use Rattle.command_line.specs.declared.Output.TheVariants.{Change}
 use Rattle.command_line.proofs.CommandLemmas.{in_range-command}

@@ -14,7 +14,7 @@ use Rattle.command_line.specs.declared.Output.{Output}
 use Rattle.command_line.specs.declared.Output.TheVariants.{OfPlan, OfRun, Change}
 use Rattle.command_line.specs.Commands.{command_of, slots_of}
 use Rattle.plan_reports.specs.Texts.{plan_text}
-use Rattle.run_reports.specs.Texts.{run_writing, HasRow}
+use Rattle.slot_cli.specs.RunTexts.{run_writing, HasRow}
 use Rattle.run_steps.specs.Readings.{plan_from, second_from, arrivals_from, check_from}
 use Rattle.slot_cli.specs.Changed.{changed}
 

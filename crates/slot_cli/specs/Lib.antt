@@ -1,7 +1,9 @@
 pub mod Changed
 pub mod Due
+pub mod Explained
 pub mod Printed
 pub mod Recordings
+pub mod RunTexts
 pub mod Runs
 pub mod Tables
 pub mod Verdicts

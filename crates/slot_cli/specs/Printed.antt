@@ -16,7 +16,7 @@ use Rattle.command_line.specs.Commands.{command_of, slots_of}
 use Rattle.run_outcome.specs.Writings.{whole_of}
 use Rattle.run_steps.specs.Readings.{second_from}
 use Rattle.slot_cli.specs.Changed.{IsGranted}
-use Rattle.run_reports.specs.Explained.{RowShowsWhy}
+use Rattle.slot_cli.specs.Explained.{RowShowsWhy}
 use Rattle.slot_cli.specs.Due.{arrivals_for, plan_of_run, writing_from}
 
 -- the history that the trace of a command tells

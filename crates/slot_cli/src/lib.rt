@@ -29,6 +29,9 @@ ghost use Rattle.slot_cli.specs.Verdicts.{RunMeansSchedules};
 mod change;
 pub mod host;
 pub mod laws;
+mod rows;
+mod runs;
+mod traces;
 mod work;
 
 pub use host::run_on_host;

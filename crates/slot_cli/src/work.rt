@@ -8,11 +8,11 @@ ghost use Rattle.slot_cli.specs.Due.{output_due, MayBeWritten};
 ghost use Rattle.slot_cli.specs.Work.{IsWork};
 
 use crate::change::change_plan;
+use crate::runs::write_run;
 use command_line::{Command, Output, command_of};
 use cycle_plan::Plan;
 use plan_reports::write_plan;
 use run_outcome::Refusal;
-use run_reports::write_run;
 use run_steps::{arrivals_from, check_arrivals, plan_from, second_from};
 use slot_core::{Arrival, Words};
 use slot_io::{Files, Sink};

@@ -13,7 +13,7 @@ use crate::faults::JobsFault;
 use crate::jobs::{Listed, listed_jobs};
 use crate::rows::{job_names, push_job};
 use crate::tallies::{Tallies, tallies_of, tally_in};
-use csv_table::{Rows, TableFault};
+use csv_table::{CsvFault, Rows};
 use cycle_plan::Plan;
 use slot_core::{Memory, TaskSet};
 use slot_io::Sink;
@@ -52,8 +52,8 @@ pub fn put_jobs<K: Sink>(
         Some(place) => Err(JobsFault::NoLine(place as u64 + 1)),
         None => match put_known(alloc, plan, lines, out) {
             Ok(()) => Ok(()),
-            Err(TableFault::Memory) => Err(JobsFault::Memory),
-            Err(TableFault::Failed) => Err(JobsFault::Failed),
+            Err(CsvFault::Memory) => Err(JobsFault::Memory),
+            Err(CsvFault::Failed) => Err(JobsFault::Failed),
         },
     }
 }
@@ -64,14 +64,14 @@ fn put_known<K: Sink>(
     plan: &Plan,
     lines: &[TraceLine],
     out: &mut K,
-) -> Result<(), TableFault>
+) -> Result<(), CsvFault>
     ensures text { OnOk result
         (Appends (K.written out.old) (K.written out.new) (jobs_text plan.now lines.now)) }
     ensures part { OnErr result
         (AppendsPart (K.written out.old) (K.written out.new) (jobs_text plan.now lines.now)) }
-    ensures memory { result ≡ Err (TableFault.Memory) → out.new ≡ out.old }
+    ensures memory { result ≡ Err (CsvFault.Memory) → out.new ≡ out.old }
     ensures counted { K.faults out.old ≤ K.faults out.new }
-    ensures failed { result ≡ Err (TableFault.Failed)
+    ensures failed { result ≡ Err (CsvFault.Failed)
         → Rose (K.faults out.old) (K.faults out.new) }
 {
     let rows = jobs_table(alloc, plan, lines)?;

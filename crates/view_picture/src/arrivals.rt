@@ -167,8 +167,8 @@ fn draw_arrived(
     backdrop.path(mark.class(), x, y, mark.strokes(), title.as_slice())
 }
 
-/// Draws the line of this width to the deadline of an accepted offer, with a foot where that lies in
-/// the picture.
+/// Draws the line of this width to the deadline of an accepted offer, with a foot where that lies
+/// in the picture.
 pub(crate) fn draw_due(
     backdrop: &mut Backdrop,
     x: u32,

@@ -1,5 +1,6 @@
 //! Why there is no picture.
 
+use crate::PICTURE_LIMIT;
 use slot_core::Memory;
 use std::error::Error;
 use std::fmt;
@@ -33,7 +34,7 @@ impl fmt::Display for PictureFault {
     fn fmt<W: fmt::Write>(&self, f: &mut fmt::Formatter<W>) -> fmt::Result {
         match self {
             PictureFault::Memory => f.write_str("out of memory"),
-            PictureFault::TooLong => f.write_str("trace too long 10000"),
+            PictureFault::TooLong => write!(f, "trace too long {PICTURE_LIMIT}"),
         }
     }
 }

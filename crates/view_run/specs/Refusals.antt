@@ -1,8 +1,8 @@
 -- Why a trace is not shown.
 use Rattle.std.specs.Prelude.{ℕ, codes}
 use Rattle.slot_core.specs.Output.Texts.{worded}
-use Rattle.csv_table.specs.declared.faults.TableFault.{TableFault}
-use Rattle.csv_table.specs.declared.faults.TableFault.TheVariants.{Memory as TableMemory, Failed as TableFailed}
+use Rattle.csv_table.specs.declared.faults.CsvFault.{CsvFault}
+use Rattle.csv_table.specs.declared.faults.CsvFault.TheVariants.{Memory as TableMemory, Failed as TableFailed}
 use Rattle.run_outcome.specs.declared.refusal.Refusal.{Refusal}
 use Rattle.run_outcome.specs.declared.refusal.Refusal.TheVariants.{NotVerified, WriteFault, Memory}
 use Rattle.trace_lines.specs.declared.trace.TraceFault.{TraceFault}
@@ -32,7 +32,7 @@ of_picture PictureMemory = Memory
 of_picture TooLong = too_long
 
 -- of a table that is not written
-abbrev pub of_table : TableFault → Refusal
+abbrev pub of_table : CsvFault → Refusal
 of_table TableMemory = Memory
 of_table TableFailed = WriteFault
 

@@ -3,18 +3,22 @@
 ghost use Rattle.std.specs.Prelude.{◌≡◌, ◌≤◌, length};
 ghost use Rattle.slot_core.specs.Output.Texts.{worded};
 ghost use Rattle.run_outcome.specs.declared.refusal.Refusal.TheVariants.{NotVerified};
+ghost use Rattle.view_run.specs.declared.refusals.TheConstants.{WORDS_LIMIT};
 ghost use Rattle.view_run.specs.Refusals.{of_jobs, of_picture, of_table, of_text};
 
-use csv_table::TableFault;
+use csv_table::CsvFault;
 use run_outcome::{Reason, Refusal};
 use trace_lines::TraceFault;
 use trace_text::Line;
 use view_jobs::JobsFault;
 use view_picture::{PICTURE_LIMIT, PictureFault};
 
+/// Most bytes of the words of a fault, of which a number is told.
+const WORDS_LIMIT: usize = 100;
+
 /// The refusal of a trace, by these words and a number.
 fn of_trace(words: &[u8], number: u64) -> Refusal
-    requires { length words.now ≤ 100 }
+    requires { length words.now ≤ WORDS_LIMIT }
     ensures { result ≡ NotVerified (worded words.now number) }
 {
     let mut line = Line::new();
@@ -45,12 +49,12 @@ pub(crate) fn of_picture(fault: PictureFault) -> Refusal
 }
 
 /// The refusal of a table that is not written.
-pub(crate) fn of_table(fault: TableFault) -> Refusal
+pub(crate) fn of_table(fault: CsvFault) -> Refusal
     ensures { result ≡ of_table fault }
 {
     match fault {
-        TableFault::Memory => Refusal::Memory,
-        TableFault::Failed => Refusal::WriteFault,
+        CsvFault::Memory => Refusal::Memory,
+        CsvFault::Failed => Refusal::WriteFault,
     }
 }
 

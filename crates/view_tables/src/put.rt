@@ -9,7 +9,7 @@ ghost use Rattle.view_tables.specs.Tables.{header, rows_from, rows_of_line, tabl
 
 use crate::events::{event_names, push_event};
 use crate::spans::{push_spans, span_names};
-use csv_table::{Rows, TableFault};
+use csv_table::{CsvFault, Rows};
 use slot_core::Memory;
 use slot_io::Sink;
 use std::alloc::Global;
@@ -33,14 +33,14 @@ pub fn put_table<K: Sink>(
     table: Table,
     lines: &[TraceLine],
     out: &mut K,
-) -> Result<(), TableFault>
+) -> Result<(), CsvFault>
     ensures text { OnOk result
         (Appends (K.written out.old) (K.written out.new) (table_text table lines.now)) }
     ensures part { OnErr result
         (AppendsPart (K.written out.old) (K.written out.new) (table_text table lines.now)) }
-    ensures memory { result ≡ Err (TableFault.Memory) → out.new ≡ out.old }
+    ensures memory { result ≡ Err (CsvFault.Memory) → out.new ≡ out.old }
     ensures counted { K.faults out.old ≤ K.faults out.new }
-    ensures failed { result ≡ Err (TableFault.Failed)
+    ensures failed { result ≡ Err (CsvFault.Failed)
         → Rose (K.faults out.old) (K.faults out.new) }
 
     // Each row has a field for each name of the header.

@@ -7,7 +7,7 @@ use crate::pages::Times;
 use crate::span_table::ChainTable;
 use crate::store::Store;
 use crate::table::{Front, SpareTable};
-use crate::walk_back::gives_nothing;
+use crate::walk_back::has_none_to_give;
 use node_chain::Chain;
 use slot_core::{Span, Steps};
 use std::alloc::Global;
@@ -21,8 +21,9 @@ use std::test::Fail;
 fn fields_are_whole(rt: HostRuntime) -> Result<(), Fail> {
     let table = ChainTable::with_room(rt.alloc(), &[span(0, 4, 1, 3)], 1, 1)?;
     let ChainTable { chain, times, hint } = &table;
+    let Lifted { shelf } = chain;
     let Times { start, end } = times;
-    let fields: (&Lifted<Chain>, &u64, &u64, &u32) = (chain, start, end, hint);
+    let fields: (&Chain, &u64, &u64, &u32) = (shelf, start, end, hint);
     assert_eq!(rt;
         (fields.0.len(), *fields.1, *fields.2, *fields.3),
         (1, 0, 4, 0)
@@ -43,7 +44,7 @@ fn pages_before_are_told(rt: HostRuntime) -> Result<(), Fail> {
 }
 
 // Pages whose times leave room are passed whole: of spans that end at 3, 6, .. 600 with a slot of
-// work each, those from 255 to 512.
+// work each, those from 256 to 575.
 #[test]
 fn pages_with_room_are_passed(rt: HostRuntime) -> Result<(), Fail> {
     passes_pages::<HostRuntime, Brand>(&rt, rt.alloc(), Blank::new(1))
@@ -56,7 +57,7 @@ fn passes_pages<R: Abort, L: Ledger>(rt: &R, alloc: Global, blank: Blank) -> Res
 {
     let mut steps: Steps<L> = Steps::new(blank);
     let table = ChainTable::with_room(alloc, &[span(0, 3, 1, 2)], 200, 200)?;
-    assert!(rt; counts_passed(&table, &mut steps) == Some((85, 170)));
+    assert!(rt; counts_passed(&table, &mut steps) == Some((85, 191)));
     Ok(())
 }
 
@@ -70,8 +71,8 @@ fn counts_passed<L: Ledger>(table: &ChainTable, steps: &mut Steps<L>) -> Option<
     if table.count() <= front.count {
         return None;
     }
-    let row = table.read(table.spot(front.count), steps);
-    let passed = table.skip(front, row, 600, 100);
+    let span = table.read(table.spot(front.count), steps);
+    let passed = table.skip(front, span, 600, 100);
     Some((front.count, passed.count))
 }
 
@@ -89,20 +90,20 @@ fn charges_last<R: Abort, L: Ledger>(rt: &R, alloc: Global, blank: Blank) -> Res
 {
     let mut steps: Steps<L> = Steps::new(blank);
     let mut table = ChainTable::with_room(alloc, &[span(0, 3, 1, 2)], 200, 200)?;
-    assert!(rt; !gives_nothing(&table.chain, 3, 0));
+    assert!(rt; !has_none_to_give(&table.chain, 3, 0));
     charge_last(&mut table, 700, &mut steps);
-    assert!(rt; gives_nothing(&table.chain, 0, 300) && !gives_nothing(&table.chain, 0, 301));
+    assert!(rt; has_none_to_give(&table.chain, 0, 300) && !has_none_to_give(&table.chain, 0, 301));
     charge_last(&mut table, 1, &mut steps);
-    assert!(rt; gives_nothing(&table.chain, 0, 301) && !gives_nothing(&table.chain, 0, 302));
+    assert!(rt; has_none_to_give(&table.chain, 0, 301) && !has_none_to_give(&table.chain, 0, 302));
     Ok(())
 }
 
 /// So many slots more for the last span.
 fn charge_last<L: Ledger>(table: &mut ChainTable, slots: u32, steps: &mut Steps<L>) {
     let last = table.spot(table.count() - 1);
-    let row = table.read(last, steps);
-    if row.work <= 1000 {
-        table.charge(row.end, slots, steps);
+    let span = table.read(last, steps);
+    if span.work <= 1000 {
+        table.charge(span.end, slots, steps);
     }
 }
 

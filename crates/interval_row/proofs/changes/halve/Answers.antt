@@ -14,26 +14,26 @@ use Rattle.interval_row.proofs.changes.halve.Goals as goal
 use Rattle.interval_row.proofs.changes.halve.Goals.{After-part_from}
 
 -- what holds of the span that becomes two
-record Halved (at : ℕ) (row : Span) : Type 0 where
-  low : row.start < at
-  high : at < row.end
-  short : IsShort row
-  within : IsWithin row.spare
+record Halved (at : ℕ) (span : Span) : Type 0 where
+  low : span.start < at
+  high : at < span.end
+  short : IsShort span
+  within : IsWithin span.spare
 
-row_is : (g : Over) (c : After-part_from g) → c.args.place.row ≡ get_or (g.S.Store.spans c.args.store.now) c.args.place.index no_row
-row_is g c = sym (get_or_from_slice_get (g.S.Store.spans c.args.store.now) c.args.place.index c.args.place.row no_row c.requires.row)
+row_is : (g : Over) (c : After-part_from g) → c.args.place.span ≡ get_or (g.S.Store.spans c.args.store.now) c.args.place.index no_row
+row_is g c = sym (get_or_from_slice_get (g.S.Store.spans c.args.store.now) c.args.place.index c.args.place.span no_row c.requires.span)
 
-halved : (g : Over) (c : After-part_from g) → Halved c.args.at c.args.place.row
+halved : (g : Over) (c : After-part_from g) → Halved c.args.at c.args.place.span
 halved g c =
     let rows = g.S.Store.spans c.args.store.now in
     let index = c.args.place.index in
-    let l = slice_get_within rows index c.args.place.row c.requires.row in
+    let l = slice_get_within rows index c.args.place.span c.requires.span in
     let inside = HoldsInside-at c.args.at index rows c.requires.inside in
     rw (row_is g c) (record {
       low = inside.0;
       high = inside.1;
-      short = IsShort-at (first_start rows) rows index c.requires.rows.consecutive l;
-      within = IsWithin-spare (first_start rows) rows index c.requires.rows.consecutive c.requires.rows.filled c.requires.rows.few l;
+      short = IsShort-at (first_start rows) rows index c.requires.filled.consecutive l;
+      within = IsWithin-spare (first_start rows) rows index c.requires.filled.consecutive c.requires.filled.filled c.requires.filled.few l;
     })
 
 pub overflow_sub-at : goal.overflow_sub-at
@@ -59,12 +59,12 @@ refilled-first-requires-clause-borrows_few g c =
     omega (arith, ints, h.low, h.high, h.short.length, h.within.low, ap (λ (s : Span). s.spare) c.part_from.ensures, ap (λ (s : Span). s.spare) c.lowered-second.ensures)
 
 pub insert-requires-clause-within : goal.insert-requires-clause-within
-insert-requires-clause-within g c = slice_get_within (g.S.Store.spans c.args.store.now) c.args.place.index c.args.place.row c.requires.row
+insert-requires-clause-within g c = slice_get_within (g.S.Store.spans c.args.store.now) c.args.place.index c.args.place.span c.requires.span
 
 pub set-requires : goal.set-requires
 set-requires g c =
     let rows = g.S.Store.spans c.args.store.now in
-    let l = slice_get_within rows c.args.place.index c.args.place.row c.requires.row in
+    let l = slice_get_within rows c.args.place.index c.args.place.span c.requires.span in
     omega (arith, l, ap length c.insert.ensures.spans, length-insert rows c.args.place.index c.refilled-first.result (omega (arith, l)))
 
 pub returns-clause-spans : goal.returns-clause-spans
@@ -76,10 +76,10 @@ returns-clause-spans g c =
     let second = c.lowered-second.result in
     let is = row_is g (goal.at.returns-clause-spans g c).After-part_from in
     let next : index + 1 ≡ suc index = omega arith in
-    let later = c.lowered-second.ensures ∙ ap (λ (s : Span). record s { spare = s.spare -ℤ pos (at - c.args.place.row.start) }) c.part_from.ensures ∙ ap (λ (s : Span). record (part_from at s) { spare = s.spare -ℤ pos (at - s.start) }) is in
+    let later = c.lowered-second.ensures ∙ ap (λ (s : Span). record s { spare = s.spare -ℤ pos (at - c.args.place.span.start) }) c.part_from.ensures ∙ ap (λ (s : Span). record (part_from at s) { spare = s.spare -ℤ pos (at - s.start) }) is in
     let earlier = c.refilled-first.ensures ∙ ap (λ (s : Span). with_spare s second.spare) c.part_before.ensures ∙ ap (λ (s : Span). with_spare (part_before at s) second.spare) is in
     c.set.ensures.spans
     ∙ ap (λ xs. set xs (index + 1) second) c.insert.ensures.spans
     ∙ ap (λ k. set (insert rows index first) k second) next
-    ∙ halves-filled at index rows first second c.requires.rows.filled c.requires.inside later earlier
-    ∙ ap filled (sym (cut-halved (first_start rows) at index rows c.requires.rows.consecutive c.requires.found c.requires.inside))
+    ∙ halves-filled at index rows first second c.requires.filled.filled c.requires.inside later earlier
+    ∙ ap filled (sym (cut-halved (first_start rows) at index rows c.requires.filled.consecutive c.requires.found c.requires.inside))

@@ -13,15 +13,15 @@ use Rattle.interval_row.proofs.changes.pass.Goals as goal
 pub later_start-requires-clause-low : goal.later_start-requires-clause-low
 later_start-requires-clause-low g c =
     let rows = g.S.Store.spans c.args.store.now in
-    let row = get_or_from_slice_get rows 0 c.at-row.result no_row c.at-row.ensures.span in
-    let within = IsWithin-spare (first_start rows) rows 0 c.requires.rows.consecutive c.requires.rows.filled c.requires.rows.few (omega (arith, c.requires.rows.some)) in
-    omega (arith, ints, within.low, ap (λ (s : Span). s.spare) row)
+    let span = get_or_from_slice_get rows 0 c.at-span.result no_row c.at-span.ensures.span in
+    let within = IsWithin-spare (first_start rows) rows 0 c.requires.filled.consecutive c.requires.filled.filled c.requires.filled.few (omega (arith, c.requires.filled.some)) in
+    omega (arith, ints, within.low, ap (λ (s : Span). s.spare) span)
 
 pub drop_span-requires : goal.drop_span-requires
 drop_span-requires g c = record { marks = ap length c.pop_front-passed.ensures.marks ∙ c.requires.marked.length }
 
-pub returns-then-row-clause-marked : goal.returns-then-row-clause-marked
-returns-then-row-clause-marked g c =
+pub returns-then-span-clause-marked : goal.returns-then-span-clause-marked
+returns-then-span-clause-marked g c =
     let rows = g.S.Store.spans c.args.store.now in
     let marks = g.S.Store.marks c.args.store.now in
     let passed = c.pop_front-passed.result in
@@ -35,14 +35,14 @@ returns-then-row-clause-marked g c =
 pub returns-clause-marked : goal.returns-clause-marked
 returns-clause-marked g c =
     let rows = g.S.Store.spans c.args.store.now in
-    let stays = Stays-set rows c.at-row.result c.later_start.result c.at-row.ensures.span (ap (λ (s : Span). s.end) c.later_start.ensures) (ap (λ (s : Span). s.work) c.later_start.ensures) in
+    let stays = Stays-set rows c.at-span.result c.later_start.result c.at-span.ensures.span (ap (λ (s : Span). s.end) c.later_start.ensures) (ap (λ (s : Span). s.work) c.later_start.ensures) in
     rw (c.set.ensures.spans, c.set.ensures.marks) (AreMarked-Stays stays c.requires.marked)
 
 pub returns-clause-spans : goal.returns-clause-spans
 returns-clause-spans g c =
     let rows = g.S.Store.spans c.args.store.now in
-    let row = sym (get_or_from_slice_get rows 0 c.at-row.result no_row c.at-row.ensures.span) in
-    let low = IsProper-first rows c.requires.rows.proper c.requires.rows.some in
-    let more = λ (e : (get_or rows 0 no_row).start + 1 ≡ (get_or rows 0 no_row).end). c.if-row.false (ap (λ (s : Span). s.start + 1) row ∙ e ∙ sym (ap (λ (s : Span). s.end) row)) in
-    let put = c.later_start.ensures ∙ ap (λ (s : Span). record s { start = s.start + 1; spare = s.spare -ℤ pos 1 }) row in
-    c.set.ensures.spans ∙ passed-on rows c.later_start.result c.requires.rows.filled c.requires.rows.some low more put
+    let span = sym (get_or_from_slice_get rows 0 c.at-span.result no_row c.at-span.ensures.span) in
+    let low = IsProper-first rows c.requires.filled.proper c.requires.filled.some in
+    let more = λ (e : (get_or rows 0 no_row).start + 1 ≡ (get_or rows 0 no_row).end). c.if-span.false (ap (λ (s : Span). s.start + 1) span ∙ e ∙ sym (ap (λ (s : Span). s.end) span)) in
+    let put = c.later_start.ensures ∙ ap (λ (s : Span). record s { start = s.start + 1; spare = s.spare -ℤ pos 1 }) span in
+    c.set.ensures.spans ∙ passed-on rows c.later_start.result c.requires.filled.filled c.requires.filled.some low more put

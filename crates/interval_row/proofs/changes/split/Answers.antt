@@ -6,7 +6,7 @@ use Rattle.spare_capacity.proofs.Steps.{no_row}
 use Rattle.node_chain.specs.Laps.{blank_mark}
 use Rattle.interval_row.specs.Changes.{cut}
 use Rattle.interval_row.specs.Marks.{mark_index, with_cut}
-use Rattle.interval_row.specs.Rows.{place_of, HoldsInside}
+use Rattle.interval_row.specs.Spans.{place_of, HoldsInside}
 use Rattle.interval_row.proofs.Cuts.{cut-same, place_of-within, HoldsInside-place_of}
 use Rattle.interval_row.proofs.Cycles.{last_end-some}
 use Rattle.interval_row.proofs.Laps.{follows}
@@ -20,22 +20,22 @@ use Rattle.interval_row.proofs.changes.split.Goals.{After-find-place}
 pub find-place-requires-clause-within : goal.find-place-requires-clause-within
 find-place-requires-clause-within g c =
     let rows = g.S.Store.spans c.args.store.now in
-    let reached : c.args.at ≤ last_end (first_start rows) rows = omega (arith, c.requires.reached, last_end-some (first_start rows) 0 rows c.requires.timed.rows.some) in
-    place_of-within (first_start rows) c.args.at rows c.requires.timed.rows.consecutive c.requires.after reached
+    let reached : c.args.at ≤ last_end (first_start rows) rows = omega (arith, c.requires.reached, last_end-some (first_start rows) 0 rows c.requires.timed.filled.some) in
+    place_of-within (first_start rows) c.args.at rows c.requires.timed.filled.consecutive c.requires.after reached
 
 -- the end of the span that was found
-end_is : (g : Over) (c : After-find-place g) → c.find-place.result.row.end ≡ (get_or (g.S.Store.spans c.args.store.now) (place_of c.args.at (g.S.Store.spans c.args.store.now)) no_row).end
+end_is : (g : Over) (c : After-find-place g) → c.find-place.result.span.end ≡ (get_or (g.S.Store.spans c.args.store.now) (place_of c.args.at (g.S.Store.spans c.args.store.now)) no_row).end
 end_is g c =
     let rows = g.S.Store.spans c.args.store.now in
-    ap (λ (s : Span). s.end) (sym (get_or_from_slice_get rows c.find-place.result.index c.find-place.result.row no_row c.find-place.ensures.row)) ∙ ap (λ k. (get_or rows k no_row).end) c.find-place.ensures.index
+    ap (λ (s : Span). s.end) (sym (get_or_from_slice_get rows c.find-place.result.index c.find-place.result.span no_row c.find-place.ensures.span)) ∙ ap (λ k. (get_or rows k no_row).end) c.find-place.ensures.index
 
 -- a time that is not its end lies inside it
-inside : (g : Over) (c : After-find-place g) → (c.find-place.result.row.end ≡ c.args.at → ⊥) → HoldsInside c.args.at c.find-place.result.index (g.S.Store.spans c.args.store.now)
+inside : (g : Over) (c : After-find-place g) → (c.find-place.result.span.end ≡ c.args.at → ⊥) → HoldsInside c.args.at c.find-place.result.index (g.S.Store.spans c.args.store.now)
 inside g c apart =
     let rows = g.S.Store.spans c.args.store.now in
-    let reached : c.args.at ≤ last_end (first_start rows) rows = omega (arith, c.requires.reached, last_end-some (first_start rows) 0 rows c.requires.timed.rows.some) in
+    let reached : c.args.at ≤ last_end (first_start rows) rows = omega (arith, c.requires.reached, last_end-some (first_start rows) 0 rows c.requires.timed.filled.some) in
     let other = λ (e : (get_or rows (place_of c.args.at rows) no_row).end ≡ c.args.at). apart (end_is g c ∙ e) in
-    subst (λ k. HoldsInside c.args.at k rows) (sym c.find-place.ensures.index) (HoldsInside-place_of (first_start rows) c.args.at rows c.requires.timed.rows.consecutive c.requires.after reached other)
+    subst (λ k. HoldsInside c.args.at k rows) (sym c.find-place.ensures.index) (HoldsInside-place_of (first_start rows) c.args.at rows c.requires.timed.filled.consecutive c.requires.after reached other)
 
 pub halve-requires-clause-inside : goal.halve-requires-clause-inside
 halve-requires-clause-inside g c = inside g (goal.at.halve-requires-clause-inside g c).After-find-place c.if-place-at.true
@@ -45,7 +45,7 @@ cut_span-requires-clause-marks g c = ap length c.halve.ensures.marks ∙ c.requi
 
 pub cut_span-requires-clause-counts : goal.cut_span-requires-clause-counts
 cut_span-requires-clause-counts g c =
-    rw c.halve.ensures.marks (few_counts c.args.at c.requires.timed.marked c.requires.timed.rows.few)
+    rw c.halve.ensures.marks (few_counts c.args.at c.requires.timed.marked c.requires.timed.filled.few)
 
 pub returns-then-place-at-clause-marked : goal.returns-then-place-at-clause-marked
 returns-then-place-at-clause-marked g c =
@@ -65,7 +65,7 @@ returns-then-place-at-clause-nothing g c =
     λ found.
     let rows = g.S.Store.spans c.args.store.now in
     let after = (goal.at.returns-then-place-at-clause-nothing g c).After-find-place in
-    absurd (c.if-place-at.true (end_is g after ∙ ends-span_ending (first_start rows) rows c.args.at c.requires.timed.rows.consecutive found))
+    absurd (c.if-place-at.true (end_is g after ∙ ends-span_ending (first_start rows) rows c.args.at c.requires.timed.filled.consecutive found))
 
 pub returns-then-place-at-clause-few_steps : goal.returns-then-place-at-clause-few_steps
 returns-then-place-at-clause-few_steps g c =
@@ -75,7 +75,7 @@ pub returns-else-place-at-clause-spans : goal.returns-else-place-at-clause-spans
 returns-else-place-at-clause-spans g c =
     let rows = g.S.Store.spans c.args.store.now in
     let after = (goal.at.returns-else-place-at-clause-spans g c).After-find-place in
-    c.requires.timed.rows.filled ∙ ap filled (sym (cut-same (first_start rows) c.args.at rows c.requires.timed.rows.consecutive (sym (end_is g after) ∙ c.if-place-at.false)))
+    c.requires.timed.filled.filled ∙ ap filled (sym (cut-same (first_start rows) c.args.at rows c.requires.timed.filled.consecutive (sym (end_is g after) ∙ c.if-place-at.false)))
 
 pub returns-else-place-at-clause-few_steps : goal.returns-else-place-at-clause-few_steps
 returns-else-place-at-clause-few_steps g c =

@@ -8,5 +8,5 @@ returns-then-time-eq0-clause-marked g c =
     λ spans h.
     let marks = g.S.Store.marks c.args.store.now in
     let new = g.S.Store.marks c.leave_page.new.store in
-    let put = put_is marks new (mark_index c.args.time) (passed c.args.time) (omega (arith, c.requires.marks)) c.leave_page.ensures.marks in
+    let put = put_is marks new (mark_index c.args.time) (passed c.args.time) (omega (arith, c.requires.marked.length)) c.leave_page.ensures.marks in
     rw put (AreMarked-passed c.args.time spans marks c.if-time-eq0.true h)

@@ -11,7 +11,7 @@ tell_pages-requires-clause-rising g c = rises c.requires.timed
 pub loop-page-init : goal.loop-page-init
 loop-page-init g c =
     let start = c.args.times.start in
-    record { before = IsBefore-none start (start / 128 * 128) _ (follows c.requires.timed) (omega arith); early = omega arith }
+    record { before = IsBefore-none start (start / 64 * 64) _ (follows c.requires.timed) (omega arith); early = omega arith }
 
 -- the page after those so far
 next : (g : Over) (c : After-mark_at g) → IsNext (g.S.Store.spans c.args.store.now) c.loop-page.front c.mark_at.result c.loop-page.page
@@ -31,4 +31,4 @@ loop-page-preserved g c =
 
 pub returns-clause-front : goal.returns-clause-front
 returns-clause-front g c =
-    IsFront-IsBefore c.args.times.start (c.loop-page.page * 128) _ c.loop-page.front (follows c.requires.timed) c.loop-page.invariant.before
+    IsFront-IsBefore c.args.times.start (c.loop-page.page * 64) _ c.loop-page.front (follows c.requires.timed) c.loop-page.invariant.before

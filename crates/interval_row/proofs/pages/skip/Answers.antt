@@ -39,7 +39,7 @@ pub loop-page-preserved : goal.loop-page-preserved
 loop-page-preserved g c =
     let crossing = crossing g (goal.at.loop-page-preserved g c).Else-span in
     let marked = c.requires.timed.marked.each _ c.mark_at-mark.result c.mark_at-mark.ensures in
-    let lap : c.loop-page.page < c.args.times.start / 128 + 256 = omega (arith, (c.if-not-tell_pages.ensures refl), c.requires.until, c.loop-page-test.true) in
+    let lap : c.loop-page.page < c.args.times.start / 64 + 512 = omega (arith, (c.if-not-tell_pages.ensures refl), c.requires.until, c.loop-page-test.true) in
     rw c.with_page-passed.ensures (ArePassed-next c.mark_at-mark.result crossing (lies-in-lap c.requires.timed (c.if-not-tell_pages.ensures refl)) lap c.loop-page-test.true marked c.requires.some c.if-mark-asked.false c.loop-page.invariant)
 
 -- what holds where pages were passed

@@ -10,7 +10,7 @@ use Rattle.interval_row.specs.Marks.{AreMarked}
 use Rattle.interval_row.proofs.Marked.{AreLight-FollowOn, AreMarked-later}
 use Rattle.interval_row.proofs.Cycles.{copies_fit, last_end-le, AreCopies-copies_of}
 use Rattle.interval_row.proofs.Ends.{last_end-appended}
-use Rattle.interval_row.proofs.Kept.{starts-at_zero, AreRows-ArePlanSpans}
+use Rattle.interval_row.proofs.Kept.{starts-at_zero, AreFilled-ArePlanSpans}
 use Rattle.interval_row.proofs.Rooms.{AreKept-copies_of, IsTable-AreKept, AreKept, marked_of}
 use Rattle.interval_row.proofs.Spots.{spans_of_pairs-numbered}
 use Rattle.interval_row.proofs.span_table.filled_table.Given.{Over}
@@ -29,7 +29,7 @@ append-requires-clause-free g c =
 
 pub append-requires-clause-spans : goal.append-requires-clause-spans
 append-requires-clause-spans g c =
-    AreRows-ArePlanSpans c.args.spans.now c.requires.plan (few_spans g (goal.at.append-requires-clause-spans g c).In_ok-chain)
+    AreFilled-ArePlanSpans c.args.spans.now c.requires.plan (few_spans g (goal.at.append-requires-clause-spans g c).In_ok-chain)
 
 pub append-requires-clause-near : goal.append-requires-clause-near
 append-requires-clause-near g c =
@@ -41,7 +41,7 @@ append-requires-clause-near g c =
     omega (arith, c.loop-copy.invariant.end, last_end-le 0 rows copies.consecutive, last_end-le 0 spans c.requires.plan.consecutive, copies.count, few, fit, c.requires.few)
 
 pub put_first_marks-requires : goal.put_first_marks-requires
-put_first_marks-requires g c = record { marks = ap length c.in_ok-chain.ensures.marks ∙ length-replicate 256 blank_mark }
+put_first_marks-requires g c = record { marks = ap length c.in_ok-chain.ensures.marks ∙ length-replicate 512 blank_mark }
 
 pub append-requires-clause-few : goal.append-requires-clause-few
 append-requires-clause-few g c =

@@ -19,22 +19,22 @@ loop-index-init g c =
       high = omega arith;
     }
 
-pub returns-then-x-row-clause-index : goal.returns-then-x-row-clause-index
-returns-then-x-row-clause-index g c =
+pub returns-then-x-span-clause-index : goal.returns-then-x-span-clause-index
+returns-then-x-span-clause-index g c =
     let rows = g.S.Store.spans c.args.store.now in
     let index = c.loop-index.index in
-    let row = get_or_from_slice_get rows index c.at-row.result no_row c.at-row.ensures.span in
-    let ends : c.args.x ≤ (get_or rows index no_row).end = omega (arith, c.if-x-row.true, ap (λ (s : Span). s.end) row) in
-    place_of-here c.args.x rows index c.loop-index.invariant.before (slice_get_within rows index c.at-row.result c.at-row.ensures.span) ends
+    let span = get_or_from_slice_get rows index c.at-span.result no_row c.at-span.ensures.span in
+    let ends : c.args.x ≤ (get_or rows index no_row).end = omega (arith, c.if-x-span.true, ap (λ (s : Span). s.end) span) in
+    place_of-here c.args.x rows index c.loop-index.invariant.before (slice_get_within rows index c.at-span.result c.at-span.ensures.span) ends
 
 pub loop-index-preserved : goal.loop-index-preserved
 loop-index-preserved g c =
     let rows = g.S.Store.spans c.args.store.now in
     let index = c.loop-index.index in
-    let row = get_or_from_slice_get rows index c.at-row.result no_row c.at-row.ensures.span in
-    let ends : (get_or rows index no_row).end < c.args.x = omega (arith, c.if-x-row.false, ap (λ (s : Span). s.end) row) in
+    let span = get_or_from_slice_get rows index c.at-span.result no_row c.at-span.ensures.span in
+    let ends : (get_or rows index no_row).end < c.args.x = omega (arith, c.if-x-span.false, ap (λ (s : Span). s.end) span) in
     record {
-      before = place_of-next c.args.x rows index c.loop-index.invariant.before (slice_get_within rows index c.at-row.result c.at-row.ensures.span) ends;
-      low = omega (arith, c.at-row.ensures.one_step, c.loop-index.invariant.low);
-      high = omega (arith, c.at-row.ensures.one_step, c.loop-index.invariant.high);
+      before = place_of-next c.args.x rows index c.loop-index.invariant.before (slice_get_within rows index c.at-span.result c.at-span.ensures.span) ends;
+      low = omega (arith, c.at-span.ensures.one_step, c.loop-index.invariant.low);
+      high = omega (arith, c.at-span.ensures.one_step, c.loop-index.invariant.high);
     }

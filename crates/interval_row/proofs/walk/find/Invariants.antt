@@ -1,5 +1,5 @@
 use Rattle.std.proofs.Common.{◌+◌, ◌≤◌}
-use Rattle.interval_row.specs.Rows.{place_of}
+use Rattle.interval_row.specs.Spans.{place_of}
 use Rattle.interval_row.proofs.walk.find.Given as goal
 
 -- the spans so far end before x

@@ -5,7 +5,7 @@ use Rattle.std.proofs.lemmas.Option.{slice_get_within}
 use Rattle.slot_core.specs.declared.jobs.Span.{Span}
 use Rattle.spare_capacity.specs.Recurrence.{first_start}
 use Rattle.interval_row.specs.Changes.{ends_before}
-use Rattle.interval_row.specs.Rows.{AreRows}
+use Rattle.interval_row.specs.Spans.{AreFilled}
 use Rattle.interval_row.specs.Walks.{AreInPages, IsPageOf}
 use Rattle.interval_row.proofs.PageWalks.{ends_before-walks, AreAtPage-walk, AreAtMost-AreUpTo, AreUpTo, AreUpTo-next}
 use Rattle.interval_row.proofs.walk_back.follow_each.Given.{Over}
@@ -20,7 +20,7 @@ loop-index-init g c =
       spans = refl;
       place = refl;
       reached = omega arith;
-      within = omega (arith, c.requires.place, count_by-le-length (λ (s : Span). ltb s.end ((c.args.page + 1) * 128)) rows);
+      within = omega (arith, c.requires.place, count_by-le-length (λ (s : Span). ltb s.end ((c.args.page + 1) * 64)) rows);
       up = rw none tt;
       room = refl;
       marks = refl;
@@ -31,8 +31,8 @@ loop-index-init g c =
 pub follow-last-requires-clause-some : goal.follow-last-requires-clause-some
 follow-last-requires-clause-some g c = omega (arith, c.loop-index.invariant.place, c.loop-index-test.true)
 
-pub follow-last-requires-clause-rows : goal.follow-last-requires-clause-rows
-follow-last-requires-clause-rows g c = subst AreRows (sym c.loop-index.invariant.spans) c.requires.pages.rows
+pub follow-last-requires-clause-filled : goal.follow-last-requires-clause-filled
+follow-last-requires-clause-filled g c = subst AreFilled (sym c.loop-index.invariant.spans) c.requires.pages.filled
 
 pub loop-index-preserved : goal.loop-index-preserved
 loop-index-preserved g c =
@@ -43,18 +43,18 @@ loop-index-preserved g c =
     let next : c.loop-index.walk.index ≡ suc k = omega (arith, c.follow-last.ensures.index) in
     let same : drop (suc k) new ≡ drop (suc k) old = rw next at c.follow-last.ensures.rest in
     let more : suc (c.args.from.index - suc k) ≡ c.args.from.index - k = omega (arith, next, c.loop-index.invariant.place, c.loop-index.auto._index) in
-    let spare : FitsSigned w64 last.row.spare = search rules in
+    let spare : FitsSigned w64 last.span.spare = search rules in
     let fits : FitsSigned w64 c.max-high.result = search rules in
     let bound = to_z-of_z w64 c.max-high.result fits in
     let old_bound : to_z w64 c.loop-index.high-bits ≤ℤ to_z w64 (of_z w64 c.max-high.result) = omega (arith, ints, clamps, c.max-high.ensures.value, bound) in
-    let row_bound : last.row.spare ≤ℤ to_z w64 (of_z w64 c.max-high.result) = omega (arith, ints, clamps, c.max-high.ensures.value, bound, to_z-of_z w64 last.row.spare spare) in
+    let row_bound : last.span.spare ≤ℤ to_z w64 (of_z w64 c.max-high.result) = omega (arith, ints, clamps, c.max-high.ensures.value, bound, to_z-of_z w64 last.span.spare spare) in
     let was : AreUpTo (to_z w64 c.loop-index.high-bits) (take (c.args.from.index - suc k) (drop (suc k) old)) = rw next at c.loop-index.invariant.up in
     record {
       spans = c.follow-last.ensures.spans ∙ c.loop-index.invariant.spans;
       place = omega (arith, c.follow-last.ensures.index, c.loop-index.invariant.place);
       reached = omega (arith, next, c.loop-index.invariant.place, c.loop-index-test.true);
-      within = omega (arith, slice_get_within new k last.row c.follow-last.ensures.row);
-      up = subst (λ n. AreUpTo (to_z w64 (of_z w64 c.max-high.result)) (take n (drop k new))) more (AreUpTo-next (to_z w64 c.loop-index.high-bits) (to_z w64 (of_z w64 c.max-high.result)) k (c.args.from.index - suc k) last.row old new c.follow-last.ensures.row same row_bound old_bound was);
+      within = omega (arith, slice_get_within new k last.span c.follow-last.ensures.span);
+      up = subst (λ n. AreUpTo (to_z w64 (of_z w64 c.max-high.result)) (take n (drop k new))) more (AreUpTo-next (to_z w64 c.loop-index.high-bits) (to_z w64 (of_z w64 c.max-high.result)) k (c.args.from.index - suc k) last.span old new c.follow-last.ensures.span same row_bound old_bound was);
       room = c.follow-last.ensures.room ∙ c.loop-index.invariant.room;
       marks = c.follow-last.ensures.marks ∙ c.loop-index.invariant.marks;
       low = omega (arith, c.follow-last.ensures.two_steps, c.loop-index.invariant.low);
@@ -62,9 +62,9 @@ loop-index-preserved g c =
     }
 
 -- all spans of the page have followed
-here : (g : Over) (c : After-index_of_page g) → c.loop-index.walk.index ≡ ends_before (c.args.page * 128) (g.S.Store.spans c.loop-index.store)
+here : (g : Over) (c : After-index_of_page g) → c.loop-index.walk.index ≡ ends_before (c.args.page * 64) (g.S.Store.spans c.loop-index.store)
 here g c =
-    let low = ends_before-walks (c.args.page * 128) c.loop-index.walk c.args.from (g.S.Store.spans c.loop-index.store) (g.S.Store.spans c.args.store.now) c.loop-index.invariant.spans in
+    let low = ends_before-walks (c.args.page * 64) c.loop-index.walk c.args.from (g.S.Store.spans c.loop-index.store) (g.S.Store.spans c.args.store.now) c.loop-index.invariant.spans in
     omega (arith, low, c.requires.count, c.loop-index.invariant.place, c.loop-index.invariant.reached, c.loop-index-test.false)
 
 pub set_high-requires-clause-below : goal.set_high-requires-clause-below
@@ -75,12 +75,12 @@ set_high-requires-clause-below g c =
     let page = c.args.page in
     let same = c.loop-index.invariant.spans in
     let at = AreAtPage-walk walk page rows (g.S.Store.marks c.args.store.now) (subst (λ xs. AreInPages xs (g.S.Store.marks c.args.store.now)) (sym same) c.requires.pages) (subst (λ xs. IsPageOf xs page) (sym same) c.requires.page) in
-    let high : ends_before ((page + 1) * 128) rows ≡ ends_before ((page + 1) * 128) old = ends_before-walks ((page + 1) * 128) walk c.args.from rows old same in
+    let high : ends_before ((page + 1) * 64) rows ≡ ends_before ((page + 1) * 64) old = ends_before-walks ((page + 1) * 64) walk c.args.from rows old same in
     let here = here g ((goal.at.set_high-requires-clause-below g c).After-index_of_page) in
-    let n = c.args.from.index - ends_before (page * 128) rows in
-    let up : AreUpTo (to_z w64 c.loop-index.high-bits) (take n (drop (ends_before (page * 128) rows) rows)) = rw here at c.loop-index.invariant.up in
+    let n = c.args.from.index - ends_before (page * 64) rows in
+    let up : AreUpTo (to_z w64 c.loop-index.high-bits) (take n (drop (ends_before (page * 64) rows) rows)) = rw here at c.loop-index.invariant.up in
     rw c.index_of_page.ensures (AreAtMost-AreUpTo (first_start rows) (first_start rows) page n (to_z w64 c.loop-index.high-bits) rows at.is at.follow at.lap (omega (arith, high, here, c.requires.place, c.requires.count)) up)
 
 pub returns-clause-place : goal.returns-clause-place
 returns-clause-place g c =
-    (λ other. here g ((goal.at.returns-clause-place g c).After-index_of_page) ∙ ap (ends_before (c.args.page * 128)) (sym c.set_high.ensures.spans))
+    (λ other. here g ((goal.at.returns-clause-place g c).After-index_of_page) ∙ ap (ends_before (c.args.page * 64)) (sym c.set_high.ensures.spans))

@@ -2,7 +2,7 @@ use Rattle.std.proofs.Common.{◌≡◌, ◌+◌, ◌-◌, ◌*◌, ◌≤◌, �
 use Rattle.std.proofs.lemmas.Int.{to_z-of_z}
 use Rattle.spare_capacity.specs.Recurrence.{first_start}
 use Rattle.interval_row.specs.Changes.{ends_before}
-use Rattle.interval_row.specs.Rows.{AreRows}
+use Rattle.interval_row.specs.Spans.{AreFilled}
 use Rattle.interval_row.specs.Walks.{after_walk}
 use Rattle.interval_row.proofs.PageWalks.{none-before, walked-done}
 use Rattle.interval_row.proofs.walk_back.follow_pages.Goals as goal
@@ -33,7 +33,7 @@ pub follow_page-walk-requires-clause-place : goal.follow_page-walk-requires-clau
 follow_page-walk-requires-clause-place g c =
     let next : c.loop-page.page ≡ c.loop-page.page - 1 + 1 = omega (arith, c.loop-page-test.true) in
     let other : c.loop-page.walk.more ≡ pos 0 → ⊥ = (λ none. c.if-walk-eq0.false (ap (of_z w64) none)) in
-    c.loop-page.invariant.place other ∙ ap (λ n. ends_before (n * 128) (g.S.Store.spans c.loop-page.store)) next
+    c.loop-page.invariant.place other ∙ ap (λ n. ends_before (n * 64) (g.S.Store.spans c.loop-page.store)) next
 
 pub loop-page-preserved : goal.loop-page-preserved
 loop-page-preserved g c =
@@ -50,7 +50,7 @@ pub returns-clause-spans : goal.returns-clause-spans
 returns-clause-spans g c =
     let walk = c.loop-page.walk in
     let rows = g.S.Store.spans c.loop-page.store in
-    let are : AreRows (after_walk walk rows) = subst AreRows (sym c.loop-page.invariant.spans) c.requires.pages.rows in
-    let early : c.loop-page.page * 128 ≤ first_start (after_walk walk rows) = omega (arith, c.requires.first, c.loop-page-test.false, ap first_start c.loop-page.invariant.spans) in
-    let none = none-before (c.loop-page.page * 128) walk rows are early in
+    let are : AreFilled (after_walk walk rows) = subst AreFilled (sym c.loop-page.invariant.spans) c.requires.pages.filled in
+    let early : c.loop-page.page * 64 ≤ first_start (after_walk walk rows) = omega (arith, c.requires.first, c.loop-page-test.false, ap first_start c.loop-page.invariant.spans) in
+    let none = none-before (c.loop-page.page * 64) walk rows are early in
     sym (walked-done walk rows (λ other. c.loop-page.invariant.place other ∙ none)) ∙ c.loop-page.invariant.spans

@@ -7,7 +7,7 @@ use Rattle.interval_row.proofs.walk_back.follow_pages.Given as goal
 abbrev pub invariant-loop-page : goal.invariant-loop-page
 invariant-loop-page g l = record {
   spans : after_walk l.walk (g.S.Store.spans l.store) ≡ after_walk l.fn.from (g.S.Store.spans l.fn.store);
-  place : (l.walk.more ≡ pos 0 → ⊥) → l.walk.index ≡ ends_before (l.page * 128) (g.S.Store.spans l.store);
+  place : (l.walk.more ≡ pos 0 → ⊥) → l.walk.index ≡ ends_before (l.page * 64) (g.S.Store.spans l.store);
   room : g.S.Store.room l.store ≡ g.S.Store.room l.fn.store;
   marks : g.S.Store.marks l.store ≡ g.S.Store.marks l.fn.store;
   low : l.fn.steps ≤ l.steps;

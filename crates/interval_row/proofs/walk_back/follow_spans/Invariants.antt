@@ -8,8 +8,8 @@ abbrev pub invariant-loop-index : goal.invariant-loop-index
 invariant-loop-index g l = record {
   spans : after_walk l.last.walk (g.S.Store.spans l.store) ≡ after_walk l.fn.from.walk (g.S.Store.spans l.fn.store);
   place : l.last.walk.index ≡ l._index;
-  row : slice_get (g.S.Store.spans l.store) l.last.walk.index ≡ Some l.last.row;
-  border : l.border ≤ l.last.row.end;
+  span : slice_get (g.S.Store.spans l.store) l.last.walk.index ≡ Some l.last.span;
+  border : l.border ≤ l.last.span.end;
   room : g.S.Store.room l.store ≡ g.S.Store.room l.fn.store;
   marks : g.S.Store.marks l.store ≡ g.S.Store.marks l.fn.store;
   low : l.fn.steps ≤ l.steps;

@@ -1,7 +1,7 @@
 -- The words write no call.
 use Rattle.std.proofs.Common.{◌≡◌, ◌∙◌, [], None, Option, Err, refl, sym, subst}
 use Rattle.std.specs.Option.{option_map_or}
-use Rattle.live_dialogue.specs.Streams.{seen}
+use Rattle.live_run.specs.Streams.{seen}
 use Rattle.live_run.specs.declared.call.LiveCall.{LiveCall}
 use Rattle.live_run.specs.declared.refusal.LiveRefusal.TheVariants.{Usage}
 use Rattle.live_run.specs.Calls.{live_call_of, plan_words}

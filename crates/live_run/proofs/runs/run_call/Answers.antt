@@ -1,7 +1,7 @@
 -- Memory runs out before the work.
 use Rattle.std.proofs.Common.{[], Err, inr, refl, subst}
 use Rattle.run_outcome.specs.declared.refusal.Refusal.TheVariants.{Memory}
-use Rattle.live_dialogue.specs.Streams.{seen}
+use Rattle.live_run.specs.Streams.{seen}
 use Rattle.live_run.specs.declared.refusal.LiveRefusal.{LiveRefusal}
 use Rattle.live_run.specs.declared.refusal.LiveRefusal.TheVariants.{Run}
 use Rattle.live_run.specs.Calls.{plan_words}

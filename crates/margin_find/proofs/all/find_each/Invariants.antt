@@ -1,5 +1,5 @@
 use Rattle.std.proofs.Common.{take}
-use Rattle.margin_find.specs.Texts.{AreMargins}
+use Rattle.margin_find.specs.Margins.{AreMargins}
 use Rattle.margin_find.proofs.all.find_each.Given as goal
 
 abbrev pub invariant-loop-part : goal.invariant-loop-part

@@ -1,7 +1,7 @@
 use Rattle.std.proofs.Common.{ap, ◌∙◌}
 use Rattle.std.proofs.lemmas.List.Elements.{All-same}
 use Rattle.margin_find.specs.Parts.{IsTaskOf}
-use Rattle.margin_find.specs.Texts.{parts_of}
+use Rattle.margin_find.specs.Margins.{parts_of}
 use Rattle.margin_find.proofs.MarginLists.{parts-of}
 use Rattle.margin_find.proofs.all.find_margins.Goals as goal
 

@@ -1,7 +1,7 @@
 use Rattle.std.proofs.Common.{◌≡◌, ◌++◌, drop}
 use Rattle.std.specs.Prelude.{flat_map}
 use Rattle.std.specs.List.{enumerate_from}
-use Rattle.margin_find.specs.Texts.{graph_parts}
+use Rattle.margin_find.specs.Margins.{graph_parts}
 use Rattle.margin_find.proofs.all.push_graphs.Given as goal
 
 abbrev pub invariant-loop-index : goal.invariant-loop-index

@@ -2,7 +2,7 @@ use Rattle.std.proofs.Common.{◌≡◌, ℕ, ◌++◌, drop, map}
 use Rattle.std.specs.List.{enumerate_from}
 use Rattle.slot_core.specs.declared.faults.Part.TheVariants.{Task as TaskPart}
 use Rattle.slot_core.specs.declared.tasks.Task.{Task}
-use Rattle.margin_find.specs.Texts.{graph_parts}
+use Rattle.margin_find.specs.Margins.{graph_parts}
 use Rattle.margin_find.proofs.all.push_tasks.Given as goal
 
 abbrev pub invariant-loop-task : goal.invariant-loop-task

@@ -3,7 +3,7 @@ use Rattle.spare_capacity.specs.Recurrence.{last_end}
 use Rattle.interval_row.specs.Changes.{appended}
 use Rattle.interval_row.specs.Marks.{AreMarked}
 use Rattle.interval_row.proofs.Marked.{AreLight-FollowOn}
-use Rattle.interval_row.proofs.Kept.{AreRows-ArePlanSpans}
+use Rattle.interval_row.proofs.Kept.{AreFilled-ArePlanSpans}
 use Rattle.interval_row.proofs.Rooms.{marked-start, seen_of, AreKept-appended, IsTable-AreKept, AreKept, kept_of, marked_of}
 use Rattle.interval_row.proofs.Spots.{spans_of_pairs-numbered}
 use Rattle.interval_row.proofs.span_table.TableSpareTable.append_cycle.Given.{Over}
@@ -18,7 +18,7 @@ append-requires-clause-free g c =
 pub append-requires-clause-spans : goal.append-requires-clause-spans
 append-requires-clause-spans g c =
     let seen = seen_of c.self.view_is (kept_of c.self.invariant) in
-    AreRows-ArePlanSpans c.args.spans.now c.requires.plan (omega (arith, c.requires.free, c.self.invariant.small, seen.room))
+    AreFilled-ArePlanSpans c.args.spans.now c.requires.plan (omega (arith, c.requires.free, c.self.invariant.small, seen.room))
 
 pub append-requires-clause-near : goal.append-requires-clause-near
 append-requires-clause-near g c =
@@ -44,7 +44,7 @@ append-requires-clause-few g c =
     omega (arith, c.requires.free, c.self.invariant.small, seen.count, seen.room)
 
 pub append-requires-clause-small : goal.append-requires-clause-small
-append-requires-clause-small g c = AreLight-FollowOn _ _ c.self.invariant.timed.rows.consecutive
+append-requires-clause-small g c = AreLight-FollowOn _ _ c.self.invariant.timed.filled.consecutive
 
 pub append-requires-clause-marked : goal.append-requires-clause-marked
 append-requires-clause-marked g c = marked-start c.self.invariant

@@ -21,8 +21,10 @@ overflow_add-self g c =
 pub pass-self-inside-requires-clause-marked : goal.pass-self-inside-requires-clause-marked
 pass-self-inside-requires-clause-marked g c = marked-start c.self.invariant
 
-pub pass_time-requires-clause-marks : goal.pass_time-requires-clause-marks
-pass_time-requires-clause-marks g c = c.pass-self-inside.ensures.marked.length
+pub pass_time-requires-clause-marked : goal.pass_time-requires-clause-marked
+pass_time-requires-clause-marked g c =
+    let new = c.pass-self-inside.new.store in
+    subst (λ n. AreMarked n (g.S.Store.spans new) (g.S.Store.marks new)) (sym c.self.invariant.timed.starts) c.pass-self-inside.ensures.marked
 
 pub pass_time-requires-clause-near : goal.pass_time-requires-clause-near
 pass_time-requires-clause-near g c =

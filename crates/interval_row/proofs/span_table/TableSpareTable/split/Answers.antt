@@ -53,7 +53,7 @@ returns-clause-spans g c =
 pub returns-clause-others : goal.returns-clause-others
 returns-clause-others g c =
     ap (apart_from c.args.at) (spans_of_pairs-numbered 0 (g.S.Store.spans c.split-self-inside.new.store) ∙ c.split-self-inside.ensures.spans)
-    ∙ apart_from-cut c.args.at (g.S.Store.spans c.self.inside.chain) c.self.invariant.timed.rows.filled
+    ∙ apart_from-cut c.args.at (g.S.Store.spans c.self.inside.chain) c.self.invariant.timed.filled.filled
     ∙ ap (apart_from c.args.at) (sym (seen_of c.self.view_is (kept_of c.self.invariant)).rows)
 
 pub returns-clause-nothing : goal.returns-clause-nothing

@@ -9,4 +9,4 @@ pub charge-requires : goal.charge-requires
 charge-requires g c =
     let spans = c.args.table.now.spans in
     let table = c.count.ensures.table in
-    span_ending-at (first_start spans) (spans_of_pairs (numbered 0 spans)) (c.count.result - 1) c.read-row.result (λ (s : Span). s.work + c.args.slots ≤ 2 ^ 40) table.consecutive table.proper (c.read-row.ensures.span (c.count.result - 1) c.spot-last.ensures) (omega arith)
+    span_ending-at (first_start spans) (spans_of_pairs (numbered 0 spans)) (c.count.result - 1) c.read-span.result (λ (s : Span). s.work + c.args.slots ≤ 2 ^ 40) table.consecutive table.proper (c.read-span.ensures.span (c.count.result - 1) c.spot-last.ensures) (omega arith)

@@ -1,5 +1,0 @@
-pub mod DialogueLemmas
-pub mod Lines
-pub mod PassedSlots
-pub mod ReplayLemmas
-pub mod StreamLemmas

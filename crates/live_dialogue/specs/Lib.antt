@@ -1,4 +1,0 @@
-pub mod Dialogues
-pub mod FaultTexts
-pub mod Replays
-pub mod Streams

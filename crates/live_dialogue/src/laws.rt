@@ -1,9 +1,0 @@
-//! What holds of every dialogue.
-
-ghost use Rattle.live_dialogue.specs.Replays.{DialoguesAreReplays};
-
-/// The answers of a dialogue that is over, without the lines `refused`, are the trace of its
-/// arrivals over its slots, where a slot passes after each arrival.
-pub fn dialogues_are_replays()
-    ensures { DialoguesAreReplays }
-{}

@@ -1,3 +1,0 @@
-pub mod ExplainedRows
-pub mod Explanations
-pub mod TraceLines

@@ -1,5 +1,0 @@
-//! Tests of the checker of recorded traces.
-#![tactic(auto)]
-
-#[cfg(test)]
-mod traces;
