@@ -221,7 +221,7 @@ fn onward<T: SpareTable, L: Ledger>(
     past(table, place, front, steps)
 }
 
-/// Whether spans are as long as a page or longer on average: there `skip` of our tables passes none.
+/// Whether spans are a page long or longer on average: there `skip` of our tables passes none.
 #[inline(always)]
 fn has_long_spans<T: SpareTable>(table: &T, now: u64) -> bool
     requires after { now ≤ last_end (T.time table.now) (spans_of_pairs (T.pairs table.now)) }
@@ -232,8 +232,8 @@ fn has_long_spans<T: SpareTable>(table: &T, now: u64) -> bool
 }
 
 /// The spans before the first that is not passed. Those are passed whose times leave `left` slots,
-/// even beside the sporadic demand up to `far_end`, or, where that passes none, up to the end of the
-/// page in which the span ends.
+/// even beside the sporadic demand up to `far_end`, or, where that passes none, up to the end of
+/// the page in which the span ends.
 #[inline(always)]
 fn passed_at_once<T: SpareTable>(
     table: &T,
@@ -275,7 +275,7 @@ fn passed_at_once<T: SpareTable>(
 
 /// A time up to which spans may be passed at once: a page after the end of the span, and a part of
 /// the slots so far that is the smaller, the fewer are left beside all that is needed by then. At
-/// its rate so far the sporadic demand takes about half of what is left by then.
+/// its rate so far the sporadic demand takes at most half of what is left by then.
 #[inline(always)]
 fn far_end(ask: Ask, place: SpanPlace, demand: u64, left: u64) -> u64
     requires after { ask.now ≤ place.span.end }

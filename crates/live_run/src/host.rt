@@ -1,6 +1,6 @@
 //! `run` over a host: its arguments, its files and its standard streams.
 
-ghost use Rattle.std.specs.Prelude.{◌≡◌, None, IfOk, IsErr};
+ghost use Rattle.std.specs.Prelude.{◌≡◌, ◌⊎◌, None, IfOk, IsErr};
 ghost use Rattle.std.specs.Process.{exit_status};
 ghost use Rattle.run_outcome.specs.declared.status.Status.{Status};
 ghost use Rattle.run_outcome.specs.Statuses.{exit_number};
@@ -46,6 +46,8 @@ where
     R: Files + Input + AllocGlobal,
     ensures memory { IsErr words → result ≡ Status.Memory }
     ensures usage { IfOk words (λ words. result ≡ Status.Usage → live_call_of words ≡ None) }
+    ensures no_form { IfOk words (λ words. live_call_of words ≡ None
+        → (result ≡ Status.Usage) ⊎ (result ≡ Status.Memory)) }
 {
     match words {
         Ok(words) => run_over(out, err, rt, &words),
@@ -59,7 +61,9 @@ where
     O: Write + Drop,
     E: Write + Drop,
     R: Files + Input + AllocGlobal,
-    ensures { result ≡ Status.Usage → live_call_of words.now ≡ None }
+    ensures usage { result ≡ Status.Usage → live_call_of words.now ≡ None }
+    ensures no_form { live_call_of words.now ≡ None
+        → (result ≡ Status.Usage) ⊎ (result ≡ Status.Memory) }
 {
     let alloc = rt.alloc();
     match BufReader::new(alloc, rt.reader()) {

@@ -2,6 +2,8 @@
 #![tactic(auto)]
 
 #[cfg(test)]
+mod margins;
+#[cfg(test)]
 mod plans;
 #[cfg(test)]
 mod tables;
