@@ -1,5 +1,6 @@
+pub mod FieldLemmas
 pub mod FittingLemmas
+pub mod PlainLemmas
 pub mod ReadArrivals
 pub mod ReadingSteps
 pub mod RecordLemmas
-pub mod RowLemmas

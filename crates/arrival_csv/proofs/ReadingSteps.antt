@@ -4,20 +4,12 @@ use Rattle.std.proofs.lemmas.List.{append-nil}
 use Rattle.slot_core.specs.declared.events.Arrival.{Arrival}
 use Rattle.slot_core.specs.declared.tasks.TaskSet.{TaskSet}
 use Rattle.slot_core.specs.Calls.Results.{◌>>=◌}
-use Rattle.arrival_faults.specs.declared.faults.ArrivalFault.{ArrivalFault}
 use Rattle.arrival_csv.specs.Reading.{Read, arrival_of, arrivals_from}
-
--- the arrivals that are read, and then those of the rows that are left
-abbrev pub after : List Arrival → Read (List Arrival) → Read (List Arrival)
-after arrivals rest = rest >>= (λ more. Ok (arrivals ++ more))
+use Rattle.arrival_csv.specs.SoFar.{after}
 
 -- no row is left
 pub after-none : (arrivals : List Arrival) (read : Read (List Arrival)) → after arrivals (Ok []) ≡ read → read ≡ Ok arrivals
 after-none arrivals read is = sym is ∙ ap Ok (append-nil arrivals)
-
--- a row with a fault is the first fault of what is left
-pub arrivals_from-fault : (set : TaskSet) (slots row before : ℕ) (fields : List (List ℕ)) (rows : List (List (List ℕ))) (fault : ArrivalFault) → arrival_of set slots row before fields ≡ Err fault → arrivals_from set slots row before (fields ∷ rows) ≡ Err fault
-arrivals_from-fault set slots row before fields rows fault is = rw is refl
 
 -- a row that is read stands behind those before it
 pub after-read : (set : TaskSet) (slots row before : ℕ) (fields : List (List ℕ)) (rows : List (List (List ℕ))) (a : Arrival) (arrivals : List Arrival) → arrival_of set slots row before fields ≡ Ok a

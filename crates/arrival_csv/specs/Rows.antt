@@ -1,11 +1,16 @@
--- The rows that a reader has left.
-use Rattle.std.specs.Prelude.{◌≡◌, ℕ, ◌+◌, Bool, false, List, ◌∷◌, [], length, Some}
+-- The rows that a reader or a text has left, and the fields of a row.
+use Rattle.std.specs.Prelude.{◌≡◌, ⊤, ℕ, ◌+◌, Bool, false, ◌==◌, ◌||◌, List, ◌∷◌, [], length, Some}
 use Rattle.std.specs.Bool.{MatchBool}
 use Rattle.std.specs.Borrow.{Bor}
-use Rattle.csv.specs.Machine.{ends_at_end}
-use Rattle.csv.specs.Reading.{Ready, source_of, reader_config, reader_state, reader_trim, default_config, records_from}
+use Rattle.csv.specs.Machine.{ends_at_end, next_record}
+use Rattle.csv.specs.Reading.{Ready, source_of, reader_config, reader_state, reader_trim, default_config, records, records_from}
+use Rattle.csv.specs.declared.parser.State.TheVariants as st
 use Rattle.csv.specs.declared.reader.Reader.{Reader}
 use Rattle.csv.specs.declared.reader.Trim.TheVariants as trim
+use Rattle.arrival_csv.specs.declared.plain.Next.{Next}
+use Rattle.arrival_csv.specs.declared.plain.Next.TheVariants as next
+use Rattle.arrival_csv.specs.declared.row.Row.{Row}
+use Rattle.arrival_csv.specs.declared.row.Row.TheVariants.{Empty, One, Two, Three, Four, Longer}
 
 -- the reader stands between two rows, and has these left
 pub record HasRows (reader : Reader (Bor (List ℕ))) (rows : List (List (List ℕ))) : Type 0 where
@@ -23,3 +28,37 @@ TakesRow reader found fields rows =
     MatchBool found
     ((more : List (List (List ℕ))) × (rows ≡ fields ∷ more) × HasRows reader more)
     (rows ≡ [])
+
+-- these two are the first of more than four fields
+abbrev pub IsLonger : List ℕ → List ℕ → List (List ℕ) → Type 0
+IsLonger first second fields = (third fourth fifth : List ℕ) × (more : List (List ℕ))
+    × (fields ≡ first ∷ second ∷ third ∷ fourth ∷ fifth ∷ more)
+
+-- the row is of these fields
+abbrev pub IsRowOf : Row → List (List ℕ) → Type 0
+IsRowOf Empty fields = fields ≡ []
+IsRowOf (One a) fields = fields ≡ a.now ∷ []
+IsRowOf (Two a b) fields = fields ≡ a.now ∷ b.now ∷ []
+IsRowOf (Three a b c) fields = fields ≡ a.now ∷ b.now ∷ c.now ∷ []
+IsRowOf (Four a b c d) fields = fields ≡ a.now ∷ b.now ∷ c.now ∷ d.now ∷ []
+IsRowOf (Longer a b) fields = IsLonger a.now b.now fields
+
+-- whether the byte ends a field, or only a reader of quotes and returns can tell
+abbrev pub ends_field : ℕ → Bool
+ends_field byte = (byte == 44) || (byte == 10) || (byte == 34) || (byte == 13)
+
+-- what stands at the start of this text: no row, or a row and the bytes after it, unless only a
+-- reader of quotes and returns can tell
+abbrev pub IsNextOf : List ℕ → Next → Type 0
+IsNextOf text next.End = records default_config text ≡ []
+IsNextOf text (next.Row row rest) = (fields : List (List ℕ)) × IsRowOf row fields
+    × (records default_config text ≡ fields ∷ records default_config rest.now)
+IsNextOf text next.Other = ⊤
+
+-- the same, where the text starts a row or one of its fields
+abbrev pub IsNextAt : List ℕ → Next → Type 0
+IsNextAt text next.End = ⊥
+IsNextAt text (next.Row row rest) = (fields : List (List ℕ)) × IsRowOf row fields
+    × (next_record default_config st.StartField [] [] text
+    ≡ Some (fields, st.StartRecord, rest.now))
+IsNextAt text next.Other = ⊤

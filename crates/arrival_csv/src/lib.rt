@@ -1,23 +1,30 @@
 //! Arrivals files: comma-separated rows that write the arrivals of a run.
 #![tactic(auto)]
 
-ghost use Rattle.std.specs.Prelude.{◌≡◌, ◌≢◌, ◌≤◌, true, Ok, Err, IfOk, IfErr, MatchResult};
+ghost use Rattle.std.specs.Prelude.{◌≡◌, ◌≢◌, ◌≤◌, true, IfSome, Ok, Err, IfOk, IfErr, MatchResult};
+ghost use Rattle.csv.specs.Reading.{strip_bom};
 ghost use Rattle.slot_core.specs.declared.TheConstants.{REPLAY_LIMIT};
 ghost use Rattle.slot_core.specs.Runs.Arrivals.{are_fitting};
 ghost use Rattle.slot_core.specs.Sets.Ranges.{is_sound};
 ghost use Rattle.arrival_csv.specs.Reading.{AnswersAs, reading_of_arrivals};
+ghost use Rattle.arrival_faults.specs.declared.faults.ArrivalFault.TheVariants.{Memory};
 
 mod kinds;
+mod plain;
 mod reader;
+mod row;
 mod rows;
+mod so_far;
 
 pub use arrival_faults::ArrivalFault;
 use csv::ByteRecord;
 pub use kinds::Kind;
+use plain::{Next, is_unmarked, next_plain};
 use reader::{next_row, reader_of};
-use rows::arrival_of;
+use row::Row;
 pub use rows::{done_of, firm_of, soft_of, sporadic_of, withdraw_of};
 use slot_core::{Arrival, TaskSet};
+use so_far::SoFar;
 use std::alloc::Global;
 
 /// The arrivals that the bytes of an arrivals file write, for a run of so many slots of the set.
@@ -38,15 +45,59 @@ pub fn read_arrivals(
         (reading_of_arrivals bytes.now slots tasks.now) }
     ensures fitting { IfOk result (λ arrivals. are_fitting tasks.now slots arrivals.items ≡ true) }
 {
-    let mut reader = reader_of(alloc, bytes);
-    let mut fields = ByteRecord::new(alloc);
-    let mut arrivals = Vec::new(alloc);
-    let (mut row, mut before) = (1, 0);
-    while next_row(&mut reader, &mut fields)? {
-        let arrival = arrival_of(tasks, slots, row, before, &fields)?;
-        arrivals.push(arrival)?;
-        row += 1;
-        before = arrival.slot;
+    if is_unmarked(bytes) {
+        if let Some(arrivals) = read_plain(alloc, bytes, slots, tasks)? {
+            return Ok(arrivals);
+        }
     }
-    Ok(arrivals)
+    read_records(alloc, bytes, slots, tasks)
+}
+
+/// The arrivals that the bytes write, which start with no byte order mark, unless only a reader of
+/// quotes and returns can tell.
+fn read_plain(
+    alloc: Global,
+    bytes: &[u8],
+    slots: u64,
+    tasks: &TaskSet,
+) -> Result<Option<Vec<Arrival>>, ArrivalFault>
+    requires sound { is_sound tasks.now ≡ true }
+    requires unmarked { strip_bom bytes.now ≡ bytes.now }
+    ensures { MatchResult result
+        (λ read. IfSome read (λ arrivals.
+        reading_of_arrivals bytes.now slots tasks.now ≡ Ok arrivals.items))
+        (λ e. e ≢ Memory → reading_of_arrivals bytes.now slots tasks.now ≡ Err e) }
+{
+    let mut so_far = SoFar::none(alloc);
+    let mut left = bytes;
+    loop {
+        match next_plain(left) {
+            Next::End => return Ok(Some(so_far.arrivals)),
+            Next::Row(row, rest) => {
+                so_far.take(tasks, slots, &row)?;
+                left = rest;
+            }
+            Next::Other => return Ok(None),
+        }
+    }
+}
+
+/// The arrivals that the bytes of any file write.
+fn read_records(
+    alloc: Global,
+    bytes: &[u8],
+    slots: u64,
+    tasks: &TaskSet,
+) -> Result<Vec<Arrival>, ArrivalFault>
+    requires { is_sound tasks.now ≡ true }
+    ensures { AnswersAs (λ arrivals. arrivals.items) result
+        (reading_of_arrivals bytes.now slots tasks.now) }
+{
+    let mut reader = reader_of(alloc, bytes);
+    let mut record = ByteRecord::new(alloc);
+    let mut so_far = SoFar::none(alloc);
+    while next_row(&mut reader, &mut record)? {
+        so_far.take(tasks, slots, &Row::of(&record))?;
+    }
+    Ok(so_far.arrivals)
 }

@@ -1,13 +1,13 @@
 //! The rows of an arrivals file as arrivals.
 
-ghost use Rattle.std.specs.Prelude.{◌≡◌, ◌≤◌, true, drop, Ok, Err, IfOk, MatchResult};
-ghost use Rattle.csv.specs.Records.{fields_of};
+ghost use Rattle.std.specs.Prelude.{List, ℕ, ◌≡◌, ◌≤◌, true, drop, Ok, Err, IfOk, MatchResult};
 ghost use Rattle.slot_core.specs.Sets.Ranges.{is_sound};
+ghost use Rattle.arrival_csv.specs.Rows.{IsRowOf};
 ghost use Rattle.arrival_csv.specs.Reading.{arrival_of, done_of, event_of, firm_of, first_fields, one_field, slot_in_turn, slots_of, soft_of, sporadic_of, two_fields, withdraw_of};
 
 use crate::ArrivalFault;
 use crate::kinds::Kind;
-use csv::ByteRecord;
+use crate::row::Row;
 use key_texts::{key_of, number_between, number_of, row_number, sporadic_named};
 use slot_core::{ARRIVAL_LIMIT, Arrival, Event, OFFER_LIMIT, TaskSet};
 
@@ -17,10 +17,11 @@ pub(crate) fn arrival_of(
     slots: u64,
     row: u32,
     before: u64,
-    fields: &ByteRecord,
+    fields: &Row<'_>,
 ) -> Result<Arrival, ArrivalFault>
     requires { is_sound tasks.now ≡ true }
-    ensures reading { result ≡ arrival_of tasks.now slots row before (fields_of fields.now) }
+    ensures reading { (told : List (List ℕ)) → IsRowOf fields.now told
+        → result ≡ arrival_of tasks.now slots row before told }
     ensures few { IfOk result (λ arrival. row ≤ ARRIVAL_LIMIT) }
 {
     if row > ARRIVAL_LIMIT {
@@ -35,24 +36,25 @@ pub(crate) fn arrival_of(
 }
 
 /// The slot and the word of a row, where it has two fields or more.
-fn first_fields(row: u32, fields: &ByteRecord) -> Result<(&[u8], &[u8]), ArrivalFault>
-    ensures { MatchResult result
-        (λ first. first_fields row (fields_of fields.now) ≡ Ok (first.0.now, first.1.now))
-        (λ e. first_fields row (fields_of fields.now) ≡ Err e) }
+fn first_fields<'a>(row: u32, fields: &Row<'a>) -> Result<(&'a [u8], &'a [u8]), ArrivalFault>
+    ensures { (told : List (List ℕ)) → IsRowOf fields.now told → MatchResult result
+        (λ first. first_fields row told ≡ Ok (first.0.now, first.1.now))
+        (λ e. first_fields row told ≡ Err e) }
 {
-    let first = fields.get(0).zip(fields.get(1));
-    first.ok_or(ArrivalFault::BadRow(row))
+    match *fields {
+        Row::Two(slot, word)
+        | Row::Three(slot, word, _)
+        | Row::Four(slot, word, ..)
+        | Row::Longer(slot, word) => Ok((slot, word)),
+        Row::Empty | Row::One(_) => Err(ArrivalFault::BadRow(row)),
+    }
 }
 
 /// The event of a row of this kind.
-fn event_of(
-    tasks: &TaskSet,
-    row: u32,
-    kind: Kind,
-    fields: &ByteRecord,
-) -> Result<Event, ArrivalFault>
+fn event_of(tasks: &TaskSet, row: u32, kind: Kind, fields: &Row<'_>) -> Result<Event, ArrivalFault>
     requires { is_sound tasks.now ≡ true }
-    ensures { result ≡ event_of tasks.now row kind (drop 2 (fields_of fields.now)) }
+    ensures { (told : List (List ℕ)) → IsRowOf fields.now told
+        → result ≡ event_of tasks.now row kind (drop 2 told) }
 {
     match kind {
         Kind::Soft => soft_of(row, one_field(row, fields)?),
@@ -67,28 +69,27 @@ fn event_of(
 }
 
 /// The field after the second, where there is one.
-fn one_field(row: u32, fields: &ByteRecord) -> Result<&[u8], ArrivalFault>
-    ensures { MatchResult result
-        (λ field. one_field row (drop 2 (fields_of fields.now)) ≡ Ok field.now)
-        (λ e. one_field row (drop 2 (fields_of fields.now)) ≡ Err e) }
+fn one_field<'a>(row: u32, fields: &Row<'a>) -> Result<&'a [u8], ArrivalFault>
+    ensures { (told : List (List ℕ)) → IsRowOf fields.now told → MatchResult result
+        (λ field. one_field row (drop 2 told) ≡ Ok field.now)
+        (λ e. one_field row (drop 2 told) ≡ Err e) }
 {
-    if fields.len() != 3 {
-        return Err(ArrivalFault::BadRow(row));
+    match *fields {
+        Row::Three(_, _, field) => Ok(field),
+        _ => Err(ArrivalFault::BadRow(row)),
     }
-    fields.get(2).ok_or(ArrivalFault::BadRow(row))
 }
 
 /// The two fields after the second, where there are two.
-fn two_fields(row: u32, fields: &ByteRecord) -> Result<(&[u8], &[u8]), ArrivalFault>
-    ensures { MatchResult result
-        (λ both. two_fields row (drop 2 (fields_of fields.now)) ≡ Ok (both.0.now, both.1.now))
-        (λ e. two_fields row (drop 2 (fields_of fields.now)) ≡ Err e) }
+fn two_fields<'a>(row: u32, fields: &Row<'a>) -> Result<(&'a [u8], &'a [u8]), ArrivalFault>
+    ensures { (told : List (List ℕ)) → IsRowOf fields.now told → MatchResult result
+        (λ both. two_fields row (drop 2 told) ≡ Ok (both.0.now, both.1.now))
+        (λ e. two_fields row (drop 2 told) ≡ Err e) }
 {
-    if fields.len() != 4 {
-        return Err(ArrivalFault::BadRow(row));
+    match *fields {
+        Row::Four(_, _, first, second) => Ok((first, second)),
+        _ => Err(ArrivalFault::BadRow(row)),
     }
-    let both = fields.get(2).zip(fields.get(3));
-    both.ok_or(ArrivalFault::BadRow(row))
 }
 
 /// Soft work of these slots.
