@@ -1,20 +1,21 @@
 -- A row in which nothing is quoted, as the machine of `csv` reads it.
-use Rattle.std.proofs.Common.{◌≡◌, ◌≢◌, ℕ, Bool, true, false, not, ◌==◌, ◌||◌, List, [], ◌∷◌, ◌++◌, length, ◌+◌, drop, Some, refl, sym, ap, ◌∙◌, append_assoc, inl, inr, suc, arith}
+use Rattle.std.proofs.Common.{◌≡◌, ◌≢◌, ℕ, Bool, true, false, not, ◌==◌, ◌||◌, List, [], ◌∷◌, ◌++◌, length, ◌+◌, ◌-◌, ◌<◌, ◌≤◌, take, drop, get_or, Some, refl, sym, ap, ◌∙◌, append_assoc, inl, inr, suc, arith}
 use Rattle.std.specs.List.{before_first, position_or_len}
 use Rattle.std.proofs.lemmas.Bool.{cases_Bool, eqb-true, ne_eqb}
-use Rattle.std.proofs.lemmas.List.{append-nil}
+use Rattle.std.proofs.lemmas.List.{append-nil, drop-drop, drop_all, drop_more}
 use Rattle.csv.specs.declared.parser.State.TheVariants as st
 use Rattle.csv.specs.Machine.{next_record}
 use Rattle.csv.specs.Reading.{default_config, records, records_from, records_next, strip_bom}
 use Rattle.arrival_csv.specs.declared.plain.Next.{Next}
 use Rattle.arrival_csv.specs.declared.plain.Next.TheVariants as next
-use Rattle.arrival_csv.specs.Rows.{ends_field, IsNextAt, IsNextOf}
+use Rattle.arrival_csv.specs.Rows.{ends_field, IsNextAfter, IsNextAt, IsNextOf}
 use Rattle.arrival_csv.proofs.RecordLemmas.{records-step}
 
 -- a byte that ends no field is none of these
 record EndsNone (comma line quote return : Bool) : Type 0 where
   no_comma : comma ≡ false
   no_line : line ≡ false
+  no_quote : quote ≡ false
   no_return : return ≡ false
 
 -- each test of four that all fail
@@ -23,7 +24,7 @@ EndsNone-from_tests true line quote return fails = cc
 EndsNone-from_tests false true quote return fails = cc
 EndsNone-from_tests false false true return fails = cc
 EndsNone-from_tests false false false true fails = cc
-EndsNone-from_tests false false false false fails = record { no_comma = refl; no_line = refl; no_return = refl }
+EndsNone-from_tests false false false false fails = record { no_comma = refl; no_line = refl; no_quote = refl; no_return = refl }
 
 -- the bytes before the first that ends a field join the field at hand
 joins : (fields : List (List ℕ)) (field text : List ℕ) → next_record default_config st.InField fields field text ≡ next_record default_config st.InField fields (field ++ before_first ends_field text) (drop (position_or_len ends_field text) text)
@@ -59,25 +60,44 @@ field-read fields (c ∷ text) field rest is after plain =
           rw (is, after) (begins ∙ joins fields [] (c ∷ text))
     ]
 
+-- the place at which the field that starts at another ends
+abbrev pub IsEnd : List ℕ → ℕ → ℕ → Type 0
+IsEnd text start end = end ≡ start + position_or_len ends_field (drop start text)
+
+-- the field between two places
+abbrev pub between : List ℕ → ℕ → ℕ → List ℕ
+between text start end = take (end - start) (drop start text)
+
+-- a field between two places with no quote at its end
+field-between : (fields : List (List ℕ)) (text rest : List ℕ) (start end : ℕ) → IsEnd text start end → drop end text ≡ rest → is_quoted rest ≡ false → next_record default_config st.StartField fields [] (drop start text) ≡ next_record default_config st.InField fields (between text start end) rest
+field-between fields text rest start end is begins plain =
+    let count : end - start ≡ position_or_len ends_field (drop start text) = omega (arith, is) in
+    field-read fields (drop start text) (between text start end) rest (ap (λ n. take n (drop start text)) count) (sym begins ∙ ap (λ n. drop n text) is ∙ sym (drop-drop (position_or_len ends_field (drop start text)) start text)) plain
+
 -- a field at the end of the text ends the row
-pub field-at_end : (fields : List (List ℕ)) (text field rest : List ℕ) → field ≡ before_first ends_field text → rest ≡ drop (position_or_len ends_field text) text → rest ≡ [] → next_record default_config st.StartField fields [] text ≡ Some (fields ++ (field ∷ []), st.StartRecord, rest)
+pub field-at_end : (fields : List (List ℕ)) (text : List ℕ) (start end : ℕ) → IsEnd text start end → length text ≤ end → next_record default_config st.StartField fields [] (drop start text) ≡ Some (fields ++ (between text start end ∷ []), st.StartRecord, drop end text)
 unfolding next_record
-field-at_end fields text field [] is after ends = field-read fields text field [] is after refl
-field-at_end fields text field (c ∷ rest) is after ends = cc
+field-at_end fields text start end is past =
+    let none = drop_all end text past in
+    rw none (field-between fields text [] start end is none refl)
 
 -- a field before a line feed ends the row
-pub field-at_line : (fields : List (List ℕ)) (text field rest : List ℕ) (c : ℕ) (more : List ℕ) → field ≡ before_first ends_field text → rest ≡ drop (position_or_len ends_field text) text → rest ≡ c ∷ more → c ≡ 10 → next_record default_config st.StartField fields [] text ≡ Some (fields ++ (field ∷ []), st.StartRecord, more)
+pub field-at_line : (fields : List (List ℕ)) (text : List ℕ) (start end : ℕ) → IsEnd text start end → end < length text → get_or text end 0 ≡ 10 → next_record default_config st.StartField fields [] (drop start text) ≡ Some (fields ++ (between text start end ∷ []), st.StartRecord, drop (end + 1) text)
 unfolding next_record
-field-at_line fields text field rest c more is after ends line =
-    let begins : rest ≡ 10 ∷ more = rw line at ends in
-    field-read fields text field (10 ∷ more) is (sym begins ∙ after) refl
+field-at_line fields text start end is inside line =
+    field-between fields text (10 ∷ drop (end + 1) text) start end is (drop_more text end 0 inside ∙ ap (λ c. c ∷ drop (end + 1) text) line) refl
 
 -- a field before a comma has another after it
-pub field-at_comma : (fields : List (List ℕ)) (text field rest : List ℕ) (c : ℕ) (more : List ℕ) → field ≡ before_first ends_field text → rest ≡ drop (position_or_len ends_field text) text → rest ≡ c ∷ more → c ≡ 44 → next_record default_config st.StartField fields [] text ≡ next_record default_config st.StartField (fields ++ (field ∷ [])) [] more
+pub field-at_comma : (fields : List (List ℕ)) (text : List ℕ) (start end : ℕ) → IsEnd text start end → end < length text → get_or text end 0 ≡ 44 → next_record default_config st.StartField fields [] (drop start text) ≡ next_record default_config st.StartField (fields ++ (between text start end ∷ [])) [] (drop (end + 1) text)
 unfolding next_record
-field-at_comma fields text field rest c more is after ends comma =
-    let begins : rest ≡ 44 ∷ more = rw comma at ends in
-    field-read fields text field (44 ∷ more) is (sym begins ∙ after) refl
+field-at_comma fields text start end is inside comma =
+    field-between fields text (44 ∷ drop (end + 1) text) start end is (drop_more text end 0 inside ∙ ap (λ c. c ∷ drop (end + 1) text) comma) refl
+
+-- what is left after a field of a row is left after those before it
+pub IsNextAfter-more : (before more : List (List ℕ)) (text rest : List ℕ) (found : Next) → next_record default_config st.StartField before [] text ≡ next_record default_config st.StartField more [] rest → IsNextAfter more rest found → IsNextAfter before text found
+IsNextAfter-more before more text rest next.End same after = after
+IsNextAfter-more before more text rest (next.Row row left) same (fields, told, goes) = (fields, told, same ∙ goes)
+IsNextAfter-more before more text rest next.Other same after = tt
 
 -- an empty line is no row
 pub records-empty_line : (text : List ℕ) → records default_config (10 ∷ text) ≡ records default_config text

@@ -1,5 +1,5 @@
 -- The rows that a reader or a text has left, and the fields of a row.
-use Rattle.std.specs.Prelude.{◌≡◌, ⊤, ℕ, ◌+◌, Bool, false, ◌==◌, ◌||◌, List, ◌∷◌, [], length, Some}
+use Rattle.std.specs.Prelude.{◌≡◌, ⊤, ℕ, ◌+◌, ◌<◌, ◌≤◌, Bool, false, ◌==◌, ◌||◌, List, ◌∷◌, ◌++◌, [], drop, length, Some}
 use Rattle.std.specs.Bool.{MatchBool}
 use Rattle.std.specs.Borrow.{Bor}
 use Rattle.csv.specs.Machine.{ends_at_end, next_record}
@@ -7,6 +7,8 @@ use Rattle.csv.specs.Reading.{Ready, source_of, reader_config, reader_state, rea
 use Rattle.csv.specs.declared.parser.State.TheVariants as st
 use Rattle.csv.specs.declared.reader.Reader.{Reader}
 use Rattle.csv.specs.declared.reader.Trim.TheVariants as trim
+use Rattle.arrival_csv.specs.declared.plain.Cut.{Cut}
+use Rattle.arrival_csv.specs.declared.plain.Cut.TheVariants as cut
 use Rattle.arrival_csv.specs.declared.plain.Next.{Next}
 use Rattle.arrival_csv.specs.declared.plain.Next.TheVariants as next
 use Rattle.arrival_csv.specs.declared.row.Row.{Row}
@@ -55,10 +57,26 @@ IsNextOf text (next.Row row rest) = (fields : List (List ℕ)) × IsRowOf row fi
     × (records default_config text ≡ fields ∷ records default_config rest.now)
 IsNextOf text next.Other = ⊤
 
--- the same, where the text starts a row or one of its fields
-abbrev pub IsNextAt : List ℕ → Next → Type 0
-IsNextAt text next.End = ⊥
-IsNextAt text (next.Row row rest) = (fields : List (List ℕ)) × IsRowOf row fields
-    × (next_record default_config st.StartField [] [] text
+-- the same, where the text starts a field of a row after these fields
+abbrev pub IsNextAfter : List (List ℕ) → List ℕ → Next → Type 0
+IsNextAfter before text next.End = ⊥
+IsNextAfter before text (next.Row row rest) = (fields : List (List ℕ)) × IsRowOf row fields
+    × (next_record default_config st.StartField before [] text
     ≡ Some (fields, st.StartRecord, rest.now))
-IsNextAt text next.Other = ⊤
+IsNextAfter before text next.Other = ⊤
+
+-- the same, where the text starts a row
+abbrev pub IsNextAt : List ℕ → Next → Type 0
+IsNextAt text next = IsNextAfter [] text next
+
+-- this is the field that starts at this place of a text, and what ends it, whatever fields of the
+-- row are before it
+abbrev pub IsCutOf : List ℕ → ℕ → Cut → Type 0
+IsCutOf text start (cut.Last field rest) = (before : List (List ℕ))
+    → next_record default_config st.StartField before [] (drop start text)
+    ≡ Some (before ++ (field.now ∷ []), st.StartRecord, rest.now)
+IsCutOf text start (cut.Comma field next) = (start < next) × (next ≤ length text)
+    × ((before : List (List ℕ))
+    → next_record default_config st.StartField before [] (drop start text)
+    ≡ next_record default_config st.StartField (before ++ (field.now ∷ [])) [] (drop next text))
+IsCutOf text start cut.Other = ⊤

@@ -1,7 +1,7 @@
 //! The kinds of rows of an arrivals file.
 
 ghost use Rattle.std.specs.Prelude.{◌≡◌};
-ghost use Rattle.arrival_csv.specs.Kinds.{kind_of, kind_word};
+ghost use Rattle.arrival_csv.specs.Kinds.{kind_of};
 
 /// What a row writes.
 #[derive(Clone, Copy)]
@@ -18,33 +18,18 @@ pub enum Kind {
     Withdraw,
 }
 
-/// All kinds.
-const KINDS: [Kind; 5] = [
-    Kind::Soft,
-    Kind::Firm,
-    Kind::Sporadic,
-    Kind::Done,
-    Kind::Withdraw,
-];
-
 impl Kind {
     /// The kind that the word names.
     pub fn of(word: &[u8]) -> Option<Kind>
         ensures { result ≡ kind_of word.now }
     {
-        KINDS.iter().copied().find(|kind| kind.word() == word)
-    }
-
-    /// The word of the kind.
-    pub fn word(self) -> &'static [u8]
-        ensures { result.now ≡ kind_word self }
-    {
-        match self {
-            Kind::Soft => b"soft",
-            Kind::Firm => b"firm",
-            Kind::Sporadic => b"sporadic",
-            Kind::Done => b"done",
-            Kind::Withdraw => b"withdraw",
+        match word {
+            b"soft" => Some(Kind::Soft),
+            b"firm" => Some(Kind::Firm),
+            b"sporadic" => Some(Kind::Sporadic),
+            b"done" => Some(Kind::Done),
+            b"withdraw" => Some(Kind::Withdraw),
+            _ => None,
         }
     }
 }

@@ -1,9 +1,9 @@
 //! The rows of a text in which nothing is quoted, read where they stand.
 
-ghost use Rattle.std.specs.Prelude.{◌≡◌, ◌∷◌, [], true, MatchOption, drop, position};
-ghost use Rattle.std.specs.List.{before_first, position_or_len};
+ghost use Rattle.std.specs.Prelude.{List, ℕ, ◌≡◌, ◌≤◌, ◌+◌, ◌∷◌, [], true, MatchOption, drop, length};
+ghost use Rattle.std.specs.List.{position_or_len};
 ghost use Rattle.csv.specs.Reading.{strip_bom};
-ghost use Rattle.arrival_csv.specs.Rows.{ends_field, IsNextAt, IsNextOf};
+ghost use Rattle.arrival_csv.specs.Rows.{ends_field, IsCutOf, IsNextAfter, IsNextAt, IsNextOf};
 
 use crate::row::Row;
 
@@ -14,6 +14,16 @@ pub(crate) enum Next<'a> {
     /// A row, and the bytes after it.
     Row(Row<'a>, &'a [u8]),
     /// A row with a byte that only a reader of quotes and returns can tell.
+    Other,
+}
+
+/// A field of a text, and what ends it.
+enum Cut<'a> {
+    /// The last field of its row, and the bytes after the row.
+    Last(&'a [u8], &'a [u8]),
+    /// A field with a comma after it, and the place after that.
+    Comma(&'a [u8], usize),
+    /// A field with a byte that only a reader of quotes and returns can tell.
     Other,
 }
 
@@ -50,18 +60,99 @@ pub(crate) fn next_plain(text: &[u8]) -> Next<'_>
 fn row_at(text: &[u8]) -> Next<'_>
     ensures { IsNextAt text.now result }
 {
-    let mut row = Row::Empty;
-    let mut left = text;
+    match cut_field(text, 0) {
+        Cut::Last(first, rest) => Next::Row(Row::One(first), rest),
+        Cut::Comma(first, next) => after_one(first, text, next),
+        Cut::Other => Next::Other,
+    }
+}
+
+/// The row of this first field, where the second starts at this place of the text.
+fn after_one<'a>(first: &'a [u8], text: &'a [u8], start: usize) -> Next<'a>
+    requires { start ≤ length text.now }
+    ensures { IsNextAfter (first.now ∷ []) (drop start text.now) result }
+{
+    match cut_field(text, start) {
+        Cut::Last(second, rest) => Next::Row(Row::Two(first, second), rest),
+        Cut::Comma(second, next) => after_two(first, second, text, next),
+        Cut::Other => Next::Other,
+    }
+}
+
+/// The row of these first fields, where the third starts at this place of the text.
+fn after_two<'a>(first: &'a [u8], second: &'a [u8], text: &'a [u8], start: usize) -> Next<'a>
+    requires { start ≤ length text.now }
+    ensures { IsNextAfter (first.now ∷ second.now ∷ []) (drop start text.now) result }
+{
+    match cut_field(text, start) {
+        Cut::Last(third, rest) => Next::Row(Row::Three(first, second, third), rest),
+        Cut::Comma(third, next) => after_three(first, second, third, text, next),
+        Cut::Other => Next::Other,
+    }
+}
+
+/// The row of these first fields, where the fourth starts at this place of the text.
+fn after_three<'a>(
+    first: &'a [u8],
+    second: &'a [u8],
+    third: &'a [u8],
+    text: &'a [u8],
+    start: usize,
+) -> Next<'a>
+    requires { start ≤ length text.now }
+    ensures { IsNextAfter (first.now ∷ second.now ∷ third.now ∷ []) (drop start text.now) result }
+{
+    match cut_field(text, start) {
+        Cut::Last(fourth, rest) => Next::Row(Row::Four(first, second, third, fourth), rest),
+        Cut::Comma(_, next) => after_four(first, second, text, next),
+        Cut::Other => Next::Other,
+    }
+}
+
+/// The row of these and two more first fields, where the fifth starts at this place of the text.
+fn after_four<'a>(first: &'a [u8], second: &'a [u8], text: &'a [u8], start: usize) -> Next<'a>
+    requires { start ≤ length text.now }
+    ensures { (third fourth : List ℕ) → IsNextAfter
+        (first.now ∷ second.now ∷ third ∷ fourth ∷ []) (drop start text.now) result }
+{
+    let mut place = start;
     loop {
-        let (field, rest) = cut_field(left);
-        row = row.with(field);
-        match cut_first(rest) {
-            None => return Next::Row(row, rest),
-            Some((b'\n', after)) => return Next::Row(row, after),
-            Some((b',', after)) => left = after,
-            Some(_) => return Next::Other,
+        match cut_field(text, place) {
+            Cut::Last(_, rest) => return Next::Row(Row::Longer(first, second), rest),
+            Cut::Comma(_, next) => place = next,
+            Cut::Other => return Next::Other,
         }
     }
+}
+
+/// The field that starts at this place of the text, and what ends it.
+fn cut_field(text: &[u8], start: usize) -> Cut<'_>
+    requires { start ≤ length text.now }
+    ensures { IsCutOf text.now start result }
+{
+    let end = end_of_field(text, start);
+    let field = &text[start..end];
+    if end == text.len() {
+        return Cut::Last(field, &text[end..]);
+    }
+    match text[end] {
+        b'\n' => Cut::Last(field, &text[end + 1..]),
+        b',' => Cut::Comma(field, end + 1),
+        _ => Cut::Other,
+    }
+}
+
+/// The place of the first byte from this place on that ends a field, or the end of the text.
+fn end_of_field(text: &[u8], start: usize) -> usize
+    requires { start ≤ length text.now }
+    ensures within { result ≤ length text.now }
+    ensures place { result ≡ start + position_or_len ends_field (drop start text.now) }
+{
+    let mut end = start;
+    while end < text.len() && !ends_field(text[end]) {
+        end += 1;
+    }
+    end
 }
 
 /// The first byte of the text and those after it.
@@ -70,21 +161,6 @@ fn cut_first(text: &[u8]) -> Option<(u8, &[u8])>
 {
     let (first, rest) = text.split_first()?;
     Some((*first, rest))
-}
-
-/// The bytes of the text before the first that ends a field, and those from there on.
-fn cut_field(text: &[u8]) -> (&[u8], &[u8])
-    ensures field { result.0.now ≡ before_first ends_field text.now }
-    ensures rest { result.1.now ≡ drop (position_or_len ends_field text.now) text.now }
-{
-    text.split_at(end_of_field(text).unwrap_or(text.len()))
-}
-
-/// The place of the first byte that ends a field, where there is one.
-fn end_of_field(text: &[u8]) -> Option<usize>
-    ensures { result ≡ position ends_field text.now }
-{
-    text.iter().position(|byte| ends_field(*byte))
 }
 
 /// Whether the byte ends a field, or only a reader of quotes and returns can tell.

@@ -1,6 +1,5 @@
 //! A row of an arrivals file, as far as its arrival needs it.
 
-ghost use Rattle.std.specs.Prelude.{List, ℕ, ◌++◌, ◌∷◌, []};
 ghost use Rattle.csv.specs.Records.{fields_of};
 ghost use Rattle.arrival_csv.specs.Rows.{IsRowOf};
 
@@ -24,21 +23,6 @@ pub(crate) enum Row<'a> {
 }
 
 impl<'a> Row<'a> {
-    /// The row with one more field at its end.
-    pub(crate) fn with(&self, field: &'a [u8]) -> Row<'a>
-        ensures { (fields : List (List ℕ)) → IsRowOf self.now fields
-            → IsRowOf result (fields ++ (field.now ∷ [])) }
-    {
-        match *self {
-            Row::Empty => Row::One(field),
-            Row::One(first) => Row::Two(first, field),
-            Row::Two(first, second) => Row::Three(first, second, field),
-            Row::Three(first, second, third) => Row::Four(first, second, third, field),
-            Row::Four(first, second, ..) => Row::Longer(first, second),
-            Row::Longer(first, second) => Row::Longer(first, second),
-        }
-    }
-
     /// The row of a record.
     pub(crate) fn of(row: &'a ByteRecord) -> Row<'a>
         ensures { IsRowOf result (fields_of row.now) }
