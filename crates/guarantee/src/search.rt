@@ -274,8 +274,8 @@ fn passed_at_once<T: SpareTable>(
 }
 
 /// A time up to which spans may be passed at once: a page after the end of the span, and a part of
-/// the slots so far that is the smaller, the fewer are left beside all that is needed by then. At
-/// its rate so far the sporadic demand takes at most half of what is left by then.
+/// the slots so far that is the smaller, the fewer are left beside all that is needed by then. In
+/// that part the sporadic demand, at its rate so far, takes at most half of what is left.
 #[inline(always)]
 fn far_end(ask: Ask, place: SpanPlace, demand: u64, left: u64) -> u64
     requires after { ask.now ≤ place.span.end }

@@ -18,8 +18,8 @@ fn tells_the_margin_of_a_task(rt: HostRuntime) -> Result<(), Fail> {
     Ok(())
 }
 
-/// Of two tasks with three slots in eight the second may grow by four, where the cycle has none
-/// more; the alarm beside them, of one slot within two, by one.
+/// Of two tasks with three slots in eight the second may grow by four, which with the slot of the
+/// alarm fills the cycle; the alarm, of one slot within two, may grow by one.
 fn are_margins(alloc: Global, plan: &Plan) -> Result<bool, Memory>
     requires { plan.now.tasks ≡ alarm_set }
 {
