@@ -43,6 +43,6 @@ pub(crate) fn drop_front<T: Copy + Drop>(items: &mut Vec<T>, head: usize)
     ensures items { items.new.items ≡ drop head items.old.items }
     ensures room { vec_capacity items.old ≤ vec_capacity items.new }
 {
-    items.rotate_left(head);
+    items.copy_within(head.., 0);
     items.truncate(items.len() - head);
 }
