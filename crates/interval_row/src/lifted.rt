@@ -1,7 +1,7 @@
 //! A shelf whose capacities are lifted by pages.
 
-ghost use Rattle.std.specs.Int.{int_max};
-ghost use Rattle.std.specs.Prelude.{◌≡◌, Some, slice_get, slice_set};
+ghost use Rattle.std.specs.Int.{w64, int_max, saturate_signed};
+ghost use Rattle.std.specs.Prelude.{◌≡◌, ◌+ℤ◌, Some, slice_get, slice_set};
 ghost use Rattle.interval_row.specs.Lifts.{lifted_by, lowered_by, raised_lift};
 ghost use Rattle.interval_row.specs.Marks.{mark_index};
 
@@ -138,9 +138,21 @@ fn raised_lift(lift: Lift, more: i64) -> Lift
     ensures { result ≡ raised_lift more lift }
 {
     Lift {
-        high: lift.high.saturating_add(more),
+        high: raised_bound(lift.high, more),
         add: lift.add.wrapping_add(more),
     }
+}
+
+/// A bound that is so much higher, or the end of its type where it leaves that. Mostly it is below 0
+/// before and after, and the sum.
+fn raised_bound(high: i64, more: i64) -> i64
+    ensures { result ≡ saturate_signed w64 (high +ℤ more) }
+{
+    let sum = high.wrapping_add(more);
+    if high.max(sum) < 0 {
+        return sum;
+    }
+    high.saturating_add(more)
 }
 
 /// The `high` of the lift of a span is no longer below its capacity. Returns the lift as it was.

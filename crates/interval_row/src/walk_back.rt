@@ -1,6 +1,6 @@
 //! How a change of a capacity is followed back through the spans before it.
 
-ghost use Rattle.std.specs.Prelude.{◌≡◌, ◌+◌, ◌*◌, ◌/◌, ◌≤◌, ◌<◌, pos, drop, length, IsTrue, Some, slice_get};
+ghost use Rattle.std.specs.Prelude.{◌≡◌, ◌+◌, ◌*◌, ◌/◌, ◌≤◌, ◌<◌, ◌+ℤ◌, ◌≤ℤ◌, pos, drop, length, IsTrue, Some, slice_get};
 ghost use Rattle.node_chain.specs.declared.marks.TheConstants.{LAP};
 ghost use Rattle.interval_row.specs.declared.marks.TheConstants.{PAGE};
 ghost use Rattle.spare_capacity.specs.Recurrence.{first_start, last_end};
@@ -125,7 +125,14 @@ pub(crate) fn has_none_to_give<S: Store>(store: &S, mark_index: u32, more: i64) 
     requires { mark_index < LAP }
     ensures { IsTrue result → PagesGiveNone mark_index more (S.spans store.now) }
 {
-    store.high(mark_index) <= 0 - more.max(0)
+    is_at_most_none(store.high(mark_index), more)
+}
+
+/// True only where a bound of capacities lets none be above 0, before and after so much more.
+fn is_at_most_none(high: i64, more: i64) -> bool
+    ensures { IsTrue result → (high ≤ℤ pos 0) × ((high +ℤ more) ≤ℤ pos 0) }
+{
+    high.max(high.wrapping_add(more)) <= 0
 }
 
 /// The spans of a page follow: all at once, without a step, where none has any capacity before and
