@@ -1,16 +1,18 @@
 -- Jobs that have come, of which the earliest stands last: what edits leave of that order, and which of them runs.
-use Rattle.std.proofs.Common.{nat_cmp, ◌≡◌, ℕ, zero, suc, ◌+◌, ◌-◌, ◌<◌, ◌≤◌, true, false, cond, List, [], ◌∷◌, length, drop, get_or, fold, Option, Some, None, Ordering, Less, Equal, Greater, is_lt, is_gt, refl, sym, ap, ◌∙◌, inl, inr, arith}
-use Rattle.std.specs.Prelude.{nat_le, reverse}
+use Rattle.std.proofs.Common.{nat_cmp, ◌≡◌, ℕ, zero, suc, ◌+◌, ◌-◌, ◌<◌, ◌≤◌, true, false, cond, List, [], ◌∷◌, ◌++◌, length, drop, get_or, fold, Option, Some, None, Ordering, Less, Equal, Greater, is_lt, is_gt, refl, sym, ap, ◌∙◌, inl, inr, arith}
+use Rattle.std.specs.Prelude.{nat_le, reverse, slice_get}
 use Rattle.std.specs.Cmp.Lexicographic.{slice_cmp}
 use Rattle.std.specs.List.{insert, remove}
 use Rattle.std.specs.Ordering.{ordering_reverse}
 use Rattle.std.proofs.lemmas.Bool.{cases_lt, cond-false, false≢true, lt-leb, true_from_ne_false}
 use Rattle.std.proofs.lemmas.Cmp.{upto}
-use Rattle.std.proofs.lemmas.List.{drop_more, get_or_read, get_or-drop, get_or-reverse, length-drop, length-reverse}
+use Rattle.std.proofs.lemmas.List.{append-nil, drop_more, get_or_read, get_or-drop, get_or-reverse, length-drop, length-reverse}
+use Rattle.std.proofs.lemmas.List.Elements.{filter-append}
+use Rattle.std.proofs.lemmas.Option.{get_or_from_slice_get, slice_get_within}
 use Rattle.std.proofs.lemmas.List.Edits.{length-insert, length-remove, get_or-insert_at, get_or-insert_above, get_or-insert_below, get_or-remove_below, get_or-remove_above}
 use Rattle.slot_core.specs.declared.jobs.Job.{Job}
 use Rattle.slot_core.specs.Offline.Keys.{deadline_order, is_earlier}
-use Rattle.slot_core.specs.Runs.Choice.{earlier_of, ready}
+use Rattle.slot_core.specs.Runs.Choice.{earlier_of, earliest, ready}
 use Rattle.slot_facts.proofs.Choice.Earliest.{IsNotAfter, IsNotAfter-from_not_earlier, job_cmp, job_cmp_total}
 use Rattle.slot_facts.proofs.Plans.InOrder.{is_earlier-one_way}
 use Rattle.job_queue.specs.Queues.{IsEarliestLast, after_run_at}
@@ -148,6 +150,18 @@ best_of_come now best come i x ordered inside is starts =
         let here = get_or_read back i x (omega arith) is d ∙ get_or-reverse come i d inside in
         let order = ordered (length come - 1 - (i + 1 + k)) (length come - 1 - i) d (omega arith) (omega arith) in
         ap (λ j. is_earlier j x) there ∙ ap (λ j. is_earlier (get_or come (length come - 1 - (i + 1 + k)) d) j) here ∙ order
+
+-- where none stands beside and no listed one may start, the last of those that have come is the best, where it may start
+pub earliest-first_come : (now : ℕ) (beside come listed : List Job) (first : Job) → IsEarliestLast come → beside ≡ [] → slice_get come (length come - 1) ≡ Some first → first.est ≤ now → ready now listed ≡ [] → Some first ≡ earliest (ready now (beside ++ reverse come ++ listed))
+earliest-first_come now beside come listed first ordered none last starts later =
+    let inside : 0 < length come = omega (arith, slice_get_within come (length come - 1) first last) in
+    let at : length come - 1 - 0 ≡ length come - 1 = omega arith in
+    let is : first ≡ get_or (reverse come) 0 first =
+    sym (get_or-reverse come 0 first inside ∙ ap (λ k. get_or come k first) at ∙ get_or_from_slice_get come (length come - 1) first first last) in
+    let both : ready now (reverse come ++ listed) ≡ ready now (reverse come) =
+    filter-append (λ (j : Job). nat_le j.est now) (reverse come) listed ∙ (ap (λ js. ready now (reverse come) ++ js) later ∙ append-nil (ready now (reverse come))) in
+    let jobs = ap (λ js. ready now (js ++ reverse come ++ listed)) none ∙ both in
+    sym (ap earliest jobs ∙ best_of_come now None come 0 first ordered inside is starts)
 
 -- one that may not start is not ready
 pub ready-drop_later : (now : ℕ) (jobs : List Job) (i : ℕ) (x : Job) → i < length jobs → x ≡ get_or jobs i x → now < x.est → ready now (drop i jobs) ≡ ready now (drop (i + 1) jobs)

@@ -44,6 +44,12 @@ pub ready-ordered_later : (now : ℕ) (job : Job) (jobs : List Job) → IsNonDec
 ready-ordered_later now job jobs ordered later =
     ready-none now (job ∷ jobs) (λ k d low. omega (arith, ordered zero k d (omega arith) low))
 
+-- the same, by the first of them
+pub ready-all_later : (now : ℕ) (jobs : List Job) (first : Job) → IsNonDecreasingBy (λ (j : Job). j.est) jobs → first ≡ get_or jobs 0 first → now < first.est → ready now jobs ≡ []
+ready-all_later now [] first ordered is later = refl
+ready-all_later now (j ∷ jobs) first ordered is later =
+    ready-ordered_later now j jobs ordered (omega (arith, ap (λ (job : Job). job.est) is))
+
 -- where a job of a second part in order of start starts later, so do those after it
 later_after : (now : ℕ) (beside listed : List Job) (m i : ℕ) (x : Job) → IsNonDecreasingBy (λ (j : Job). j.est) listed → length beside ≡ m → m ≤ i → i < length (beside ++ listed) → x ≡ get_or (beside ++ listed) i x → now < x.est → (k : ℕ) (d : Job) → k < length (drop i (beside ++ listed)) → now < (get_or (drop i (beside ++ listed)) k d).est
 later_after now beside listed m i x ordered long past inside is later k d low =

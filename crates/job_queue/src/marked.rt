@@ -86,8 +86,7 @@ impl MarkedJobs {
     {
         let mark = key_mark(job.key);
         self.counts[mark] = one_more(self.counts[mark]);
-        // There is a place for it.
-        let _ = self.jobs.insert(place, *job);
+        insert_at(&mut self.jobs, place, job);
     }
 
     /// Takes out the job at a place.
@@ -112,6 +111,20 @@ impl MarkedJobs {
         ensures places { self.new.places ≡ self.old.places }
     {
         self.jobs[place].left -= 1;
+    }
+}
+
+/// Puts a job at a place: behind all, then before those from the place on.
+fn insert_at(jobs: &mut Vec<Job>, place: usize, job: &Job)
+    requires within { place ≤ length jobs.old.items }
+    requires free { length jobs.old.items < vec_capacity jobs.old }
+    ensures items { jobs.new.items ≡ insert jobs.old.items place job.now }
+    ensures capacity { vec_capacity jobs.new ≡ vec_capacity jobs.old }
+{
+    let behind = jobs.len();
+    jobs.push_reserved(*job);
+    if place < behind {
+        jobs[place..].rotate_right(1);
     }
 }
 

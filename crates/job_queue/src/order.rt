@@ -14,6 +14,17 @@ pub(crate) fn is_same_key(a: Key, b: Key) -> bool
     a == b
 }
 
+/// Whether the job has this key. Offline keys are told apart first: a walk through jobs for a key
+/// of another kind then tests little of each.
+pub(crate) fn has_key(job: &Job, key: Key) -> bool
+    ensures { result ≡ same_key job.now.key key }
+{
+    if let (Key::Offline(graph, task, instance), Key::Offline(g, t, i)) = (job.key, key) {
+        return instance == i && task == t && graph == g;
+    }
+    is_same_key(job.key, key)
+}
+
 /// Of two candidates, the one that goes before the other; the first where they are level.
 pub(crate) fn earlier_of<'a>(best: Option<&'a Job>, job: &'a Job) -> Option<&'a Job>
     ensures { option_copied result ≡ earlier_of (option_copied best.entry) job.now }
@@ -25,12 +36,22 @@ pub(crate) fn earlier_of<'a>(best: Option<&'a Job>, job: &'a Job) -> Option<&'a 
 }
 
 /// Whether the first job goes before the second: by deadline, then by key.
+#[inline(always)]
 pub(crate) fn is_earlier(a: &Job, b: &Job) -> bool
     ensures { result ≡ is_earlier a.now b.now }
 {
     if a.dl == b.dl {
-        a.key < b.key
+        is_earlier_by_key(a, b)
     } else {
         a.dl < b.dl
     }
+}
+
+/// The same of two jobs of one deadline.
+#[inline(never)]
+fn is_earlier_by_key(a: &Job, b: &Job) -> bool
+    requires { a.now.dl ≡ b.now.dl }
+    ensures { result ≡ is_earlier a.now b.now }
+{
+    a.key < b.key
 }

@@ -1,6 +1,6 @@
 //! A queue of jobs in three parts.
 
-ghost use Rattle.std.specs.Prelude.{◌≡◌, ℕ, ◌+◌, ◌-◌, ◌<◌, ◌≤◌, ◌^◌, ◌&&◌, [], ◌∷◌, ◌++◌, false, true, nat_le, not, filter, find, fold, length, count_by, position, remove, reverse, slice_get, slice_index_or, None, Some, IfOk, IsTrue};
+ghost use Rattle.std.specs.Prelude.{◌≡◌, ℕ, ◌+◌, ◌-◌, ◌<◌, ◌≤◌, ◌^◌, ◌&&◌, [], ◌∷◌, ◌++◌, false, true, nat_le, not, filter, find, fold, length, count_by, position, remove, reverse, slice_get, slice_index_or, None, Some, IfOk, IfSome, IsTrue};
 ghost use Rattle.std.specs.List.Sorted.{IsNonDecreasingBy};
 ghost use Rattle.std.specs.Option.{option_copied};
 ghost use Rattle.slot_core.specs.declared.jobs.Job.{Job};
@@ -11,7 +11,7 @@ ghost use Rattle.slot_core.specs.Claims.Safety.{after_run};
 ghost use Rattle.job_queue.specs.Queues.{IsEarliestLast, IsQueue, IsReadyPlace, after_run_at, search_steps};
 
 use crate::marked::MarkedJobs;
-use crate::order::{earlier_of, is_earlier, is_same_key};
+use crate::order::{earlier_of, has_key, is_earlier, is_same_key};
 use slot_core::{Job, Key, Memory, Steps};
 use std::alloc::Global;
 use std::collections::VecDeque;
@@ -121,7 +121,7 @@ impl JobQueue {
         ensures capacity { self.new.capacity ≡ self.old.capacity }
         ensures steps { steps.old ≤ steps.new }
     {
-        for _ in 0..self.len() {
+        for _ in 0..self.capacity {
             if !self.beside_comes(now, steps) && !self.listed_comes(now, steps) {
                 break;
             }
@@ -134,15 +134,15 @@ impl JobQueue {
         ensures capacity { self.new.capacity ≡ self.old.capacity }
         ensures steps { steps.old ≤ steps.new }
     {
-        let Some(job) = self.beside.last().copied() else {
+        let Some(last) = self.beside.last() else {
             return false;
         };
         steps.tick();
-        if now < job.est {
+        if now < last.est {
             return false;
         }
+        put_in_order(&mut self.come, last, steps);
         self.beside.pop();
-        put_in_order(&mut self.come, &job, steps);
         true
     }
 
@@ -170,6 +170,19 @@ impl JobQueue {
     /// and `come` has put all in order that may start, these are two at most.
     #[inline(always)]
     pub fn earliest<L: Ledger>(&self, now: u64, steps: &mut Steps<L>) -> Option<Job>
+        ensures job { result ≡ earliest (ready now self.now.jobs) }
+        ensures steps { steps.old ≤ steps.new }
+        ensures few_steps { steps.new ≤ steps.old + length self.now.jobs }
+    {
+        if let Some(first) = first_come(&self.beside, self.come.jobs(), &self.listed, now, steps) {
+            return Some(*first);
+        }
+        self.earliest_of_all(now, steps)
+    }
+
+    /// The same, where all that may be it are looked at.
+    #[inline(never)]
+    fn earliest_of_all<L: Ledger>(&self, now: u64, steps: &mut Steps<L>) -> Option<Job>
         ensures job { result ≡ earliest (ready now self.now.jobs) }
         ensures steps { steps.old ≤ steps.new }
         ensures few_steps { steps.new ≤ steps.old + length self.now.jobs }
@@ -219,6 +232,7 @@ impl JobQueue {
     }
 
     /// The same, where the job is looked for.
+    #[inline(never)]
     fn run_later<L: Ledger>(&mut self, key: Key, steps: &mut Steps<L>)
         requires present { 1 ≤ count_by (λ j. same_key j.key key) self.old.jobs }
         ensures jobs { HaveSameItems self.new.jobs (after_run key self.old.jobs) }
@@ -396,6 +410,51 @@ fn starts_last(listed: &VecDeque<Job>, job: &Job) -> bool
     listed.back().is_none_or(|last| last.est <= job.est)
 }
 
+/// The job that earliest deadline first runs in slot `now`, where it is told by two looks: the last
+/// of those that have come may start, none stands beside, and no listed job may start. One step a
+/// job looked at, and none where it is not told.
+#[inline(always)]
+fn first_come<'a, L: Ledger>(
+    beside: &[Job],
+    come: &'a [Job],
+    listed: &VecDeque<Job>,
+    now: u64,
+    steps: &mut Steps<L>,
+) -> Option<&'a Job>
+    requires latest_first { IsEarliestLast come.now }
+    requires ordered { IsNonDecreasingBy (λ j. j.est) listed.now.items }
+    ensures job { IfSome result (λ first. Some first.now
+        ≡ earliest (ready now (beside.now ++ reverse come.now ++ listed.now.items))) }
+    ensures none { result ≡ None → steps.new ≡ steps.old }
+    ensures steps { steps.old ≤ steps.new }
+    ensures few_steps { steps.new ≤ steps.old + length come.now + length listed.now.items }
+{
+    if !beside.is_empty() {
+        return None;
+    }
+    let first = come.last()?;
+    if now < first.est || !start_later(listed, now) {
+        return None;
+    }
+    steps.tick();
+    if !listed.is_empty() {
+        steps.tick();
+    }
+    Some(first)
+}
+
+/// Whether none of these, which stand in order of start, may start by `now`.
+#[inline(always)]
+fn start_later(listed: &VecDeque<Job>, now: u64) -> bool
+    requires { IsNonDecreasingBy (λ j. j.est) listed.now.items }
+    ensures { result ≡ true → ready now listed.now.items ≡ [] }
+{
+    match listed.front() {
+        Some(next) => now < next.est,
+        None => true,
+    }
+}
+
 /// The job of these that earliest deadline first runs in slot `now`. One step a job.
 fn earliest_of<'a, L: Ledger>(jobs: &'a [Job], now: u64, steps: &mut Steps<L>) -> Option<&'a Job>
     ensures job { option_copied result ≡ earliest (ready now jobs.now) }
@@ -498,7 +557,7 @@ fn place_listed<L: Ledger>(
 fn is_ready(job: &Job, now: u64, key: Key) -> bool
     ensures { result ≡ (same_key job.now.key key && nat_le job.now.est now) }
 {
-    is_same_key(job.key, key) && job.est <= now
+    has_key(job, key) && job.est <= now
 }
 
 /// Puts the job among these, of which the one that earliest deadline first takes first stands last.

@@ -7,7 +7,7 @@ use Rattle.slot_core.specs.declared.jobs.Job.{Job}
 use Rattle.slot_core.specs.Runs.Choice.{earlier_of, earliest, ready}
 use Rattle.job_queue.specs.Queues.{QueueParts}
 use Rattle.job_queue.proofs.KeptQueues.{length-parts}
-use Rattle.job_queue.proofs.queue.JobQueue.earliest.Goals as goal
+use Rattle.job_queue.proofs.queue.JobQueue.earliest_of_all.Goals as goal
 
 pub returns : goal.returns
 returns g c =
