@@ -216,6 +216,7 @@ impl JobQueue {
 
     /// One slot has run of the job of this key. It goes where that was its last one. One step a job
     /// looked at.
+    #[inline(always)]
     pub fn ran<L: Ledger>(&mut self, key: Key, steps: &mut Steps<L>)
         requires present { 1 ≤ count_by (λ j. same_key j.key key) self.old.jobs }
         ensures jobs { HaveSameItems self.new.jobs (after_run key self.old.jobs) }
@@ -255,7 +256,7 @@ impl JobQueue {
             return false;
         }
         match self.come.jobs().last() {
-            Some(job) => is_same_key(job.key, key),
+            Some(job) => has_key(job, key),
             None => false,
         }
     }
