@@ -114,17 +114,19 @@ impl MarkedJobs {
     }
 }
 
-/// Puts a job at a place: behind all, then before those from the place on.
+/// Puts a job at a place: behind all, or where others stand from the place on, before them.
 fn insert_at(jobs: &mut Vec<Job>, place: usize, job: &Job)
     requires within { place ≤ length jobs.old.items }
     requires free { length jobs.old.items < vec_capacity jobs.old }
     ensures items { jobs.new.items ≡ insert jobs.old.items place job.now }
     ensures capacity { vec_capacity jobs.new ≡ vec_capacity jobs.old }
 {
-    let behind = jobs.len();
+    let count = jobs.len();
     jobs.push_reserved(*job);
-    if place < behind {
-        jobs[place..].rotate_right(1);
+    if place < count {
+        let moved = &mut jobs[place..];
+        moved.copy_within(0..count - place, 1);
+        moved[0] = *job;
     }
 }
 
