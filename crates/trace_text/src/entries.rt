@@ -58,6 +58,6 @@ pub fn key_text(key: Key, tasks: &TaskSet) -> Line
     ensures short { length result ≤ KEY_LIMIT }
 {
     let mut line = Line::new();
-    push_key(&mut line, key, tasks);
+    push_key(&mut line, &key, tasks);
     line
 }

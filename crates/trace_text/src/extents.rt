@@ -1,28 +1,36 @@
 //! The extents of spans, which are their starts and ends, and their spare capacities, as texts that
 //! are kept from line to line.
 
-ghost use Rattle.std.specs.Prelude.{◌≡◌, ◌≤◌, ◌<◌, ◌+◌, ◌++◌, decimal, drop, length, true};
+ghost use Rattle.std.specs.Prelude.{◌≡◌, ◌≤◌, ◌<◌, ◌+◌, ◌++◌, ◌∷◌, decimal, drop, length, true};
 ghost use Rattle.std.specs.Fmt.{signed_decimal};
 ghost use Rattle.trace_text.specs.declared.TheConstants.{DECIMAL_LIMIT, EXTENT_LIMIT, LINE_LIMIT, SPAN_LIMIT};
-ghost use Rattle.trace_text.specs.declared.extents.TheConstants.{EXTENT_COUNT, EXTENT_SIZE, SPARE_COUNT, SPARE_SIZE};
-ghost use Rattle.trace_text.specs.Extents.{extent_text};
+ghost use Rattle.trace_text.specs.declared.extents.TheConstants.{END_LIMIT, EXTENT_COUNT, EXTENT_SIZE, SPARE_COUNT, SPARE_SIZE, START_LIMIT};
+ghost use Rattle.trace_text.specs.Extents.{end_text, extent_text};
 
+use crate::DECIMAL_LIMIT;
 use crate::line::Line;
 use slot_core::Span;
 use std::array::from_fn;
 use std::marker::Model;
 
-/// How many texts of extents are kept.
-const EXTENT_COUNT: usize = 64;
+/// How many texts of extents are kept: the last byte of an end is the place of its cell.
+const EXTENT_COUNT: usize = 256;
 
-/// How many texts of spare capacities are kept.
-const SPARE_COUNT: usize = 128;
+/// How many texts of spare capacities are kept: the last byte of one is the place of its cell.
+const SPARE_COUNT: usize = 256;
 
 /// Most bytes of the text of an extent that is kept: two numbers of six digits each.
 const EXTENT_SIZE: usize = 16;
 
-/// Most bytes of the text of a spare capacity that is kept.
-const SPARE_SIZE: usize = 8;
+/// Most bytes of the text of a spare capacity that is kept. It makes a cell of 32 bytes, as the size
+/// of an extent makes one of 64: so the address of a cell takes a shift.
+const SPARE_SIZE: usize = 16;
+
+/// Most bytes of the start of a span, after a space.
+const START_LIMIT: usize = 1 + DECIMAL_LIMIT;
+
+/// Most bytes of the end of a span, between a dash and a colon.
+const END_LIMIT: usize = 1 + DECIMAL_LIMIT + 1;
 
 /// What writes spans.
 pub(crate) trait SpanWriter {
@@ -46,10 +54,28 @@ fn push_extent(line: &mut Line, span: &Span)
     ensures text { line.new ≡ line.old ++ extent_text span.now.start span.now.end }
     ensures short { length line.new ≤ length line.old + EXTENT_LIMIT }
 {
+    push_start(line, span.start);
+    push_end(line, span.end);
+}
+
+/// Appends a space and the start of a span.
+fn push_start(line: &mut Line, start: u64)
+    requires { length line.old + START_LIMIT ≤ LINE_LIMIT }
+    ensures text { line.new ≡ line.old ++ 32 ∷ decimal start }
+    ensures short { length line.new ≤ length line.old + START_LIMIT }
+{
     line.push(b" ");
-    line.number(span.start);
+    line.number(start);
+}
+
+/// Appends a dash, the end of a span and a colon, made anew.
+fn push_end(line: &mut Line, end: u64)
+    requires { length line.old + END_LIMIT ≤ LINE_LIMIT }
+    ensures text { line.new ≡ line.old ++ end_text end }
+    ensures short { length line.new ≤ length line.old + END_LIMIT }
+{
     line.push(b"-");
-    line.number(span.end);
+    line.number(end);
     line.push(b":");
 }
 
@@ -75,19 +101,25 @@ struct ExtentCell {
     end: u64,
     bytes: [u8; EXTENT_SIZE],
     len: usize,
+    /// The dash, the end and the colon, which stay where only the start is another.
+    tail: [u8; EXTENT_SIZE],
+    tail_len: usize,
 }
 
 impl Model for ExtentCell {
     ghost use Rattle.std.specs.Prelude.{◌≡◌, ◌≤◌, ℕ, take};
     ghost use Rattle.trace_text.specs.declared.extents.TheConstants.{EXTENT_SIZE};
-    ghost use Rattle.trace_text.specs.Extents.{extent_text};
+    ghost use Rattle.trace_text.specs.Extents.{end_text, extent_text};
 
     ghost Value = { ℕ × ℕ };
 
     ghost view = { λ c. (c.start, c.end) };
 
     ghost invariant = { λ c.
-        (c.len ≤ EXTENT_SIZE) × (take c.len c.bytes ≡ extent_text c.start c.end) };
+        (c.len ≤ EXTENT_SIZE)
+        × (take c.len c.bytes ≡ extent_text c.start c.end)
+        × (c.tail_len ≤ EXTENT_SIZE)
+        × (take c.tail_len c.tail ≡ end_text c.end) };
 }
 
 impl ExtentCell {
@@ -95,11 +127,15 @@ impl ExtentCell {
     fn new() -> ExtentCell {
         let mut bytes = [0; EXTENT_SIZE];
         bytes[..5].copy_from_slice(b" 0-0:");
+        let mut tail = [0; EXTENT_SIZE];
+        tail[..3].copy_from_slice(b"-0:");
         ExtentCell {
             start: 0,
             end: 0,
             bytes,
             len: 5,
+            tail,
+            tail_len: 3,
         }
     }
 
@@ -123,22 +159,42 @@ impl ExtentCell {
     }
 
     /// Appends the extent of the span, and keeps its text.
+    #[inline(always)]
     fn renew(&mut self, line: &mut Line, span: &Span)
         requires { length line.old + SPAN_LIMIT ≤ LINE_LIMIT }
         ensures text { line.new ≡ line.old ++ extent_text span.now.start span.now.end }
         ensures short { length line.new ≤ length line.old + EXTENT_LIMIT }
     {
         let from = line.bytes().len();
-        push_extent(line, span);
-        self.keep(span, line, from);
+        push_start(line, span.start);
+        let dash = line.bytes().len();
+        self.push_tail(line, span.end);
+        self.keep(span, line, from, dash);
+    }
+
+    /// Appends the dash, this end and the colon, which are made anew where they are not those that
+    /// are kept.
+    #[inline]
+    fn push_tail(&self, line: &mut Line, end: u64)
+        requires { length line.old + END_LIMIT ≤ LINE_LIMIT }
+        ensures text { line.new ≡ line.old ++ end_text end }
+        ensures short { length line.new ≤ length line.old + END_LIMIT }
+    {
+        if self.end == end {
+            line.push_block(self.tail, self.tail_len);
+        } else {
+            push_end(line, end);
+        }
     }
 
     /// Keeps the text of the extent of the span, which stands in the line from this place on, where
-    /// it is not too long.
-    fn keep(&mut self, span: &Span, line: &Line, from: usize)
-        requires inside { from ≤ length line.now }
-        requires room { from + EXTENT_SIZE ≤ LINE_LIMIT }
+    /// it is not too long. Its tail stands there from the dash on.
+    fn keep(&mut self, span: &Span, line: &Line, from: usize, dash: usize)
+        requires order { from ≤ dash }
+        requires inside { dash ≤ length line.now }
+        requires room { dash + EXTENT_SIZE ≤ LINE_LIMIT }
         requires text { drop from line.now ≡ extent_text span.now.start span.now.end }
+        requires tail { drop dash line.now ≡ end_text span.now.end }
     {
         let len = line.bytes().len() - from;
         if len <= EXTENT_SIZE {
@@ -146,6 +202,8 @@ impl ExtentCell {
             self.start = span.start;
             self.end = span.end;
             self.len = len;
+            self.tail = line.block_from(dash);
+            self.tail_len = line.bytes().len() - dash;
         }
     }
 }
@@ -249,6 +307,19 @@ impl Cells {
             spares: from_fn(|_| SpareCell::new()),
         }
     }
+
+    /// Appends the span, and keeps its texts. It stands apart, so that the loop over spans whose texts
+    /// are kept stays small.
+    #[inline(never)]
+    fn push_anew(&mut self, line: &mut Line, span: &Span)
+        requires { length line.old + SPAN_LIMIT ≤ LINE_LIMIT }
+        ensures text { line.new ≡ line.old ++ extent_text span.now.start span.now.end
+            ++ signed_decimal span.now.spare }
+        ensures short { length line.new ≤ length line.old + SPAN_LIMIT }
+    {
+        self.extents[extent_place(span)].renew(line, span);
+        self.spares[spare_place(span.spare)].push_spare(line, span.spare);
+    }
 }
 
 /// The place of the cell of the extent of the span.
@@ -270,14 +341,13 @@ fn spare_place(spare: i64) -> usize
 impl SpanWriter for Cells {
     #[inline]
     fn push_span(&mut self, line: &mut Line, span: &Span) {
-        let Cells { extents, spares } = self;
-        let extent = &mut extents[extent_place(span)];
-        let spare = &mut spares[spare_place(span.spare)];
+        let Cells { extents, spares } = &*self;
+        let extent = &extents[extent_place(span)];
+        let spare = &spares[spare_place(span.spare)];
         if extent.is_of(span) && spare.is_of(span.spare) {
             extent.push_with(spare, line);
         } else {
-            extent.renew(line, span);
-            spare.push_spare(line, span.spare);
+            self.push_anew(line, span);
         }
     }
 

@@ -10,13 +10,16 @@ ghost use Rattle.trace_text.specs.declared.TheConstants.{KEY_LIMIT, LINE_LIMIT};
 use crate::line::Line;
 use slot_core::{Graph, Key, Name, TaskSet};
 
-/// Appends the name.
+/// Appends the name. One of two bytes, as short names have, gets code of its own without a loop.
 fn push_name(line: &mut Line, name: &Name)
     requires { length line.old + NAME_LIMIT ≤ LINE_LIMIT }
     ensures text { line.new ≡ line.old ++ name.now }
     ensures short { length line.new ≤ length line.old + NAME_LIMIT }
 {
-    line.push(name.bytes());
+    match name.bytes() {
+        [first, second] => line.push(&[*first, *second]),
+        bytes => line.push(bytes),
+    }
 }
 
 /// The graph of this index.
@@ -76,13 +79,13 @@ fn push_offline(line: &mut Line, graph: u16, task: u16, instance: u64, tasks: &T
 }
 
 /// Appends the key.
-pub(crate) fn push_key(line: &mut Line, key: Key, tasks: &TaskSet)
-    requires named { key_in_set tasks.now key ≡ true }
+pub(crate) fn push_key(line: &mut Line, key: &Key, tasks: &TaskSet)
+    requires named { key_in_set tasks.now key.now ≡ true }
     requires room { length line.old + KEY_LIMIT ≤ LINE_LIMIT }
-    ensures text { line.new ≡ line.old ++ key_text tasks.now key }
+    ensures text { line.new ≡ line.old ++ key_text tasks.now key.now }
     ensures short { length line.new ≤ length line.old + KEY_LIMIT }
 {
-    match key {
+    match *key {
         Key::Offline(graph, task, instance) => push_offline(line, graph, task, instance, tasks),
         Key::Sporadic(index, row) => {
             push_sporadic(line, index, tasks);

@@ -1,6 +1,6 @@
 //! A line in the making.
 
-ghost use Rattle.std.specs.Prelude.{◌≡◌, ◌≤◌, ◌+◌, [], ◌++◌, ◌-◌, drop, length, take, decimal};
+ghost use Rattle.std.specs.Prelude.{◌≡◌, ◌≤◌, ◌<◌, ◌+◌, [], ◌++◌, ◌-◌, drop, length, take, decimal};
 ghost use Rattle.std.specs.Fmt.{signed_decimal};
 ghost use Rattle.trace_text.specs.declared.TheConstants.{DECIMAL_LIMIT, LINE_LIMIT};
 
@@ -118,10 +118,35 @@ impl Line {
         requires { length self.old + length (decimal n) ≤ LINE_LIMIT }
         ensures { self.new ≡ self.old ++ decimal n }
     {
+        if n < 1000 {
+            self.push_short(n);
+        } else {
+            self.push_long(n);
+        }
+    }
+
+    /// Appends the number below 1000.
+    #[inline(always)]
+    fn push_short(&mut self, n: u64)
+        requires below { n < 1000 }
+        requires room { length self.old + length (decimal n) ≤ LINE_LIMIT }
+        ensures { self.new ≡ self.old ++ decimal n }
+    {
         match n {
             0..=9 => self.push_digits(n, 1),
             10..=99 => self.push_digits(n, 2),
-            100..=999 => self.push_digits(n, 3),
+            _ => self.push_digits(n, 3),
+        }
+    }
+
+    /// Appends the number, which is not below 1000.
+    #[inline(always)]
+    fn push_long(&mut self, n: u64)
+        requires from { 1000 ≤ n }
+        requires room { length self.old + length (decimal n) ≤ LINE_LIMIT }
+        ensures { self.new ≡ self.old ++ decimal n }
+    {
+        match n {
             1000..=9999 => self.push_digits(n, 4),
             10_000..=99_999 => self.push_digits(n, 5),
             100_000..=999_999 => self.push_digits(n, 6),

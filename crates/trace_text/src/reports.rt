@@ -17,7 +17,7 @@ pub fn job_line(job: &Job, tasks: &TaskSet) -> Line
 {
     let mut line = Line::new();
     line.push(b"job ");
-    push_key(&mut line, job.key, tasks);
+    push_key(&mut line, &job.key, tasks);
     push_number(&mut line, job.est);
     push_number(&mut line, job.dl);
     push_number(&mut line, u64::from(job.declared));

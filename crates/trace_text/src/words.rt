@@ -36,12 +36,12 @@ fn push_soft(line: &mut Line, answer: Soft)
 }
 
 /// Appends the answer to a firm task.
-fn push_firm(line: &mut Line, answer: Firm)
+fn push_firm(line: &mut Line, answer: &Firm)
     requires { length line.old + ANSWER_LIMIT ≤ LINE_LIMIT }
-    ensures text { line.new ≡ line.old ++ firm_text answer }
+    ensures text { line.new ≡ line.old ++ firm_text answer.now }
     ensures short { length line.new ≤ length line.old + ANSWER_LIMIT }
 {
-    match answer {
+    match *answer {
         Firm::Accepted => line.push(b"accepted"),
         Firm::Late => line.push(b"late"),
         Firm::Far => line.push(b"far"),
@@ -102,10 +102,10 @@ fn push_soft_words(line: &mut Line, row: u32, slots: u32, answer: Soft)
 }
 
 /// Appends the words of a firm task.
-fn push_firm_words(line: &mut Line, row: u32, slots: u32, within: u32, answer: Firm)
+fn push_firm_words(line: &mut Line, row: u32, slots: u32, within: u32, answer: &Firm)
     requires { length line.old + WORDS_LIMIT ≤ LINE_LIMIT }
     ensures text { line.new ≡ line.old
-        ++ (worded (worded (worded (codes "firm") row) slots) within ++ 32 ∷ firm_text answer) }
+        ++ (worded (worded (worded (codes "firm") row) slots) within ++ 32 ∷ firm_text answer.now) }
     ensures short { length line.new ≤ length line.old + WORDS_LIMIT }
 {
     line.push(b"firm");
@@ -133,11 +133,11 @@ fn push_sporadic_words(line: &mut Line, row: u32, index: u8, answer: Spo, tasks:
 }
 
 /// Appends the words of an early end.
-fn push_done_words(line: &mut Line, row: u32, key: Key, answer: Done, tasks: &TaskSet)
-    requires named { key_in_set tasks.now key ≡ true }
+fn push_done_words(line: &mut Line, row: u32, key: &Key, answer: Done, tasks: &TaskSet)
+    requires named { key_in_set tasks.now key.now ≡ true }
     requires room { length line.old + WORDS_LIMIT ≤ LINE_LIMIT }
     ensures text { line.new ≡ line.old ++ (worded (codes "done") row
-        ++ 32 ∷ key_text tasks.now key ++ 32 ∷ done_text answer) }
+        ++ 32 ∷ key_text tasks.now key.now ++ 32 ∷ done_text answer) }
     ensures short { length line.new ≤ length line.old + WORDS_LIMIT }
 {
     line.push(b"done");
@@ -173,7 +173,7 @@ fn push_withdraw_words(line: &mut Line, row: u32, firm: u32, answer: Gone, tasks
     line.push(b"withdraw");
     push_number(line, u64::from(row));
     line.push(b" ");
-    push_key(line, Key::Firm(firm), tasks);
+    push_key(line, &Key::Firm(firm), tasks);
     line.push(b" ");
     push_gone(line, answer);
 }
@@ -189,11 +189,13 @@ pub(crate) fn push_what(line: &mut Line, what: &What, tasks: &TaskSet)
     match *what {
         What::Start => line.push(b"start"),
         What::Soft(row, slots, answer) => push_soft_words(line, row, slots, answer),
-        What::Firm(row, slots, within, answer) => push_firm_words(line, row, slots, within, answer),
+        What::Firm(row, slots, within, ref answer) => push_firm_words(
+            line, row, slots, within, answer,
+        ),
         What::Sporadic(row, index, answer) => push_sporadic_words(line, row, index, answer, tasks),
-        What::Done(row, key, answer) => push_done_words(line, row, key, answer, tasks),
+        What::Done(row, ref key, answer) => push_done_words(line, row, key, answer, tasks),
         What::Withdraw(row, firm, answer) => push_withdraw_words(line, row, firm, answer, tasks),
-        What::Run(key) => {
+        What::Run(ref key) => {
             line.push(b"run ");
             push_key(line, key, tasks);
         }
