@@ -11,13 +11,14 @@ use Rattle.slot_core.specs.Runs.Arrivals.{are_fitting, arrivals_follow, event_fi
 use Rattle.slot_core.specs.Keeping.Executives.{Executive, StandsFor}
 use Rattle.slot_core.specs.Keeping.Plans.{PlanParts}
 use Rattle.slot_core.specs.Runs.Histories.{History, time_of}
+use Rattle.slot_core.specs.Runs.ShownSpans.{ShownSpans}
 use Rattle.slot_core.specs.Runs.Traces.{arrive, told_of, end_entry, history_of}
 use Rattle.slot_facts.proofs.Legal.Traces.{BeginsWith-from}
 use Rattle.slot_facts.proofs.Sets.Tasks.{slice_get-within}
 use Rattle.slot_facts.proofs.Replays.Entries.{AreLeft, entries_left, entries_left-arrival, entries_left-end}
 use Rattle.slot_facts.proofs.Replays.Told.{history_of-more, StandsFor-end}
 use Rattle.arrival_replay.specs.Replays.{due_arrival, is_on_the_way, entry_of, entries_before, history_before, StandsBefore, entries_from, IsStopped, BreaksOff}
-use Rattle.arrival_replay.proofs.UnderWay.{IsUnderWay, BreaksOff-after}
+use Rattle.arrival_replay.proofs.UnderWay.{IsUnderWay, TookShown, BreaksOff-after}
 use Rattle.arrival_replay.proofs.Happenings.{IsDueAt-from, first-at, fitting-at}
 
 -- an arrival that follows comes before the last slot is over
@@ -108,6 +109,18 @@ module _ (Took : List Entry → Type 0) (plan : PlanParts) (exec : Executive) (t
             (subst (λ k. IsStopped Took exec trace n (slice_get arrivals k)) same (IsStopped-due due.0 due.1 early), last ∙ same)
         | inr over ↦ (IsStopped-over over, omega (arith, none_left over))
       ]
+
+-- where it has stopped, what was taken was taken, whatever spans were shown
+pub IsStopped-taken : (Took : List Entry → Type 0) (plan : PlanParts) (shown : ShownSpans) (exec : Executive) (trace : List Entry) (n : ℕ) (next : Option Arrival) → IsStopped (TookShown Took plan shown) exec trace n next → IsStopped Took exec trace n next
+IsStopped-taken Took plan shown exec trace n next s = record {
+  told = s.told;
+  took = s.took.0;
+  stands = s.stands;
+  now = s.now;
+  count = s.count;
+  later = s.later;
+  whole = s.whole;
+}
 
 -- the entries before one, and that one
 front-split : {X : Type 0} (front later : List X) (x : X) → (take (length front) (front ++ x ∷ later) ≡ front) × (slice_get (front ++ x ∷ later) (length front) ≡ Some x)

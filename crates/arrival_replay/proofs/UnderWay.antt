@@ -1,7 +1,6 @@
 -- A replay under way: what was told of its trace, and what is left.
-use Rattle.std.proofs.Common.{◌≡◌, ℕ, ◌+◌, ◌≤◌, true, List, [], ◌∷◌, ◌++◌, length, take, append_assoc, length-append, refl, sym, ap, ◌∙◌, subst, arith}
+use Rattle.std.proofs.Common.{◌≡◌, ℕ, ◌+◌, ◌≤◌, Bool, true, false, List, [], ◌∷◌, ◌++◌, length, take, append_assoc, length-append, refl, sym, ap, ◌∙◌, subst, arith}
 use Rattle.std.proofs.Math.Seq.{take-append-add}
-use Rattle.slot_core.specs.declared.tasks.TaskSet.{TaskSet}
 use Rattle.slot_core.specs.declared.events.Arrival.{Arrival}
 use Rattle.slot_core.specs.declared.events.Entry.{Entry}
 use Rattle.slot_core.specs.declared.events.What.{What}
@@ -11,10 +10,14 @@ use Rattle.slot_core.specs.Sets.Cycles.{cycle_of}
 use Rattle.slot_core.specs.Keeping.Executives.{Executive, StandsFor, Does}
 use Rattle.slot_core.specs.Runs.Histories.{History, time_of}
 use Rattle.slot_core.specs.Keeping.Plans.{PlanParts}
+use Rattle.slot_core.specs.Runs.Scenes.{scene_of}
+use Rattle.slot_core.specs.Runs.ShownSpans.{ShownSpans}
+use Rattle.slot_core.specs.Runs.Spans.{shown_of}
 use Rattle.slot_core.specs.Runs.Traces.{Occurrence, told_of, shown_entry, trace_in, trace, history_of}
 use Rattle.slot_facts.proofs.Replays.Entries.{AreLeft, entries_left, entry_after, entries_left-start, AreLeft-start}
 use Rattle.slot_facts.proofs.Replays.Told.{history_of-more, StandsFor-started}
-use Rattle.arrival_replay.specs.Replays.{BreaksOff}
+use Rattle.arrival_replay.specs.Replays.{may_change_spans, BreaksOff}
+use Rattle.arrival_replay.proofs.KeptSpans.{shown-kept}
 
 -- entries were told and taken, the executive of this plan stands for their history, and with what
 -- is left after it they are the trace
@@ -47,12 +50,29 @@ pub record IsToTell
       ∷ entries_left plan.tasks plan.cycle n (what ∷ history_of told) arrivals)
       ≡ trace
 
--- what holds of the entry at each history for which the executive stands, holds of the one that is
--- to be told
-pub entry-to_tell : (Q : TaskSet → List Entry → Type 0) (Took : List Entry → Type 0) (plan : PlanParts) (exec : Executive) (trace : List Entry) (n : ℕ) (arrivals : List Arrival) (time : ℕ) (what : What) (t : IsToTell Took plan exec trace n arrivals time what) → ((h : History) → StandsFor exec h → Q exec.plan.tasks (shown_entry exec.plan.tasks exec.plan.cycle time what h ∷ [])) → Q plan.tasks (shown_entry plan.tasks plan.cycle time what (what ∷ history_of t.told) ∷ [])
-entry-to_tell Q Took plan exec trace n arrivals time what t each =
-    let h = what ∷ history_of t.told in
-    subst (λ (p : PlanParts). Q p.tasks (shown_entry p.tasks p.cycle time what h ∷ [])) t.plan_is (each h t.stands)
+-- entries were taken, and these are the spans after them
+abbrev pub TookShown : (List Entry → Type 0) → PlanParts → ShownSpans → List Entry → Type 0
+TookShown Took plan shown told =
+    Took told × (shown ≡ shown_of plan.cycle (scene_of plan.tasks plan.cycle (history_of told)))
+
+-- where they are taken with one more, the spans of that one are those after them
+pub TookShown-told : (Took : List Entry → Type 0) (plan : PlanParts) (told : List Entry) (time : ℕ) (what : What) (e : Entry) → e ≡ shown_entry plan.tasks plan.cycle time what (what ∷ history_of told) → Took (told ++ e ∷ []) → TookShown Took plan e.shown (told ++ shown_entry plan.tasks plan.cycle time what (what ∷ history_of told) ∷ [])
+TookShown-told Took plan told time what e same took =
+    let own = shown_entry plan.tasks plan.cycle time what (what ∷ history_of told) in
+    (subst (λ e. Took (told ++ e ∷ [])) same took, ap (λ (e : Entry). e.shown) same ∙ ap (λ h. shown_of plan.cycle (scene_of plan.tasks plan.cycle h)) (sym (history_of-more told own)))
+
+-- an entry whose spans were read where they may have changed is the one that is to be told
+pub entry-renewed : (Took : List Entry → Type 0) (plan : PlanParts) (exec : Executive) (trace : List Entry) (n : ℕ) (arrivals : List Arrival) (time : ℕ) (what : What) (before after : Entry) (t : IsToTell (TookShown Took plan before.shown) plan exec trace n arrivals time what) → (may_change_spans what ≡ true → (h : History) → StandsFor exec h → after ≡ shown_entry exec.plan.tasks exec.plan.cycle time what h) → (may_change_spans what ≡ false → after ≡ record before { time = time; what = what }) → after ≡ shown_entry plan.tasks plan.cycle time what (what ∷ history_of t.told)
+entry-renewed Took plan exec trace n arrivals time what before after t read kept =
+    by_test (may_change_spans what) refl
+  where
+    by_test : (test : Bool) → may_change_spans what ≡ test → after ≡ shown_entry plan.tasks plan.cycle time what (what ∷ history_of t.told)
+    by_test true may =
+        let h = what ∷ history_of t.told in
+        subst (λ (p : PlanParts). after ≡ shown_entry p.tasks p.cycle time what h) t.plan_is (read may h t.stands)
+    by_test false stay =
+        let same = t.took.1 ∙ sym (shown-kept plan.tasks plan.cycle what (history_of t.told) stay) in
+        kept stay ∙ ap (λ (s : ShownSpans). record { time = time; what = what; shown = s }) same
 
 -- where the entry is taken too, the replay is under way
 pub IsUnderWay-told : (Took Longer : List Entry → Type 0) (plan : PlanParts) (exec : Executive) (trace : List Entry) (n : ℕ) (arrivals : List Arrival) (time : ℕ) (what : What) → (t : IsToTell Took plan exec trace n arrivals time what) → Longer (t.told ++ shown_entry plan.tasks plan.cycle time what (what ∷ history_of t.told) ∷ []) → IsUnderWay Longer plan exec trace n arrivals

@@ -1,7 +1,13 @@
 -- How a replay goes, where it stops, and how it ends before its trace does.
-use Rattle.std.specs.Prelude.{◌≡◌, ℕ, ◌+◌, ◌-◌, ◌≤◌, Bool, true, ◌&&◌, ◌||◌, ◌==◌, nat_lt, List, [], ◌∷◌, ◌++◌, length, take, slice_get, Option, Some, None, is_none, if◌then◌else◌}
+use Rattle.std.specs.Prelude.{◌≡◌, ℕ, ◌+◌, ◌-◌, ◌≤◌, Bool, true, false, ◌&&◌, ◌||◌, ◌==◌, nat_lt, List, [], ◌∷◌, ◌++◌, length, take, slice_get, Option, Some, None, is_none, if◌then◌else◌}
 use Rattle.slot_core.specs.declared.events.Arrival.{Arrival}
 use Rattle.slot_core.specs.declared.events.Entry.{Entry}
+use Rattle.slot_core.specs.declared.events.What.{What}
+use Rattle.slot_core.specs.declared.events.What.TheVariants.{Soft, Firm, Sporadic, Done, Withdraw}
+use Rattle.slot_core.specs.declared.events.Firm.TheVariants.{Accepted}
+use Rattle.slot_core.specs.declared.events.Spo.TheVariants.{Soon}
+use Rattle.slot_core.specs.declared.events.Done.TheVariants.{NotRunning}
+use Rattle.slot_core.specs.declared.events.Gone.TheVariants.{NoJob}
 use Rattle.slot_core.specs.Runs.Arrivals.{event_may_come, event_names_known}
 use Rattle.slot_core.specs.Keeping.Executives.{Executive, StandsFor}
 use Rattle.slot_core.specs.Keeping.Plans.{PlanParts}
@@ -27,6 +33,16 @@ next_occurrence (Some arrival) = arrive arrival.row arrival.event
 abbrev pub is_on_the_way : List Arrival → ℕ → ℕ → ℕ → ℕ → Bool
 is_on_the_way arrivals slots place next time =
     nat_lt time slots && (nat_lt next place || is_none (due_arrival arrivals next time))
+
+-- what happened may have changed the spans: soft work and what was refused changes none
+abbrev pub may_change_spans : What → Bool
+may_change_spans (Soft row slots answer) = false
+may_change_spans (Firm row slots within Accepted) = true
+may_change_spans (Firm row slots within refused) = false
+may_change_spans (Sporadic row index (Soon next)) = false
+may_change_spans (Done row key NotRunning) = false
+may_change_spans (Withdraw row firm NoJob) = false
+may_change_spans other = true
 
 -- the entry of this arrival after a history
 abbrev pub entry_of : PlanParts → History → Arrival → Entry

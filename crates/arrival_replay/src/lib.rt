@@ -2,26 +2,28 @@
 //! entry of the trace is handed to a taker.
 #![tactic(auto)]
 
-ghost use Rattle.std.specs.Prelude.{◌≡◌, ◌≤◌, ◌<◌, ◌+◌, ◌^◌, ◌-◌, [], ◌∷◌, true, length, slice_get, OnErr, OnOk, IfOk, IfSome, Some};
+ghost use Rattle.std.specs.Prelude.{◌≡◌, ◌≤◌, ◌<◌, ◌+◌, ◌^◌, ◌-◌, [], ◌∷◌, true, false, length, slice_get, OnErr, OnOk, IfOk, IfSome, Some};
 ghost use Rattle.std.specs.Io.KnownBytes.{Appends};
 ghost use Rattle.slot_core.specs.declared.TheConstants.{REPLAY_LIMIT};
 ghost use Rattle.slot_core.specs.declared.events.Arrival.{Arrival};
 ghost use Rattle.slot_core.specs.Runs.Arrivals.{are_fitting, event_may_come, event_names_known, what_in_set};
 ghost use Rattle.slot_core.specs.Calls.Counts.{Rose};
-ghost use Rattle.slot_core.specs.Keeping.Executives.{Does, StandsFor};
+ghost use Rattle.slot_core.specs.Keeping.Executives.{Does, Shows, StandsFor};
 ghost use Rattle.slot_core.specs.Runs.Histories.{History};
 ghost use Rattle.slot_core.specs.Keeping.Plans.{IsPlan};
 ghost use Rattle.slot_core.specs.Output.Texts.{entry_line, trace_text};
 ghost use Rattle.slot_core.specs.Runs.Traces.{arrive, end_entry, history_of, shown_entry, slot, trace};
 ghost use Rattle.slot_io.specs.Sinks.{AppendsPart};
 ghost use Rattle.trace_text.specs.Takers.{AppendsBroken};
-ghost use Rattle.arrival_replay.specs.Replays.{due_arrival, entry_of, is_on_the_way, next_occurrence, BreaksOff, IsStopped, StandsBefore};
+ghost use Rattle.arrival_replay.specs.Replays.{due_arrival, entry_of, is_on_the_way, may_change_spans, next_occurrence, BreaksOff, IsStopped, StandsBefore};
 
 mod silent;
 
 use crate::silent::Silent;
 use interval_row::SpareTable;
-use slot_core::{Arrival, Entry, Event, Failed, Ran, Shown, Steps, Taker, What};
+use slot_core::{
+    Arrival, Done, Entry, Event, Failed, Firm, Gone, Ran, Shown, Spo, Steps, Taker, What,
+};
 use slot_exec::Exec;
 use slot_io::Sink;
 use std::marker::Brand;
@@ -256,7 +258,8 @@ fn go_to<T: SpareTable, W: Taker, L: Ledger>(
     ensures failed { OnErr result (Rose (W.faults taker.old) (W.faults taker.new)) }
 {
     let mut steps: Steps<L> = Steps::new(blank);
-    tell(exec, 0, What::Start, taker, &mut steps)?;
+    let mut entry = entry_at(exec, 0, What::Start, &mut steps);
+    tell(exec, &entry, taker)?;
     let mut next = 0;
     while is_on_the_way(exec.now(), arrivals, slots, place, next) {
         let time = exec.now();
@@ -265,7 +268,8 @@ fn go_to<T: SpareTable, W: Taker, L: Ledger>(
             next += 1;
         }
         let what = happen(exec, due, &mut steps);
-        tell(exec, time, what, taker, &mut steps)?;
+        renew(&mut entry, exec, time, what, &mut steps);
+        tell(exec, &entry, taker)?;
     }
     Ok(())
 }
@@ -343,33 +347,68 @@ fn pass<T: SpareTable, L: Ledger>(exec: &mut Exec<T>, steps: &mut Steps<L>) -> W
     }
 }
 
-/// Hands over what happened at this time, with the first spans after it. This call also tells that
-/// the executive has a plan.
+/// The entry becomes that of what happened at this time. The first spans are read only where they
+/// may have changed.
 #[inline(always)]
-fn tell<T: SpareTable, W: Taker, L: Ledger>(
+fn renew<T: SpareTable, L: Ledger>(
+    entry: &mut Entry,
     exec: &Exec<T>,
     time: u64,
     what: What,
-    taker: &mut W,
     steps: &mut Steps<L>,
-) -> Result<(), Failed>
-    requires named { what_in_set exec.now.plan.tasks what ≡ true }
+)
+    ensures what { entry.new.what ≡ what }
+    ensures read { may_change_spans what ≡ true → (h : History) → StandsFor exec.now h
+        → entry.new ≡ shown_entry exec.now.plan.tasks exec.now.plan.cycle time what h }
+    ensures kept { may_change_spans what ≡ false
+        → entry.new ≡ record entry.old { time = time; what = what } }
+{
+    entry.time = time;
+    entry.what = what;
+    if may_change_spans(what) {
+        read_spans(exec, &mut entry.shown, steps);
+    }
+}
+
+/// Whether what happened may have changed the spans: soft work and what was refused changes none.
+#[inline(always)]
+fn may_change_spans(what: What) -> bool
+    ensures { result ≡ may_change_spans what }
+{
+    match what {
+        What::Soft(_, _, _)
+        | What::Firm(_, _, _, Firm::Late | Firm::Far | Firm::NoRoom(_))
+        | What::Sporadic(_, _, Spo::Soon(_))
+        | What::Done(_, _, Done::NotRunning)
+        | What::Withdraw(_, _, Gone::NoJob) => false,
+        _ => true,
+    }
+}
+
+/// The first spans are read to where they stay. The spans are read by this call alone, so that they
+/// are written there at once: a copy costs a third of the reading.
+#[inline(never)]
+fn read_spans<T: SpareTable, L: Ledger>(exec: &Exec<T>, shown: &mut Shown, steps: &mut Steps<L>)
+    ensures { Shows exec.now shown.new }
+{
+    *shown = exec.shown(steps);
+}
+
+/// Hands over an entry. This call also tells that the executive has a plan.
+#[inline(always)]
+fn tell<T: SpareTable, W: Taker>(exec: &Exec<T>, entry: &Entry, taker: &mut W) -> Result<(), Failed>
+    requires named { what_in_set exec.now.plan.tasks entry.now.what ≡ true }
     ensures plan { IsPlan exec.now.plan }
-    ensures took { OnOk result ((h : History) → StandsFor exec.now h → W.took
+    ensures took { OnOk result (W.took exec.now.plan.tasks taker.old taker.new (entry.now ∷ [])) }
+    ensures broke { OnErr result (W.broke
         exec.now.plan.tasks
         taker.old
         taker.new
-        (shown_entry exec.now.plan.tasks exec.now.plan.cycle time what h ∷ [])) }
-    ensures broke { OnErr result ((h : History) → StandsFor exec.now h → W.broke
-        exec.now.plan.tasks
-        taker.old
-        taker.new
-        (shown_entry exec.now.plan.tasks exec.now.plan.cycle time what h ∷ [])) }
+        (entry.now ∷ [])) }
     ensures counted { W.faults taker.old ≤ W.faults taker.new }
     ensures failed { OnErr result (Rose (W.faults taker.old) (W.faults taker.new)) }
 {
-    let entry = entry_at(exec, time, what, steps);
-    taker.take(&entry, exec.tasks())
+    taker.take(entry, exec.tasks())
 }
 
 /// The entry of what happened at this time, with the first spans after it.
@@ -384,11 +423,13 @@ fn entry_at<T: SpareTable, L: Ledger>(
     ensures entry { (h : History) → StandsFor exec.now h
         → result ≡ shown_entry exec.now.plan.tasks exec.now.plan.cycle time what h }
 {
-    Entry {
+    let mut entry = Entry {
         time,
         what,
-        shown: exec.shown(steps),
-    }
+        shown: Shown::new(0),
+    };
+    read_spans(exec, &mut entry.shown, steps);
+    entry
 }
 
 /// Hands over the end.

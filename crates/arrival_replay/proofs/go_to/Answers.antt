@@ -1,18 +1,21 @@
 -- What is told is to be told, so the replay goes on, ends, or breaks off.
-use Rattle.std.proofs.Common.{◌≡◌, ◌≤◌, true, false, [], ◌∷◌, length, drop, sym, subst, ◌∙◌, arith}
+use Rattle.std.proofs.Common.{◌≡◌, ◌≤◌, true, false, [], ◌∷◌, ◌++◌, length, drop, sym, ap, subst, ◌∙◌, arith}
+use Rattle.std.specs.Prelude.{slice_get}
 use Rattle.slot_core.specs.declared.events.What.TheVariants.{Start}
+use Rattle.slot_core.specs.Keeping.Plans.{PlanParts}
+use Rattle.slot_core.specs.Runs.Arrivals.{what_in_set}
 use Rattle.slot_core.specs.Runs.Traces.{shown_entry, trace, history_of}
 use Rattle.slot_io.proofs.SinkParts.{OnErr-anyhow}
-use Rattle.arrival_replay.proofs.UnderWay.{IsToTell, entry-to_tell, IsUnderWay-told, BreaksOff-told, IsToTell-start}
+use Rattle.arrival_replay.proofs.UnderWay.{IsToTell, TookShown, TookShown-told, entry-renewed, IsUnderWay-told, BreaksOff-told, IsToTell-start}
 use Rattle.arrival_replay.proofs.Happenings.{place_after, place_after-some, place_after-none, place_after-within, on_the_way-early, on_the_way-told, left-falls, IsToTell-happened, time-happened, last-happened, due-may_come, due-later, happened-named}
-use Rattle.arrival_replay.proofs.Stops.{IsStopped-off}
+use Rattle.arrival_replay.proofs.Stops.{IsStopped-off, IsStopped-taken}
 use Rattle.arrival_replay.specs.Replays.{is_on_the_way}
 use Rattle.arrival_replay.proofs.go_to.Given.{Over}
 use Rattle.arrival_replay.proofs.go_to.Goals as goal
 use Rattle.arrival_replay.proofs.go_to.Goals.{After-happen-what, then-is_some, else-is_some}
 
-pub loop-exec-init : goal.loop-exec-init
-loop-exec-init g c =
+pub loop-entry-init : goal.loop-entry-init
+loop-entry-init g c =
     let exec = c.args.exec.now in
     let set = exec.plan.tasks in
     let first = c.args.taker.now in
@@ -21,11 +24,11 @@ loop-exec-init g c =
     let arrivals = c.args.arrivals.now in
     let took = g.W.Taker.took set first in
     let t = IsToTell-start (took first) exec n arrivals c.tell.ensures.plan.cycle c.requires.started c.requires.fitting (g.met.W.Taker.took_none set first) in
-    let e = shown_entry set exec.plan.cycle 0 Start (Start ∷ history_of t.told) in
-    let one = c.in_ok-tell.ensures.took (Start ∷ history_of t.told) t.stands in
-    let all = g.met.W.Taker.took_more set first first next t.told (e ∷ []) t.took one in
+    let e = c.entry_at-entry.result in
+    let same = c.entry_at-entry.ensures.entry (Start ∷ history_of t.told) t.stands in
+    let all = g.met.W.Taker.took_more set first first next t.told (e ∷ []) t.took c.in_ok-tell.ensures.took in
     record {
-      under_way = IsUnderWay-told (took first) (took next) exec.plan exec (trace set arrivals n) n arrivals 0 Start t all;
+      under_way = IsUnderWay-told (took first) (TookShown (took next) exec.plan e.shown) exec.plan exec (trace set arrivals n) n arrivals 0 Start t (TookShown-told (took next) exec.plan t.told 0 Start e same all);
       last = c.requires.started.last;
       within = omega arith;
       counted = c.in_ok-tell.ensures.counted;
@@ -41,58 +44,59 @@ returns-in_err-tell-clause-broke g c =
     let arrivals = c.args.arrivals.now in
     let took = g.W.Taker.took set first in
     let t = IsToTell-start (took first) exec n arrivals c.tell.ensures.plan.cycle c.requires.started c.requires.fitting (g.met.W.Taker.took_none set first) in
-    let e = shown_entry set exec.plan.cycle 0 Start (Start ∷ history_of t.told) in
-    let one = c.in_err-tell.ensures.broke (Start ∷ history_of t.told) t.stands in
-    let all = g.met.W.Taker.broke_later set first first next t.told (e ∷ []) t.took one in
-    OnErr-anyhow c.from_residual.result (BreaksOff-told (took first) (g.W.Taker.broke set first next) exec.plan exec (trace set arrivals n) n arrivals 0 Start t all)
+    let broke = g.W.Taker.broke set first next in
+    let own = shown_entry set exec.plan.cycle 0 Start (Start ∷ history_of t.told) in
+    let e = c.entry_at-entry.result in
+    let same = c.entry_at-entry.ensures.entry (Start ∷ history_of t.told) t.stands in
+    let all = g.met.W.Taker.broke_later set first first next t.told (e ∷ []) t.took c.in_err-tell.ensures.broke in
+    OnErr-anyhow c.from_residual.result (BreaksOff-told (took first) broke exec.plan exec (trace set arrivals n) n arrivals 0 Start t (subst (λ e. broke (t.told ++ e ∷ [])) {y = own} same all))
 
 pub happen-what-requires-clause-later : goal.happen-what-requires-clause-later
 happen-what-requires-clause-later g c =
     let exec = c.args.exec.now in
     let set = exec.plan.tasks in
-    let l = c.loop-exec in
-    due-later (g.W.Taker.took set c.args.taker.now l.taker) exec.plan l.exec (trace set c.args.arrivals.now c.args.slots) c.args.slots l.next c.now-time.result c.args.arrivals.now l.invariant.under_way c.now-time.ensures.time c.requires.fitting l.invariant.last c.due_arrival-due.result c.due_arrival-due.ensures
+    let l = c.loop-entry in
+    due-later (TookShown (g.W.Taker.took set c.args.taker.now l.taker) exec.plan l.entry.shown) exec.plan l.exec (trace set c.args.arrivals.now c.args.slots) c.args.slots l.next c.now-time.result c.args.arrivals.now l.invariant.under_way c.now-time.ensures.time c.requires.fitting l.invariant.last c.due_arrival-due.result c.due_arrival-due.ensures
 
 pub happen-what-requires-clause-may_come : goal.happen-what-requires-clause-may_come
 happen-what-requires-clause-may_come g c =
     let exec = c.args.exec.now in
     let set = exec.plan.tasks in
-    let l = c.loop-exec in
-    due-may_come (g.W.Taker.took set c.args.taker.now l.taker) exec.plan l.exec (trace set c.args.arrivals.now c.args.slots) c.args.slots l.next c.now-time.result c.args.arrivals.now l.invariant.under_way c.now-time.ensures.time c.requires.fitting l.invariant.last c.due_arrival-due.result c.due_arrival-due.ensures
+    let l = c.loop-entry in
+    due-may_come (TookShown (g.W.Taker.took set c.args.taker.now l.taker) exec.plan l.entry.shown) exec.plan l.exec (trace set c.args.arrivals.now c.args.slots) c.args.slots l.next c.now-time.result c.args.arrivals.now l.invariant.under_way c.now-time.ensures.time c.requires.fitting l.invariant.last c.due_arrival-due.result c.due_arrival-due.ensures
 
-pub tell-requires-in-loop-exec : goal.tell-requires-in-loop-exec
-tell-requires-in-loop-exec g c =
+pub tell-requires-in-loop-entry : goal.tell-requires-in-loop-entry
+tell-requires-in-loop-entry g c =
     let exec = c.args.exec.now in
     let set = exec.plan.tasks in
-    let l = c.loop-exec in
-    record {
-      named = happened-named (g.W.Taker.took set c.args.taker.now l.taker) exec.plan l.exec (trace set c.args.arrivals.now c.args.slots) c.args.slots l.next c.now-time.result c.args.arrivals.now l.invariant.under_way c.now-time.ensures.time c.requires.fitting l.invariant.last c.happen-what.new.exec c.due_arrival-due.result c.happen-what.result c.now.ensures.kept.plan c.due_arrival-due.ensures c.happen-what.ensures.does;
-    }
+    let l = c.loop-entry in
+    let named = happened-named (TookShown (g.W.Taker.took set c.args.taker.now l.taker) exec.plan l.entry.shown) exec.plan l.exec (trace set c.args.arrivals.now c.args.slots) c.args.slots l.next c.now-time.result c.args.arrivals.now l.invariant.under_way c.now-time.ensures.time c.requires.fitting l.invariant.last c.happen-what.new.exec c.due_arrival-due.result c.happen-what.result c.now.ensures.kept.plan c.due_arrival-due.ensures c.happen-what.ensures.does in
+    record { named = ap (what_in_set c.happen-what.new.exec.plan.tasks) c.renew.ensures.what ∙ named }
 
 -- the next place is that after what is due
-next_place : (g : Over) (c : After-happen-what g) → place_after c.due_arrival-due.result c.loop-exec.next ≡ c.if-is_some.next
+next_place : (g : Over) (c : After-happen-what g) → place_after c.due_arrival-due.result c.loop-entry.next ≡ c.if-is_some.next
 next_place g c =
     let due = c.due_arrival-due.result in
-    let next = c.loop-exec.next in
+    let next = c.loop-entry.next in
     elim c.if-is_some.branch [
       | then-is_some w ↦ place_after-some due next (sym c.is_some.ensures ∙ w.if-is_some.true) ∙ sym w.next-is
       | else-is_some w ↦ place_after-none due next (sym c.is_some.ensures ∙ w.if-is_some.false) ∙ sym w.next-is
     ]
 
 -- the replay was on the way
-on_the_way : (g : Over) (c : After-happen-what g) → is_on_the_way c.args.arrivals.now c.args.slots c.args.place c.loop-exec.next c.now-time.result ≡ true
+on_the_way : (g : Over) (c : After-happen-what g) → is_on_the_way c.args.arrivals.now c.args.slots c.args.place c.loop-entry.next c.now-time.result ≡ true
 on_the_way g c =
     let same : c.now.result ≡ c.now-time.result = omega (arith, c.now.ensures.time, c.now-time.ensures.time) in
-    on_the_way-told c.args.arrivals.now c.args.slots c.args.place c.loop-exec.next c.now.result c.now-time.result true c.is_on_the_way.result c.is_on_the_way.ensures c.loop-exec-test.true same
+    on_the_way-told c.args.arrivals.now c.args.slots c.args.place c.loop-entry.next c.now.result c.now-time.result true c.is_on_the_way.result c.is_on_the_way.ensures c.loop-entry-test.true same
 
 -- what happened is to be told
-happened : (g : Over) (c : After-happen-what g) → IsToTell (g.W.Taker.took c.args.exec.now.plan.tasks c.args.taker.now c.loop-exec.taker) c.args.exec.now.plan c.happen-what.new.exec (trace c.args.exec.now.plan.tasks c.args.arrivals.now c.args.slots) c.args.slots (drop c.if-is_some.next c.args.arrivals.now) c.now-time.result c.happen-what.result
+happened : (g : Over) (c : After-happen-what g) → IsToTell (TookShown (g.W.Taker.took c.args.exec.now.plan.tasks c.args.taker.now c.loop-entry.taker) c.args.exec.now.plan c.loop-entry.entry.shown) c.args.exec.now.plan c.happen-what.new.exec (trace c.args.exec.now.plan.tasks c.args.arrivals.now c.args.slots) c.args.slots (drop c.if-is_some.next c.args.arrivals.now) c.now-time.result c.happen-what.result
 happened g c =
     let plan = c.args.exec.now.plan in
-    let l = c.loop-exec in
+    let l = c.loop-entry in
     let n = c.args.slots in
     let arrivals = c.args.arrivals.now in
-    let took = g.W.Taker.took plan.tasks c.args.taker.now l.taker in
+    let took = TookShown (g.W.Taker.took plan.tasks c.args.taker.now l.taker) plan l.entry.shown in
     let whole = trace plan.tasks arrivals n in
     let after = c.happen-what.new.exec in
     let time = c.now-time.result in
@@ -104,25 +108,25 @@ happened g c =
 last_happened : (g : Over) (c : After-happen-what g) → c.happen-what.new.exec.last_row ≡ c.if-is_some.next
 last_happened g c =
     let exec = c.args.exec.now in
-    let l = c.loop-exec in
-    let took = g.W.Taker.took exec.plan.tasks c.args.taker.now l.taker in
+    let l = c.loop-entry in
+    let took = TookShown (g.W.Taker.took exec.plan.tasks c.args.taker.now l.taker) exec.plan l.entry.shown in
     last-happened took exec.plan l.exec (trace exec.plan.tasks c.args.arrivals.now c.args.slots) c.args.slots l.next c.now-time.result c.args.arrivals.now l.invariant.under_way c.now-time.ensures.time c.requires.fitting l.invariant.last c.happen-what.new.exec c.due_arrival-due.result c.happen-what.result c.due_arrival-due.ensures c.happen-what.ensures.does
     ∙ next_place g c
 
 -- it does not pass the place
 next_within : (g : Over) (c : After-happen-what g) → c.if-is_some.next ≤ c.args.place
 next_within g c =
-    let within = place_after-within c.args.arrivals.now c.args.slots c.args.place c.loop-exec.next c.now-time.result c.due_arrival-due.result c.due_arrival-due.ensures (on_the_way g c) c.loop-exec.invariant.within in
+    let within = place_after-within c.args.arrivals.now c.args.slots c.args.place c.loop-entry.next c.now-time.result c.due_arrival-due.result c.due_arrival-due.ensures (on_the_way g c) c.loop-entry.invariant.within in
     subst (λ k. k ≤ c.args.place) (next_place g c) within
 
-pub loop-exec-smaller : goal.loop-exec-smaller
-loop-exec-smaller g c =
-    let o = (goal.at.loop-exec-smaller g c).After-happen-what in
+pub loop-entry-smaller : goal.loop-entry-smaller
+loop-entry-smaller g c =
+    let o = (goal.at.loop-entry-smaller g c).After-happen-what in
     let plan = c.args.exec.now.plan in
-    let l = c.loop-exec in
+    let l = c.loop-entry in
     let n = c.args.slots in
     let arrivals = c.args.arrivals.now in
-    let took = g.W.Taker.took plan.tasks c.args.taker.now l.taker in
+    let took = TookShown (g.W.Taker.took plan.tasks c.args.taker.now l.taker) plan l.entry.shown in
     let whole = trace plan.tasks arrivals n in
     let due = c.due_arrival-due.result in
     let time = c.now-time.result in
@@ -131,30 +135,31 @@ loop-exec-smaller g c =
     let falls = left-falls due n l.next time (length arrivals) within (on_the_way-early arrivals n c.args.place l.next time (on_the_way g o)) in
     omega (arith, falls, later, next_place g o, c.now-time.ensures.time)
 
-pub loop-exec-preserved : goal.loop-exec-preserved
-loop-exec-preserved g c =
-    let o = (goal.at.loop-exec-preserved g c).After-happen-what in
+pub loop-entry-preserved : goal.loop-entry-preserved
+loop-entry-preserved g c =
+    let o = (goal.at.loop-entry-preserved g c).After-happen-what in
     let plan = c.args.exec.now.plan in
     let n = c.args.slots in
     let arrivals = c.args.arrivals.now in
-    let after = c.happen-what.new.exec in
     let what = c.happen-what.result in
     let time = c.now-time.result in
     let first = c.args.taker.now in
-    let last = c.loop-exec.taker in
-    let next = c.tell-in-loop-exec.new.taker in
+    let last = c.loop-entry.taker in
+    let next = c.tell-in-loop-entry.new.taker in
     let took = g.W.Taker.took plan.tasks first in
     let rest = drop c.if-is_some.next arrivals in
-    let whole = trace plan.tasks arrivals n in
     let t = happened g o in
-    let e = shown_entry plan.tasks plan.cycle time what (what ∷ history_of t.told) in
-    let one = entry-to_tell (λ set es. g.W.Taker.took set last next es) (took last) plan after whole n rest time what t c.in_ok-tell-2.ensures.took in
-    let all = g.met.W.Taker.took_more plan.tasks first last next t.told (e ∷ []) t.took one in
+    let whole = trace plan.tasks arrivals n in
+    let after = c.happen-what.new.exec in
+    let e = c.renew.new.entry in
+    let same = entry-renewed (took last) plan after whole n rest time what c.loop-entry.entry e t c.renew.ensures.read c.renew.ensures.kept in
+    let one = subst (λ (p : PlanParts). g.W.Taker.took p.tasks last next (e ∷ [])) t.plan_is c.in_ok-tell-2.ensures.took in
+    let all = g.met.W.Taker.took_more plan.tasks first last next t.told (e ∷ []) t.took.0 one in
     record {
-      under_way = IsUnderWay-told (took last) (took next) plan after whole n rest time what t all;
+      under_way = IsUnderWay-told (TookShown (took last) plan c.loop-entry.entry.shown) (TookShown (took next) plan e.shown) plan after whole n rest time what t (TookShown-told (took next) plan t.told time what e same all);
       last = last_happened g o;
       within = next_within g o;
-      counted = omega (arith, c.loop-exec.invariant.counted, c.in_ok-tell-2.ensures.counted);
+      counted = omega (arith, c.loop-entry.invariant.counted, c.in_ok-tell-2.ensures.counted);
     }
 
 pub returns-in_err-tell-2-clause-broke : goal.returns-in_err-tell-2-clause-broke
@@ -163,34 +168,39 @@ returns-in_err-tell-2-clause-broke g c =
     let plan = c.args.exec.now.plan in
     let n = c.args.slots in
     let arrivals = c.args.arrivals.now in
-    let after = c.happen-what.new.exec in
     let what = c.happen-what.result in
     let time = c.now-time.result in
     let first = c.args.taker.now in
-    let last = c.loop-exec.taker in
-    let next = c.tell-in-loop-exec.new.taker in
+    let last = c.loop-entry.taker in
+    let next = c.tell-in-loop-entry.new.taker in
     let took = g.W.Taker.took plan.tasks first in
+    let broke = g.W.Taker.broke plan.tasks first next in
     let rest = drop c.if-is_some.next arrivals in
-    let whole = trace plan.tasks arrivals n in
     let t = happened g o in
-    let e = shown_entry plan.tasks plan.cycle time what (what ∷ history_of t.told) in
-    let one = entry-to_tell (λ set es. g.W.Taker.broke set last next es) (took last) plan after whole n rest time what t c.in_err-tell-2.ensures.broke in
-    let all = g.met.W.Taker.broke_later plan.tasks first last next t.told (e ∷ []) t.took one in
-    OnErr-anyhow c.from_residual-in_err-tell-2.result (BreaksOff-told (took last) (g.W.Taker.broke plan.tasks first next) plan after whole n rest time what t all)
+    let whole = trace plan.tasks arrivals n in
+    let after = c.happen-what.new.exec in
+    let e = c.renew.new.entry in
+    let same = entry-renewed (took last) plan after whole n rest time what c.loop-entry.entry e t c.renew.ensures.read c.renew.ensures.kept in
+    let one = subst (λ (p : PlanParts). g.W.Taker.broke p.tasks last next (e ∷ [])) t.plan_is c.in_err-tell-2.ensures.broke in
+    let all = g.met.W.Taker.broke_later plan.tasks first last next t.told (e ∷ []) t.took.0 one in
+    OnErr-anyhow c.from_residual-in_err-tell-2.result (BreaksOff-told (TookShown (took last) plan c.loop-entry.entry.shown) broke plan after whole n rest time what t (subst (λ e. broke (t.told ++ e ∷ [])) same all))
 
 -- off the way it stops at its place
 pub returns-clause-stopped : goal.returns-clause-stopped
 returns-clause-stopped g c =
     let exec = c.args.exec.now in
-    let l = c.loop-exec in
-    let took = g.W.Taker.took exec.plan.tasks c.args.taker.now l.taker in
-    let off = on_the_way-told c.args.arrivals.now c.args.slots c.args.place l.next c.now.result l.exec.scene.time false c.is_on_the_way.result c.is_on_the_way.ensures c.loop-exec-test.false c.now.ensures.time in
-    (IsStopped-off took exec.plan l.exec (trace exec.plan.tasks c.args.arrivals.now c.args.slots) c.args.slots c.args.place l.next c.args.arrivals.now l.invariant.under_way l.invariant.last l.invariant.within c.requires.place off).0
+    let l = c.loop-entry in
+    let own = g.W.Taker.took exec.plan.tasks c.args.taker.now l.taker in
+    let took = TookShown own exec.plan l.entry.shown in
+    let whole = trace exec.plan.tasks c.args.arrivals.now c.args.slots in
+    let off = on_the_way-told c.args.arrivals.now c.args.slots c.args.place l.next c.now.result l.exec.scene.time false c.is_on_the_way.result c.is_on_the_way.ensures c.loop-entry-test.false c.now.ensures.time in
+    let stopped = IsStopped-off took exec.plan l.exec whole c.args.slots c.args.place l.next c.args.arrivals.now l.invariant.under_way l.invariant.last l.invariant.within c.requires.place off in
+    IsStopped-taken own exec.plan l.entry.shown l.exec whole c.args.slots (slice_get c.args.arrivals.now c.args.place) stopped.0
 
 pub returns-clause-last_row : goal.returns-clause-last_row
 returns-clause-last_row g c =
     let exec = c.args.exec.now in
-    let l = c.loop-exec in
-    let took = g.W.Taker.took exec.plan.tasks c.args.taker.now l.taker in
-    let off = on_the_way-told c.args.arrivals.now c.args.slots c.args.place l.next c.now.result l.exec.scene.time false c.is_on_the_way.result c.is_on_the_way.ensures c.loop-exec-test.false c.now.ensures.time in
+    let l = c.loop-entry in
+    let took = TookShown (g.W.Taker.took exec.plan.tasks c.args.taker.now l.taker) exec.plan l.entry.shown in
+    let off = on_the_way-told c.args.arrivals.now c.args.slots c.args.place l.next c.now.result l.exec.scene.time false c.is_on_the_way.result c.is_on_the_way.ensures c.loop-entry-test.false c.now.ensures.time in
     (IsStopped-off took exec.plan l.exec (trace exec.plan.tasks c.args.arrivals.now c.args.slots) c.args.slots c.args.place l.next c.args.arrivals.now l.invariant.under_way l.invariant.last l.invariant.within c.requires.place off).1

@@ -1,14 +1,18 @@
 use Rattle.std.proofs.Common.{◌≡◌, ◌≤◌, ◌+◌, ◌-◌, length, drop}
 use Rattle.slot_core.specs.Runs.Traces.{trace}
-use Rattle.arrival_replay.proofs.UnderWay.{IsUnderWay}
+use Rattle.arrival_replay.proofs.UnderWay.{IsUnderWay, TookShown}
 use Rattle.arrival_replay.proofs.go_to.Given as goal
 
--- the replay is under way with the arrivals from the next one on, and those before it were answered
-abbrev pub invariant-loop-exec : goal.invariant-loop-exec
-invariant-loop-exec g l = record {
+-- the replay is under way with the arrivals from the next one on, those before it were answered, and
+-- the spans of the last entry are those after it
+abbrev pub invariant-loop-entry : goal.invariant-loop-entry
+invariant-loop-entry g l = record {
   under_way :
       IsUnderWay
+      (TookShown
       (g.W.Taker.took l.fn.exec.plan.tasks l.fn.taker l.taker)
+      l.fn.exec.plan
+      l.entry.shown)
       l.fn.exec.plan
       l.exec
       (trace l.fn.exec.plan.tasks l.arrivals l.slots)
@@ -20,5 +24,5 @@ invariant-loop-exec g l = record {
 }
 
 -- the slots and the arrivals that are left
-abbrev pub decreases-loop-exec : goal.decreases-loop-exec
-decreases-loop-exec g l = (l.slots - l.exec.scene.time) + (length l.arrivals - l.next)
+abbrev pub decreases-loop-entry : goal.decreases-loop-entry
+decreases-loop-entry g l = (l.slots - l.exec.scene.time) + (length l.arrivals - l.next)
