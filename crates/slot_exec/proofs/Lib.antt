@@ -1,4 +1,5 @@
 pub mod ChangedRooms
+pub mod CycleEnds
 pub mod EarlyEnds
 pub mod EventParts
 pub mod FirmOffers

@@ -22,7 +22,7 @@ use Rattle.scene_steps.proofs.Same.SameScenes.{same-trans}
 use Rattle.scene_steps.proofs.Slots.NewParts.{jobs-next_cycle, next_cycle-stays, parts-same}
 use Rattle.scene_steps.proofs.Slots.Places.{next_cycle-near, next_cycle-free, next_jobs-apart}
 use Rattle.scene_steps.proofs.Slots.Turns.{Does-slot, spans-after_slot}
-use Rattle.scene_steps.proofs.Spans.Executives.{last_end-early, pass_slot-before_end}
+use Rattle.scene_steps.proofs.Spans.Executives.{last_end-early, last_end-spans, pass_slot-before_end}
 use Rattle.slot_exec.proofs.SceneOffers.{soft_fits-scene}
 use Rattle.slot_exec.specs.declared.runs.Chosen.{Chosen}
 use Rattle.slot_exec.specs.Changes.{chosen_of, HasPlaces, jobs_after, jobs_at, MayRun, ran_of, soft_after, spans_after, spans_at}
@@ -83,6 +83,12 @@ module _ {plan : PlanParts} {time : ℕ} {rows : List Span} {jobs : List Job} (r
       next_slot-before_end =
           let before = pass_slot-before_end exec (after_slot (choice_of exec) jobs) (horizon plan.cycle time) is.plan is.stands in
           subst (λ t. t + 1 < last_end t run_rows) (sym time_is) (omega (arith, before, ap (last_end time) (rows_are ∙ spans-run)))
+
+      -- which is the horizon
+      pub run_end-horizon : last_end run_time run_rows ≡ horizon plan.cycle run_time
+      run_end-horizon =
+          let own = last_end-spans exec (after_slot (choice_of exec) jobs) (horizon plan.cycle time) is.plan is.stands in
+          subst (λ t. last_end t run_rows ≡ horizon plan.cycle t) (sym time_is) (ap (last_end time) (rows_are ∙ spans-run) ∙ own)
 
       -- the jobs are those that the choice leaves, up to order
       run_jobs-same : HaveSameItems run_jobs (after_slot (choice_of exec) jobs)

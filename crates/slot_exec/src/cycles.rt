@@ -1,9 +1,10 @@
 //! The cycles of a plan: how they begin and how they go on.
 
-ghost use Rattle.std.specs.Prelude.{◌≡◌, ◌+◌, ◌/◌, ◌%◌, ◌≤◌, ◌<◌, ◌^◌, ◌++◌, ◌==◌, length, IfOk};
+ghost use Rattle.std.specs.Prelude.{◌≡◌, ◌+◌, ◌-◌, ◌/◌, ◌%◌, ◌≤◌, ◌<◌, ◌^◌, ◌++◌, ◌==◌, length, IfOk};
 ghost use Rattle.slot_core.specs.declared.TheConstants.{CYCLES_LIMIT};
 ghost use Rattle.slot_core.specs.Keeping.Kept.{AreApart};
 ghost use Rattle.slot_core.specs.Runs.Matches.{HaveSameItems};
+ghost use Rattle.slot_core.specs.Runs.Scenes.{horizon};
 ghost use Rattle.spare_capacity.specs.Recurrence.{last_end};
 ghost use Rattle.interval_row.specs.Tables.{spans_of_pairs};
 ghost use Rattle.slot_exec.specs.Changes.{jobs_at, jobs_in_cycle, spans_at, HasPlaces};
@@ -55,6 +56,8 @@ pub(crate) fn pass<T: SpareTable, L: Ledger>(
 ) -> bool
     requires goes_on { T.time table.old + 1
         < last_end (T.time table.old) (spans_of_pairs (T.pairs table.old)) }
+    requires horizon { last_end (T.time table.old) (spans_of_pairs (T.pairs table.old))
+        ≡ horizon plan.now.cycle (T.time table.old) }
     requires early { T.time table.old < 2 ^ 32 }
     requires places { (T.time table.old + 1) % plan.now.cycle ≡ 0
         → HasPlaces
@@ -78,7 +81,7 @@ pub(crate) fn pass<T: SpareTable, L: Ledger>(
     table.pass_slot(steps);
     let time = table.time();
     let cycle = u64::from(plan.cycle());
-    if time % cycle == 0 {
+    if ends_cycle(time, table.last_end(), cycle) {
         table.append_cycle(plan.spans(), steps);
         insert_cycle(queue, plan, time / cycle + 2, steps);
         queue.come(time, steps);
@@ -86,6 +89,19 @@ pub(crate) fn pass<T: SpareTable, L: Ledger>(
     }
     queue.come(time, steps);
     false
+}
+
+/// Whether a cycle ends at this time, where the spans end with the third cycle from the one of the
+/// slot before on. Two cycles are left then. It divides nothing, as most slots end no cycle.
+#[inline(always)]
+fn ends_cycle(time: u64, end: u64, cycle: u64) -> bool
+    requires later { 1 ≤ time }
+    requires some { 1 ≤ cycle }
+    requires few { cycle < 2 ^ 32 }
+    requires end { end ≡ horizon cycle (time - 1) }
+    ensures { result ≡ (time % cycle == 0) }
+{
+    end - time == 2 * cycle
 }
 
 /// The plan's jobs of this cycle come in, in the order in which they start.

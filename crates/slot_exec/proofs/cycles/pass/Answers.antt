@@ -1,8 +1,9 @@
 -- The spans of one more cycle find places, and its jobs have keys of their own.
-use Rattle.std.proofs.Common.{◌≡◌, ℕ, ◌+◌, ◌/◌, ◌%◌, ◌==◌, ◌≤◌, Bool, true, false, cond, List, [], ◌∷◌, length, ap, refl, subst, sym, ◌∙◌, arith}
+use Rattle.std.proofs.Common.{◌≡◌, ℕ, ◌+◌, ◌-◌, ◌/◌, ◌%◌, ◌==◌, ◌≤◌, Bool, true, false, cond, List, [], ◌∷◌, length, ap, refl, subst, sym, ◌∙◌, eqb-true, arith}
 use Rattle.slot_core.specs.declared.jobs.Job.{Job}
 use Rattle.slot_core.specs.declared.jobs.Span.{Span}
 use Rattle.slot_core.specs.Keeping.Plans.{PlanParts}
+use Rattle.slot_core.specs.Runs.Scenes.{horizon}
 use Rattle.slot_facts.proofs.Plans.Items.{plan_cycle-bounds}
 use Rattle.spare_capacity.specs.Recurrence.{last_end}
 use Rattle.interval_row.specs.Changes.{after_pass}
@@ -31,9 +32,35 @@ places_at plan rows queue limit capacity t time cycle later whole turns places =
     let number : time / cycle ≡ (t + 1) / plan.cycle = λ i. later i / whole i in
     subst (λ n. HasPlaces plan (n + 2) rows queue limit capacity) (sym number) (places (sym rest ∙ turns))
 
-pub nonzero_rem-time : goal.nonzero_rem-time
-nonzero_rem-time g c =
-    omega (arith, c.from-cycle.ensures, c.cycle.ensures.cycle, plan_cycle-bounds c.args.plan.now c.cycle.ensures.plan)
+-- the spans end with the third cycle from the one of the slot before on
+pub ends_cycle-requires : goal.ends_cycle-requires
+ends_cycle-requires g c =
+    let rows = spans_of_pairs (g.T.SpareTable.pairs c.args.table.now) in
+    let pairs = g.T.SpareTable.pairs c.pass_slot.new.self in
+    let before = g.T.SpareTable.time c.args.table.now in
+    let time = g.T.SpareTable.time c.pass_slot.new.self in
+    let own : c.args.plan.now.cycle ≡ c.from-cycle.result = sym (c.from-cycle.ensures ∙ c.cycle.ensures.cycle) in
+    let earlier : before ≡ c.time-time.result - 1 = omega (arith, c.time-time.ensures, c.pass_slot.ensures.time) in
+    let some : 1 ≤ length (after_pass rows) = omega (
+      arith,
+      c.pass_slot.ensures.table.some,
+      length-spans_of_pairs pairs,
+      ap length c.pass_slot.ensures.spans,
+      length-filled (after_pass rows),
+    ) in
+    let ends : c.last_end.result ≡ last_end before rows = omega (
+      arith,
+      c.last_end.ensures,
+      ap (last_end time) c.pass_slot.ensures.spans,
+      last_end-filled time (after_pass rows),
+      last_end-after_pass time before rows some,
+    ) in
+    record {
+      later = omega (arith, c.time-time.ensures, c.pass_slot.ensures.time);
+      some = omega (arith, own, plan_cycle-bounds c.args.plan.now c.cycle.ensures.plan);
+      few = omega (arith, c.from-cycle.ensures, c.cycle.type_inv);
+      end = ends ∙ c.requires.horizon ∙ (λ i. horizon (own i) (earlier i));
+    }
 
 pub append_cycle-requires-clause-plan : goal.append_cycle-requires-clause-plan
 append_cycle-requires-clause-plan g c =
@@ -43,7 +70,7 @@ pub append_cycle-requires-clause-free : goal.append_cycle-requires-clause-free
 append_cycle-requires-clause-free g c =
     let rows = spans_of_pairs (g.T.SpareTable.pairs c.args.table.now) in
     let pairs = g.T.SpareTable.pairs c.pass_slot.new.self in
-    let places = places_at c.args.plan.now rows c.args.queue.now.jobs (g.T.SpareTable.limit c.args.table.now) c.args.queue.now.capacity (g.T.SpareTable.time c.args.table.now) c.time-time.result c.from-cycle.result (c.time-time.ensures ∙ c.pass_slot.ensures.time) (c.from-cycle.ensures ∙ c.cycle.ensures.cycle) c.if-time-cycle-eq0.true c.requires.places in
+    let places = places_at c.args.plan.now rows c.args.queue.now.jobs (g.T.SpareTable.limit c.args.table.now) c.args.queue.now.capacity (g.T.SpareTable.time c.args.table.now) c.time-time.result c.from-cycle.result (c.time-time.ensures ∙ c.pass_slot.ensures.time) (c.from-cycle.ensures ∙ c.cycle.ensures.cycle) (eqb-true _ 0 (sym c.ends_cycle.ensures ∙ c.if-ends_cycle.true)) c.requires.places in
     omega (
       arith,
       places.spans,
@@ -60,7 +87,7 @@ append_cycle-requires-clause-near g c =
     let rows = spans_of_pairs (g.T.SpareTable.pairs c.args.table.now) in
     let pairs = g.T.SpareTable.pairs c.pass_slot.new.self in
     let time = g.T.SpareTable.time c.pass_slot.new.self in
-    let places = places_at c.args.plan.now rows c.args.queue.now.jobs (g.T.SpareTable.limit c.args.table.now) c.args.queue.now.capacity (g.T.SpareTable.time c.args.table.now) c.time-time.result c.from-cycle.result (c.time-time.ensures ∙ c.pass_slot.ensures.time) (c.from-cycle.ensures ∙ c.cycle.ensures.cycle) c.if-time-cycle-eq0.true c.requires.places in
+    let places = places_at c.args.plan.now rows c.args.queue.now.jobs (g.T.SpareTable.limit c.args.table.now) c.args.queue.now.capacity (g.T.SpareTable.time c.args.table.now) c.time-time.result c.from-cycle.result (c.time-time.ensures ∙ c.pass_slot.ensures.time) (c.from-cycle.ensures ∙ c.cycle.ensures.cycle) (eqb-true _ 0 (sym c.ends_cycle.ensures ∙ c.if-ends_cycle.true)) c.requires.places in
     let some : 1 ≤ length (after_pass rows) = omega (
       arith,
       c.pass_slot.ensures.table.some,
@@ -79,4 +106,4 @@ append_cycle-requires-clause-near g c =
 
 pub insert_cycle-requires-clause-apart : goal.insert_cycle-requires-clause-apart
 insert_cycle-requires-clause-apart g c =
-    (places_at c.args.plan.now (spans_of_pairs (g.T.SpareTable.pairs c.args.table.now)) c.args.queue.now.jobs (g.T.SpareTable.limit c.args.table.now) c.args.queue.now.capacity (g.T.SpareTable.time c.args.table.now) c.time-time.result c.from-cycle.result (c.time-time.ensures ∙ c.pass_slot.ensures.time) (c.from-cycle.ensures ∙ c.cycle.ensures.cycle) c.if-time-cycle-eq0.true c.requires.places).apart
+    (places_at c.args.plan.now (spans_of_pairs (g.T.SpareTable.pairs c.args.table.now)) c.args.queue.now.jobs (g.T.SpareTable.limit c.args.table.now) c.args.queue.now.capacity (g.T.SpareTable.time c.args.table.now) c.time-time.result c.from-cycle.result (c.time-time.ensures ∙ c.pass_slot.ensures.time) (c.from-cycle.ensures ∙ c.cycle.ensures.cycle) (eqb-true _ 0 (sym c.ends_cycle.ensures ∙ c.if-ends_cycle.true)) c.requires.places).apart

@@ -2,7 +2,7 @@
 use Rattle.std.proofs.Common.{◌<◌, ◌^◌, ap, ◌∙◌, arith}
 use Rattle.slot_core.specs.Keeping.Executives.{Executive}
 use Rattle.slot_exec.proofs.SlotChoice.{choice_of}
-use Rattle.slot_exec.proofs.SlotParts.{Does-seen, end-near, HasPlaces-parts, IsExecutive-parts, MayRun-parts, next_slot-before_end, ran_of-parts, RemembersSpans-parts, slot-before_end}
+use Rattle.slot_exec.proofs.SlotParts.{Does-seen, end-near, HasPlaces-parts, IsExecutive-parts, MayRun-parts, next_slot-before_end, ran_of-parts, RemembersSpans-parts, run_end-horizon, slot-before_end}
 use Rattle.slot_exec.proofs.exec.Exec.slot.Goals as goal
 
 pub choose-chosen-requires : goal.choose-chosen-requires
@@ -21,6 +21,11 @@ pub pass-turned-requires-clause-goes_on : goal.pass-turned-requires-clause-goes_
 pass-turned-requires-clause-goes_on g c =
     let ran = c.run.ensures in
     next_slot-before_end c.self.inside.reserve c.self.invariant c.choose-chosen.result.0 c.choose-chosen.ensures.chosen _ _ c.run.new.queue.jobs ran.time ran.spans ran.jobs
+
+pub pass-turned-requires-clause-horizon : goal.pass-turned-requires-clause-horizon
+pass-turned-requires-clause-horizon g c =
+    let ran = c.run.ensures in
+    run_end-horizon c.self.inside.reserve c.self.invariant c.choose-chosen.result.0 c.choose-chosen.ensures.chosen _ _ c.run.new.queue.jobs ran.time ran.spans ran.jobs
 
 pub pass-turned-requires-clause-places : goal.pass-turned-requires-clause-places
 pass-turned-requires-clause-places g c =
