@@ -34,7 +34,8 @@ abbrev pub is_on_the_way : List Arrival → ℕ → ℕ → ℕ → ℕ → Bool
 is_on_the_way arrivals slots place next time =
     nat_lt time slots && (nat_lt next place || is_none (due_arrival arrivals next time))
 
--- what happened may have changed the spans: soft work and what was refused changes none
+-- what happened may have changed the spans: soft work, a refused arrival, and an early end or a
+-- withdrawal that found no job change none
 abbrev pub may_change_spans : What → Bool
 may_change_spans (Soft row slots answer) = false
 may_change_spans (Firm row slots within Accepted) = true

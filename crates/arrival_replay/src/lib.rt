@@ -370,7 +370,8 @@ fn renew<T: SpareTable, L: Ledger>(
     }
 }
 
-/// Whether what happened may have changed the spans: soft work and what was refused changes none.
+/// Whether what happened may have changed the spans: soft work, a refused arrival, and an early end
+/// or a withdrawal that found no job change none.
 #[inline(always)]
 fn may_change_spans(what: What) -> bool
     ensures { result ≡ may_change_spans what }
@@ -385,8 +386,8 @@ fn may_change_spans(what: What) -> bool
     }
 }
 
-/// The first spans are read to where they stay. The spans are read by this call alone, so that they
-/// are written there at once: a copy costs a third of the reading.
+/// Reads the first spans into this place. It does nothing else, so that they are written there at
+/// once: a copy costs a third of the reading.
 #[inline(never)]
 fn read_spans<T: SpareTable, L: Ledger>(exec: &Exec<T>, shown: &mut Shown, steps: &mut Steps<L>)
     ensures { Shows exec.now shown.new }

@@ -143,8 +143,8 @@ fn raised_lift(lift: Lift, more: i64) -> Lift
     }
 }
 
-/// A bound that is so much higher, or the end of its type where it leaves that. Mostly it is below 0
-/// before and after, and the sum.
+/// A bound so much higher, or the end of its type's range where it leaves that. Mostly both are below
+/// 0: then it is the sum.
 fn raised_bound(high: i64, more: i64) -> i64
     ensures { result ≡ saturate_signed w64 (high +ℤ more) }
 {

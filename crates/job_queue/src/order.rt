@@ -14,8 +14,8 @@ pub(crate) fn is_same_key(a: Key, b: Key) -> bool
     a == b
 }
 
-/// Whether the job has this key. Offline keys are told apart first: a walk through jobs for a key
-/// of another kind then tests little of each.
+/// Whether the job has this key. Of two offline keys the instances are compared first, as they are
+/// mostly apart.
 pub(crate) fn has_key(job: &Job, key: Key) -> bool
     ensures { result ≡ same_key job.now.key key }
 {

@@ -413,7 +413,7 @@ fn starts_last(listed: &VecDeque<Job>, job: &Job) -> bool
 
 /// The job that earliest deadline first runs in slot `now`, where it is told by two looks: the last
 /// of those that have come may start, none stands beside, and no listed job may start. One step a
-/// job looked at, and none where it is not told.
+/// job looked at, and none where it is not told: the walk that comes then counts them.
 #[inline(always)]
 fn first_come<'a, L: Ledger>(
     beside: &[Job],
@@ -444,7 +444,7 @@ fn first_come<'a, L: Ledger>(
     Some(first)
 }
 
-/// Whether none of these, which stand in order of start, may start by `now`.
+/// True only where none of these, which stand in order of start, may start by `now`.
 #[inline(always)]
 fn start_later(listed: &VecDeque<Job>, now: u64) -> bool
     requires { IsNonDecreasingBy (λ j. j.est) listed.now.items }

@@ -22,8 +22,8 @@ const SPARE_COUNT: usize = 256;
 /// Most bytes of the text of an extent that is kept: two numbers of six digits each.
 const EXTENT_SIZE: usize = 16;
 
-/// Most bytes of the text of a spare capacity that is kept. It makes a cell of 32 bytes, as the size
-/// of an extent makes one of 64: so the address of a cell takes a shift.
+/// Most bytes of the text of a spare capacity that is kept. It makes a cell of 32 bytes, as
+/// `EXTENT_SIZE` makes one of 64, so that the address of a cell takes a shift.
 const SPARE_SIZE: usize = 16;
 
 /// Most bytes of the start of a span, after a space.
@@ -291,8 +291,8 @@ impl SpareCell {
     }
 }
 
-/// The texts of extents, each in the cell of its end: so they stay where time passes and spans go.
-/// And those of spare capacities, each in a cell of its last bits.
+/// The texts of extents, each in the cell of the last byte of its end: so they stay where time passes
+/// and spans go. And those of spare capacities, each in the cell of its own last byte.
 #[derive(Drop)]
 pub(crate) struct Cells {
     extents: [ExtentCell; EXTENT_COUNT],
@@ -308,8 +308,8 @@ impl Cells {
         }
     }
 
-    /// Appends the span, and keeps its texts. It stands apart, so that the loop over spans whose texts
-    /// are kept stays small.
+    /// Appends the span, and keeps its texts. It stands apart, so that the loop over spans whose
+    /// texts are kept stays small.
     #[inline(never)]
     fn push_anew(&mut self, line: &mut Line, span: &Span)
         requires { length line.old + SPAN_LIMIT ≤ LINE_LIMIT }

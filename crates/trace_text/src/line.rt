@@ -125,7 +125,7 @@ impl Line {
         }
     }
 
-    /// Appends the number below 1000.
+    /// Appends the number, which is below 1000.
     #[inline(always)]
     fn push_short(&mut self, n: u64)
         requires below { n < 1000 }
