@@ -334,7 +334,7 @@ fn passed_before<T: SpareTable>(
 ///
 /// Inside a span nothing more is due, so only starts, and the last end, are tried. Where all times
 /// of a page leave room, its spans are passed.
-#[inline(always)]
+#[inline(never)]
 fn first_short_start<T: SpareTable, L: Ledger>(
     table: &T,
     ask: Ask,

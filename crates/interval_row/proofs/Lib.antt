@@ -8,10 +8,13 @@ pub mod Marked
 pub mod Laps
 pub mod LiftedSpans
 pub mod PageWalks
+pub mod PassedPages
 pub mod Places
 pub mod Rooms
+pub mod RunWalks
 pub mod Skips
 pub mod Spots
 pub mod Stores
 pub mod WalkBack
+pub mod WalkPages
 pub mod Works

@@ -1,6 +1,6 @@
 -- What a store over a shelf has, after a change of the shelf's spans or lifts.
-use Rattle.std.proofs.Common.{◌≡◌, ℕ, zero, suc, ℤ, pos, negsuc, ◌+ℤ◌, ◌-ℤ◌, ◌≤ℤ◌, List, [], ◌∷◌, ◌++◌, cond, eqb, get_or, set, insert, take, drop, slice_get, Some, inl, inr, refl, sym, ap, subst, ◌∙◌, arith, FitsSigned, w64}
-use Rattle.std.specs.Int.{int_max, int_wrap, saturate_signed}
+use Rattle.std.proofs.Common.{◌≡◌, ℕ, zero, suc, ℤ, ◌+ℤ◌, ◌-ℤ◌, ◌≤ℤ◌, List, [], ◌∷◌, ◌++◌, cond, eqb, get_or, set, insert, take, drop, slice_get, Some, inl, inr, refl, sym, ap, subst, ◌∙◌, arith, FitsSigned, w64}
+use Rattle.std.specs.Int.{int_max, int_wrap}
 use Rattle.std.specs.Prelude.{option_map}
 use Rattle.std.proofs.lemmas.Bool.{cases_eq, eq-eqb, ne_eqb}
 use Rattle.std.proofs.lemmas.Int.{ints, clamps, int_wrap_fits, int_wrap-add_left, int_wrap-add_right}
@@ -12,7 +12,8 @@ use Rattle.slot_core.specs.declared.jobs.Span.{Span}
 use Rattle.spare_capacity.specs.Lending.{raised}
 use Rattle.node_chain.specs.declared.marks.Lift.{Lift}
 use Rattle.node_chain.specs.Laps.{blank_lift}
-use Rattle.interval_row.specs.Lifts.{lift_of, lifted, lifted_by, lifted_in, lowered_by, raised_at, raised_in, raised_lift, AreAtMost, AreCovered, MayRaise}
+use Rattle.node_chain.specs.Passes.{lift_raised}
+use Rattle.interval_row.specs.Lifts.{lift_of, lifted, lifted_by, lifted_in, lowered_by, raised_at, raised_in, AreAtMost, AreCovered, MayRaise}
 use Rattle.interval_row.specs.Marks.{count_at, mark_index}
 use Rattle.interval_row.proofs.Stores.{map-insert}
 
@@ -21,13 +22,6 @@ pub lifted-lowered : (add : ℤ) (s : Span) → FitsSigned w64 s.spare → lifte
 lifted-lowered add s fits =
     let back : s.spare -ℤ add +ℤ add ≡ s.spare = omega (arith, ints) in
     ap (λ (x : ℤ). record s { spare = x }) (int_wrap-add_left w64 (s.spare -ℤ add) add ∙ ap (int_wrap w64) back ∙ int_wrap_fits w64 s.spare fits)
-
--- so is what is kept of a span once it has so much more capacity
-pub lifted-raised-by : (add more : ℤ) (s : Span) → lifted_by more s ≡ lowered_by add (raised more (lifted_by add s))
-lifted-raised-by add more s =
-    let back : s.spare +ℤ add +ℤ (more -ℤ add) ≡ s.spare +ℤ more = omega (arith, ints) in
-    let out : int_wrap w64 (s.spare +ℤ add) +ℤ (more -ℤ add) ≡ int_wrap w64 (s.spare +ℤ add) +ℤ more -ℤ add = omega (arith, ints) in
-    ap (λ (x : ℤ). record s { spare = x }) (ap (int_wrap w64) (sym back) ∙ sym (int_wrap-add_left w64 (s.spare +ℤ add) (more -ℤ add)) ∙ ap (int_wrap w64) out)
 
 -- lifts, where the one at an index was this and has become another
 module _ (lifts : List Lift) (j : ℕ) (was : Lift) (at : slice_get lifts j ≡ Some was) where
@@ -97,15 +91,10 @@ AreAtMost-none j high (s ∷ ss) none =
     let sum = sum_by-cons (λ (t : Span). cond (eqb (mark_index t.end) j) 1 0) s ss in
     ((λ e. let one = ap {B = ℕ} (λ b. cond b 1 0) (eq-eqb (mark_index s.end) j e) in omega (arith, ints, none, sum, one)), AreAtMost-none j high ss (omega (arith, none, sum)))
 
--- a number that fits is below the nearest one that fits where it is below the number itself
-saturated : (x z : ℤ) → FitsSigned w64 x → x ≤ℤ z → x ≤ℤ saturate_signed w64 z
-saturated x (pos n) fits l = omega (arith, ints, fits, l)
-saturated x (negsuc n) fits l = omega (arith, ints, fits, l)
-
 -- where a lift adds so much more
 module _ (lifts : List Lift) (j : ℕ) (was : Lift) (at : slice_get lifts j ≡ Some was) (more : ℤ) where
   abbrev lift : Lift
-  lift = raised_lift more was
+  lift = lift_raised more was
 
   abbrev new : List Lift
   new = set lifts j lift
@@ -137,26 +126,25 @@ module _ (lifts : List Lift) (j : ℕ) (was : Lift) (at : slice_get lifts j ≡ 
   lifted-raised (s ∷ ss) h =
       ap (λ (t : Span). t ∷ lifted new ss) (raised-at s h.0) ∙ ap (λ ts. raised_in j more (lifted_in lifts s) ∷ ts) (lifted-raised ss h.1)
 
-  -- and are below what the lift says
-  pub AreCovered-raised : (spans : List Span) → MayRaise j more (lifted lifts spans) → AreCovered lifts spans → AreCovered new spans
-  AreCovered-raised [] may h = tt
-  AreCovered-raised (s ∷ ss) may h =
+  -- and are below what the lift says, where that can be so much more
+  pub AreCovered-raised : FitsSigned w64 (was.high +ℤ more) → (spans : List Span) → MayRaise j more (lifted lifts spans) → AreCovered lifts spans → AreCovered new spans
+  AreCovered-raised fits [] may h = tt
+  AreCovered-raised fits (s ∷ ss) may h =
       let here : (lifted_in new s).spare ≤ℤ (lift_of new s).high =
       elim (cases_eq (mark_index s.end) j) [
         | inl e ↦
-            let there = h.0 in let old = ap (λ (l : Lift). l.high) (lift_of-there lifts j was at s e) in
-            let more_below : ((lifted_in lifts s).spare +ℤ more) ≤ℤ (was.high +ℤ more) = omega (arith, ints, there, old) in
-            let top = saturated ((lifted_in lifts s).spare +ℤ more) (was.high +ℤ more) (may.0 e) more_below in
-            let now = ap (λ (l : Lift). l.high) (lift_of-set lifts j was at lift s e) in
+            let there = h.0 in
+            let old = ap (λ (l : Lift). l.high) (lift_of-there lifts j was at s e) in
+            let now = ap (λ (l : Lift). l.high) (lift_of-set lifts j was at lift s e) ∙ int_wrap_fits w64 (was.high +ℤ more) fits in
             let spare = ap (λ (t : Span). t.spare) (raised-there s e (may.0 e)) in
-            omega (arith, ints, top, now, spare)
+            omega (arith, ints, there, old, now, spare)
         | inr e ↦
             let there = h.0 in
             let same = ap (λ (l : Lift). l.high) (lift_of-other lifts j was at lift s e) in
             let spare = ap (λ (l : Lift). (lifted_by l.add s).spare) (lift_of-other lifts j was at lift s e) in
             omega (arith, ints, there, same, spare)
       ] in
-      (here, AreCovered-raised ss may.1 h.1)
+      (here, AreCovered-raised fits ss may.1 h.1)
 
 -- where the lift of a span is put above its capacity
 module _ (lifts : List Lift) (s : Span) (was : Lift) (at : slice_get lifts (mark_index s.end) ≡ Some was) where

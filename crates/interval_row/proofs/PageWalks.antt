@@ -4,10 +4,8 @@ use Rattle.std.specs.Prelude.{slice_get}
 use Rattle.std.specs.List.{AllByRecursion}
 use Rattle.std.proofs.lemmas.Bool.{cases_lt, eq-eqb, ne_eqb}
 use Rattle.std.proofs.lemmas.Int.{ints, clamps, by_lt_z}
-use Rattle.std.proofs.lemmas.Option.{get_or_from_slice_get, same_Some, slice_get_within}
-use Rattle.std.proofs.lemmas.List.{drop_more}
+use Rattle.std.proofs.lemmas.Option.{same_Some, slice_get_within}
 use Rattle.slot_core.specs.declared.jobs.Span.{Span}
-use Rattle.spare_capacity.proofs.Steps.{no_row}
 use Rattle.node_chain.specs.declared.marks.Mark.{Mark}
 use Rattle.spare_capacity.specs.Lending.{carry, raised, repaid}
 use Rattle.spare_capacity.specs.Recurrence.{filled, FollowOn, first_start, last_end}
@@ -16,7 +14,7 @@ use Rattle.interval_row.specs.Changes.{ends_before}
 use Rattle.interval_row.specs.Lifts.{raised_at, AreAtMost, MayRaise}
 use Rattle.interval_row.specs.Marks.{count_at, mark_index, AreTimed}
 use Rattle.interval_row.specs.Spans.{with_work_at, AreFilled}
-use Rattle.interval_row.specs.Walks.{after_walk, walked, AreInPages, PagesGiveNone, IsPageOf}
+use Rattle.interval_row.specs.Walks.{after_walk, walked, AreInPages, AreUpTo, PagesGiveNone, IsPageOf}
 use Rattle.interval_row.specs.declared.walk_back.Walk.{Walk}
 use Rattle.interval_row.proofs.CutTimes.{ends_before-ended, ends_before-later, ends_before-page, ends_before-start, AreInLap, IsInLap}
 use Rattle.interval_row.proofs.Cycles.{last_end-some}
@@ -68,15 +66,6 @@ meets start zero (r ∷ []) s t follow at next = absurd (omega (arith, slice_get
 meets start zero (r ∷ u ∷ us) s t follow at next =
     omega (arith, ap (λ (x : Span). x.end) (same_Some r s at), ap (λ (x : Span). x.start) (same_Some u t next), follow.4.0)
 meets start (suc k) (r ∷ rs) s t follow at next = meets r.end k rs s t follow.4 at next
-
--- lists that are the same from a place on are the same there
-first-drop : (k : ℕ) (rows : List Span) → slice_get (drop k rows) 0 ≡ slice_get rows k
-first-drop zero rows = refl
-first-drop (suc k) [] = refl
-first-drop (suc k) (s ∷ ss) = first-drop k ss
-
-pub slice_get-drop : (k : ℕ) (rows new : List Span) → drop k new ≡ drop k rows → slice_get new k ≡ slice_get rows k
-slice_get-drop k rows new same = sym (first-drop k new) ∙ ap (λ xs. slice_get xs 0) same ∙ first-drop k rows
 
 -- rows follow on where they do at the end of a walk
 pub follows-walk : (walk : Walk) (rows : List Span) → AreFilled (after_walk walk rows) → FollowOn (first_start rows) rows
@@ -198,10 +187,6 @@ MayRaise-walked time start page more (s ∷ ss) is follow all near =
           MayRaise-raised_at (page % 512) more (s ∷ ss) (rw low at near)
     ]
 
--- the capacities of a page are below a bound where those of its stretch of spans are
-abbrev pub AreUpTo : ℤ → List Span → Type 0
-AreUpTo high rows = AllByRecursion (λ (s : Span). s.spare ≤ℤ high) rows
-
 AreAtMost-later : (time start page : ℕ) (high : ℤ) (rows : List Span) → IsPageIn time page → FollowOn start rows → AllByRecursion (IsInLap time) rows → (page + 1) * 64 ≤ start → AreAtMost (page % 512) high rows
 AreAtMost-later time start page high [] is follow all after = tt
 AreAtMost-later time start page high (s ∷ ss) is follow all after =
@@ -258,20 +243,6 @@ AreAtPage-walk walk page rows marks pages is =
 pub ends_before-walks : (y : ℕ) (walk from : Walk) (new rows : List Span) → after_walk walk new ≡ after_walk from rows → ends_before y new ≡ ends_before y rows
 ends_before-walks y walk from new rows same =
     sym (ends_before-walked y walk.more walk.index new) ∙ ap (ends_before y) same ∙ ends_before-walked y from.more from.index rows
-
--- a bound on some spans is one on those with one more before them, where that is no higher
-up-more : (high more : ℤ) (rows : List Span) → high ≤ℤ more → AreUpTo high rows → AreUpTo more rows
-up-more high more [] l h = tt
-up-more high more (s ∷ ss) l h = (omega (arith, ints, l, h.0), up-more high more ss l h.1)
-
-pub AreUpTo-next : (high more : ℤ) (k n : ℕ) (span : Span) (old new : List Span) → slice_get new k ≡ Some span → drop (suc k) new ≡ drop (suc k) old → span.spare ≤ℤ more → high ≤ℤ more → AreUpTo high (take n (drop (suc k) old)) → AreUpTo more (take (suc n) (drop k new))
-AreUpTo-next high more k n span old new at same here l up =
-    let one : k + 1 ≡ suc k = omega arith in
-    let first : drop k new ≡ span ∷ drop (suc k) old =
-    (rw one at (drop_more new k no_row (slice_get_within new k span at)))
-    ∙ ap (λ s. s ∷ drop (suc k) new) (get_or_from_slice_get new k span no_row at)
-    ∙ ap (λ xs. span ∷ xs) same in
-    rw first (here, up-more high more (take n (drop (suc k) old)) l up)
 
 -- how many spans of a page there are, as its mark tells
 pub count_at-page : (page : ℕ) (walk : Walk) (rows : List Span) (marks : List Mark) (mark : Mark) → AreInPages (after_walk walk rows) marks → AreAtPage page rows → slice_get marks (page % 512) ≡ Some mark → ends_before ((page + 1) * 64) rows ≡ ends_before (page * 64) rows + mark.count

@@ -1,18 +1,17 @@
 -- The capacities of rows whose spans are set one by one.
-use Rattle.std.proofs.Common.{◌≡◌, ℕ, zero, suc, ◌+◌, ◌-◌, ◌*◌, ◌<◌, ◌≤◌, ◌^◌, ℤ, pos, neg_ℤ, ◌+ℤ◌, ◌-ℤ◌, ◌≤ℤ◌, List, [], ◌∷◌, ◌++◌, length, get_or, set, slice_get, Some, insert, take, take-suc, drop, add-one, ltb, cond, inl, inr, refl, sym, subst, ◌∙◌, ap, arith}
+use Rattle.std.proofs.Common.{◌≡◌, ℕ, zero, suc, ◌+◌, ◌-◌, ◌*◌, ◌<◌, ◌≤◌, ◌^◌, ℤ, pos, neg_ℤ, ◌-ℤ◌, ◌≤ℤ◌, List, [], ◌∷◌, ◌++◌, length, get_or, set, insert, take, drop, add-one, ltb, cond, inl, inr, refl, sym, ◌∙◌, ap, arith}
 use Rattle.std.proofs.lemmas.Bool.{lt-ltb, le-ltb, ne_eqb, cases_lt}
 use Rattle.std.proofs.lemmas.Int.{ints, clamps}
-use Rattle.std.proofs.lemmas.List.{append_assoc, drop-set, drop_more, set_split, take-append-drop, take-set}
+use Rattle.std.proofs.lemmas.List.{drop-set, drop_more, set_split, take-append-drop, take-set}
 use Rattle.std.proofs.lemmas.List.Sums.{sum_by-cons}
-use Rattle.std.proofs.lemmas.Option.{get_or_from_slice_get}
 use Rattle.slot_core.specs.declared.jobs.Span.{Span}
 use Rattle.spare_capacity.specs.Recurrence.{filled, first_spare, with_spare, FollowOn}
 use Rattle.spare_capacity.specs.PlanSpans.{AreProper}
-use Rattle.spare_capacity.specs.Lending.{moved, raised, repaid}
+use Rattle.spare_capacity.specs.Lending.{repaid}
 use Rattle.spare_capacity.specs.Refill.{IsShort}
 use Rattle.spare_capacity.proofs.Filled.{drop-filled}
 use Rattle.spare_capacity.proofs.Free.{rest-filled}
-use Rattle.spare_capacity.proofs.Lending.{filled-moved, moved-append, moved-zero}
+use Rattle.spare_capacity.proofs.Lending.{filled-moved, moved-zero}
 use Rattle.spare_capacity.proofs.Steps.{no_row, first_spare-low}
 use Rattle.interval_row.specs.Changes.{after_pass, ends_before, part_before, part_from}
 use Rattle.interval_row.specs.Spans.{place_of, with_work_at, AreFilled, HoldsInside}
@@ -149,14 +148,6 @@ walked-put rows k was span h l is put =
     let split : set rows k worked ≡ take k rows ++ worked ∷ rest = rw one (set_split rows k worked l) in
     cc (filled-moved (take k rows) (drop k rows) (worked ∷ rest) whole, set-with_work_at k span.work rows l, take-set rows k span, drop-set rows k span l)
 
--- the span before the place is raised, and the rows before that one follow
-pub walked-next : (rows : List Span) (k : ℕ) (more : ℤ) → k < length rows → walked (repaid (get_or rows k no_row).spare ((get_or rows k no_row).spare +ℤ more)) k (set rows k (raised more (get_or rows k no_row))) ≡ walked more (suc k) rows
-walked-next rows k more l =
-    let s = get_or rows k no_row in
-    let one : k + 1 ≡ suc k = omega arith in
-    let apart = append_assoc (moved (repaid s.spare (s.spare +ℤ more)) (take k rows)) (raised more s ∷ []) (drop (suc k) rows) in
-    cc (moved-append more (take k rows) (s ∷ []), take-suc rows k no_row l, take-set rows k (raised more s), drop-set rows k (raised more s) l)
-
 -- nothing is repaid
 pub walked-end : (rows : List Span) (k : ℕ) → walked (pos 0) k rows ≡ rows
 walked-end rows k = ap (λ xs. xs ++ drop k rows) (moved-zero (take k rows)) ∙ take-append-drop k rows
@@ -165,24 +156,6 @@ pub length-walked : (more : ℤ) (k : ℕ) (rows : List Span) → length (walked
 length-walked more zero rows = refl
 length-walked more (suc k) [] = refl
 length-walked more (suc k) (s ∷ ss) = ap suc (length-walked more k ss)
-
-walked-last : (more : ℤ) (k : ℕ) (rows : List Span) → k < length rows → get_or (walked more (suc k) rows) k no_row ≡ raised more (get_or rows k no_row)
-walked-last more k [] l = elim l [ ]
-walked-last more zero (s ∷ ss) l = refl
-walked-last more (suc k) (s ∷ ss) l = walked-last more k ss (omega arith)
-
--- where the walk is to pass it, since it becomes one of rows
-pub IsWithin-raised : (rows : List Span) (k : ℕ) (more : ℤ) → k < length rows → AreFilled (walked more (suc k) rows) → IsWithin ((get_or rows k no_row).spare +ℤ more)
-IsWithin-raised rows k more l are =
-    let near = IsWithin-spare _ _ k are.consecutive are.filled are.few (omega (arith, l, length-walked more (suc k) rows)) in
-    subst (λ (s : Span). IsWithin s.spare) (walked-last more k rows l) near
-
--- as it is read
-pub IsWithin-read : (rows : List Span) (n : ℕ) (more : ℤ) (s : Span) → 1 ≤ n → n ≤ length rows → AreFilled (walked more n rows) → slice_get rows (n - 1) ≡ Some s → IsWithin (s.spare +ℤ more)
-IsWithin-read rows n more s some l are at =
-    let next : n ≡ suc (n - 1) = omega (arith, some) in
-    let filled : AreFilled (walked more (suc (n - 1)) rows) = subst (λ k. AreFilled (walked more k rows)) next are in
-    subst (λ (t : Span). IsWithin (t.spare +ℤ more)) (get_or_from_slice_get rows (n - 1) s no_row at) (IsWithin-raised rows (n - 1) more (omega (arith, some, l)) filled)
 
 second_spare : (s : Span) (m : ℤ) (x : ℕ) → s ≡ with_spare s m → s.start < x → x < s.end → s.spare -ℤ pos (x - s.start) ≡ (with_spare (part_from x s) m).spare
 second_spare s m x e low high =

@@ -5,8 +5,9 @@ use Rattle.slot_core.specs.declared.jobs.Span.{Span}
 use Rattle.spare_capacity.specs.Recurrence.{filled}
 use Rattle.spare_capacity.specs.Examples.{span}
 use Rattle.node_chain.specs.Laps.{blank_lift}
+use Rattle.node_chain.specs.Passes.{lift_raised}
 use Rattle.interval_row.specs.Changes.{after_pass, cut, with_less, with_more}
-use Rattle.interval_row.specs.Lifts.{lifted, lifted_by, lowered_by, raised_at, raised_lift}
+use Rattle.interval_row.specs.Lifts.{lifted, lifted_by, lowered_by, raised_at}
 use Rattle.interval_row.specs.Marks.{first_mark, count_at, mark_index, passed, with_change, with_cut, with_end, without_end, works_at, works_in_page}
 use Rattle.interval_row.specs.Tables.{works}
 use Rattle.interval_row.specs.Walks.{after_walk}
@@ -109,7 +110,7 @@ pub far_raised : raised_at 0 (negsuc 0) far ≡ far_less
 far_raised = refl
 
 -- by the lift alone, where the shelf keeps the spans as they were
-pub far_lifted : lifted (raised_lift (negsuc 0) blank_lift ∷ []) far ≡ far_less
+pub far_lifted : lifted (lift_raised (negsuc 0) blank_lift ∷ []) far ≡ far_less
 unfolding int_wrap
 far_lifted = refl
 

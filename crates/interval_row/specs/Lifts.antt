@@ -1,11 +1,12 @@
 -- Capacities told and changed for all spans that end in the pages of a mark at once.
 use Rattle.std.specs.Prelude.{◌≡◌, ℕ, ℤ, ◌+ℤ◌, ◌-ℤ◌, ◌≤ℤ◌, ◌==◌, List, map, get_or, if◌then◌else◌, FitsSigned}
-use Rattle.std.specs.Int.{w64, int_wrap, saturate_signed}
+use Rattle.std.specs.Int.{w64, int_wrap}
 use Rattle.std.specs.List.{AllByRecursion}
 use Rattle.slot_core.specs.declared.jobs.Span.{Span}
 use Rattle.spare_capacity.specs.Lending.{raised}
 use Rattle.node_chain.specs.declared.marks.Lift.{Lift}
 use Rattle.node_chain.specs.Laps.{blank_lift}
+pub use Rattle.node_chain.specs.Raises.{lifted_by}
 use Rattle.interval_row.specs.Marks.{mark_index}
 
 -- no span that ends in the pages of the mark at an index has more capacity than this
@@ -30,11 +31,7 @@ raised_at j more spans = map (raised_in j more) spans
 abbrev pub lift_of : List Lift → Span → Lift
 lift_of lifts s = get_or lifts (mark_index s.end) blank_lift
 
--- a span by what a shelf has of it, where its lift adds so much: the sum wraps round
-abbrev pub lifted_by : ℤ → Span → Span
-lifted_by add s = record s { spare = int_wrap w64 (s.spare +ℤ add) }
-
--- and what a shelf has of a span
+-- what a shelf has of a span, where its lift adds so much: the difference wraps round
 abbrev pub lowered_by : ℤ → Span → Span
 lowered_by add s = record s { spare = int_wrap w64 (s.spare -ℤ add) }
 
@@ -50,10 +47,3 @@ lifted lifts spans = map (lifted_in lifts) spans
 abbrev pub AreCovered : List Lift → List Span → Type 0
 AreCovered lifts spans =
     AllByRecursion (λ (s : Span). (lifted_in lifts s).spare ≤ℤ (lift_of lifts s).high) spans
-
--- a lift under which spans have so much more capacity
-abbrev pub raised_lift : ℤ → Lift → Lift
-raised_lift more lift = record {
-  high = saturate_signed w64 (lift.high +ℤ more);
-  add = int_wrap w64 (lift.add +ℤ more);
-}

@@ -33,6 +33,10 @@ pub record IsPageOf (spans : List Span) (page : ℕ) : Type 0 where
   pub first : page_of (first_start spans) ≤ page
   pub last : page < page_of (first_start spans) + LAP
 
+-- no capacity of the spans is above this
+abbrev pub AreUpTo : ℤ → List Span → Type 0
+AreUpTo high spans = AllByRecursion (λ (s : Span). s.spare ≤ℤ high) spans
+
 -- a span has no capacity that it could give, before and after so much more
 abbrev pub GivesNone : ℤ → Span → Type 0
 GivesNone more s = (s.spare ≤ℤ pos 0) × ((s.spare +ℤ more) ≤ℤ pos 0)

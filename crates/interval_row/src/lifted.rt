@@ -1,15 +1,22 @@
 //! A shelf whose capacities are lifted by pages.
 
-ghost use Rattle.std.specs.Int.{w64, int_max, saturate_signed};
-ghost use Rattle.std.specs.Prelude.{◌≡◌, ◌+ℤ◌, Some, slice_get, slice_set};
-ghost use Rattle.interval_row.specs.Lifts.{lifted_by, lowered_by, raised_lift};
-ghost use Rattle.interval_row.specs.Marks.{mark_index};
+ghost use Rattle.std.specs.Int.{w64, int_max};
+ghost use Rattle.std.specs.Prelude.{◌≡◌, ◌+◌, ◌-◌, ◌*◌, ◌/◌, ◌%◌, ◌≤◌, ◌<◌, ◌^◌, ◌+ℤ◌, ◌≤ℤ◌, pos, drop, take, FitsSigned, IfSome, Some, slice_get, slice_set};
+ghost use Rattle.node_chain.specs.declared.marks.TheConstants.{LAP};
+ghost use Rattle.interval_row.specs.declared.marks.TheConstants.{PAGE};
+ghost use Rattle.spare_capacity.specs.Recurrence.{first_start, last_end};
+ghost use Rattle.interval_row.specs.Changes.{ends_before};
+ghost use Rattle.interval_row.specs.Lifts.{lifted, lifted_by, lowered_by, AreCovered};
+ghost use Rattle.interval_row.specs.Marks.{mark_index, page_of};
+ghost use Rattle.interval_row.specs.Spans.{AreFilled};
+ghost use Rattle.interval_row.specs.Walks.{after_walk, AreInPages, AreUpTo};
 
-use crate::marks::mark_index;
+use crate::marks::{PAGE, index_of_page, mark_index};
 use crate::shelf::Shelf;
 use crate::spans;
 use crate::store::Store;
-use node_chain::{Lift, Mark};
+use crate::walk_back::{Followed, PageWalk, Walk};
+use node_chain::{LAP, Lift, Mark, Pass, Raise};
 use slot_core::{Memory, Span, Steps};
 use std::alloc::Global;
 use std::marker::Model;
@@ -68,11 +75,14 @@ impl<S: Shelf> Store for Lifted<S> {
         self.shelf.set(index, lowered_by(lift, span), steps);
     }
 
-    fn raise_at<L: Ledger>(&mut self, index: u32, more: i64, steps: &mut Steps<L>) -> Span {
-        let kept = self.shelf.raise_at(index, more, steps);
-        let span = lifted_by(self.shelf.lift(mark_index(kept.end)), kept);
-        let _lift = cover(&mut self.shelf, spans::raised_by(span, more));
-        span
+    #[inline(never)]
+    fn follow_spans<L: Ledger>(&mut self, from: Walk, page: u64, steps: &mut Steps<L>) -> Followed {
+        let index = index_of_page(page);
+        let lift = self.shelf.lift(index);
+        let followed = follow_back(&mut self.shelf, lift, from, page, steps);
+        let high = lift.high.max(followed.high);
+        self.shelf.set_lift(index, Lift { high, ..lift });
+        followed
     }
 
     fn insert<L: Ledger>(&mut self, index: u32, span: Span, steps: &mut Steps<L>) {
@@ -98,19 +108,183 @@ impl<S: Shelf> Store for Lifted<S> {
         self.shelf.set_mark(index, mark);
     }
 
-    fn high(&self, index: u32) -> i64 {
-        self.shelf.lift(index).high
-    }
-
     fn set_high(&mut self, index: u32, high: i64) {
         let lift = self.shelf.lift(index);
         self.shelf.set_lift(index, Lift { high, ..lift });
     }
 
-    fn raise(&mut self, index: u32, more: i64) {
-        let lift = raised_lift(self.shelf.lift(index), more);
-        self.shelf.set_lift(index, lift);
+    fn pass_pages(&mut self, first_page: u64, from: PageWalk) -> PageWalk {
+        let mut last = from;
+        while first_page < last.page {
+            let low = first_page.max((last.page - 1) / u64::from(LAP) * u64::from(LAP));
+            last = pass_run(&mut self.shelf, low, last);
+            if low < last.page {
+                return last;
+            }
+        }
+        last
     }
+}
+
+/// Pages follow in a walk back as `pass_pages` says, down to the page `low`, which is of the same lap
+/// as the last of them: their lifts stand side by side.
+#[inline(always)]
+fn pass_run<S: Shelf>(shelf: &mut S, low: u64, from: PageWalk) -> PageWalk
+    requires pages { AreInPages
+        (after_walk from.walk (lifted (S.laps shelf.old).lifts (S.spans shelf.old)))
+        (S.laps shelf.old).marks }
+    requires covered { AreCovered (S.laps shelf.old).lifts (S.spans shelf.old) }
+    requires first { page_of (first_start
+        (after_walk from.walk (lifted (S.laps shelf.old).lifts (S.spans shelf.old)))) ≤ low }
+    requires end { from.page ≤ page_of (last_end 0
+        (after_walk from.walk (lifted (S.laps shelf.old).lifts (S.spans shelf.old)))) }
+    requires rising { low < from.page }
+    requires lap { low / LAP ≡ (from.page - 1) / LAP }
+    requires place { from.walk.index ≡ ends_before (from.page * PAGE) (S.spans shelf.old) }
+    ensures spans { after_walk result.walk (lifted (S.laps shelf.new).lifts (S.spans shelf.new))
+        ≡ after_walk from.walk (lifted (S.laps shelf.old).lifts (S.spans shelf.old)) }
+    ensures covered { AreCovered (S.laps shelf.new).lifts (S.spans shelf.new) }
+    ensures more { result.walk.more ≡ from.walk.more }
+    ensures place { result.walk.index ≡ ends_before (result.page * PAGE) (S.spans shelf.new) }
+    ensures first { low ≤ result.page }
+    ensures last { result.page ≤ from.page }
+    ensures before { result.walk.index ≤ from.walk.index }
+    ensures ended { low < result.page
+        → ends_before ((result.page - 1) * PAGE) (S.spans shelf.new) < result.walk.index }
+    ensures kept { S.spans shelf.new ≡ S.spans shelf.old }
+    ensures room { S.room shelf.new ≡ S.room shelf.old }
+    ensures marks { (S.laps shelf.new).marks ≡ (S.laps shelf.old).marks }
+{
+    let more = from.walk.more;
+    let pass = Pass {
+        more,
+        limit: most_to_pass_on(more),
+    };
+    let last = index_of_page(from.page - 1);
+    // There is a lift at this index, and so at each before it.
+    let _lift = shelf.lift(last);
+    let end = last + 1;
+    let passed = shelf.pass_back(index_of_page(low), end, pass);
+    PageWalk {
+        page: from.page - u64::from(end - passed.index),
+        walk: Walk {
+            index: from.walk.index - passed.count as u32,
+            more,
+        },
+    }
+}
+
+/// The most capacity that a span may have to pass on what it is repaid as a whole: then it has none
+/// to give, before and after.
+fn most_to_pass_on(more: i64) -> i64
+    ensures before { result ≤ℤ pos 0 }
+    ensures after { (result +ℤ more) ≤ℤ pos 0 }
+{
+    more.wrapping_neg().min(0)
+}
+
+/// The last spans that are yet to follow do: those that end in the page and are under this lift, up
+/// to the first that is repaid more or less than the span after it. Two steps each.
+#[inline(always)]
+fn follow_run<S: Shelf, L: Ledger>(
+    shelf: &mut S,
+    lift: Lift,
+    from: Walk,
+    page: u64,
+    steps: &mut Steps<L>,
+) -> Followed
+    requires lift { slice_get (S.laps shelf.old).lifts (page % LAP) ≡ Some lift }
+    requires near { page * PAGE < 2 ^ 64 }
+    requires some { ends_before (page * PAGE) (S.spans shelf.old) < from.index }
+    requires place { from.index ≤ ends_before ((page + 1) * PAGE) (S.spans shelf.old) }
+    requires filled { AreFilled
+        (after_walk from (lifted (S.laps shelf.old).lifts (S.spans shelf.old))) }
+    ensures spans { after_walk
+        result.walk
+        (lifted (S.laps shelf.old).lifts (S.spans shelf.new))
+        ≡ after_walk from (lifted (S.laps shelf.old).lifts (S.spans shelf.old)) }
+    ensures before { result.walk.index < from.index }
+    ensures reached { ends_before (page * PAGE) (S.spans shelf.old) ≤ result.walk.index }
+    ensures start { IfSome (slice_get (S.spans shelf.new) result.walk.index)
+        (λ s. s.start ≡ result.start) }
+    ensures high { AreUpTo result.high (take
+        (from.index - result.walk.index)
+        (drop result.walk.index (lifted (S.laps shelf.old).lifts (S.spans shelf.new)))) }
+    ensures front { take result.walk.index (S.spans shelf.new)
+        ≡ take result.walk.index (S.spans shelf.old) }
+    ensures rest { drop from.index (S.spans shelf.new) ≡ drop from.index (S.spans shelf.old) }
+    ensures laps { S.laps shelf.new ≡ S.laps shelf.old }
+    ensures room { S.room shelf.new ≡ S.room shelf.old }
+    ensures two_steps { steps.new + 2 * result.walk.index ≡ steps.old + 2 * from.index }
+{
+    let raise = Raise {
+        more: from.more,
+        border: page * PAGE,
+        limit: most_to_pass_on(from.more),
+        add: lift.add,
+    };
+    let raised = shelf.raise_back(from.index, raise, steps);
+    let more = spans::repaid(raised.spare, raised.spare + from.more);
+    Followed {
+        walk: Walk {
+            index: raised.index,
+            more,
+        },
+        start: raised.start,
+        high: raised.high,
+    }
+}
+
+/// The last spans that are yet to follow do: those that end in the page and are under this lift, as
+/// long as something is repaid. Two steps each.
+#[inline(always)]
+fn follow_back<S: Shelf, L: Ledger>(
+    shelf: &mut S,
+    lift: Lift,
+    from: Walk,
+    page: u64,
+    steps: &mut Steps<L>,
+) -> Followed
+    requires lift { slice_get (S.laps shelf.old).lifts (page % LAP) ≡ Some lift }
+    requires near { page * PAGE < 2 ^ 64 }
+    requires some { ends_before (page * PAGE) (S.spans shelf.old) < from.index }
+    requires place { from.index ≤ ends_before ((page + 1) * PAGE) (S.spans shelf.old) }
+    requires filled { AreFilled
+        (after_walk from (lifted (S.laps shelf.old).lifts (S.spans shelf.old))) }
+    requires more { from.more ≡ pos 0 → ⊥ }
+    ensures spans { after_walk
+        result.walk
+        (lifted (S.laps shelf.old).lifts (S.spans shelf.new))
+        ≡ after_walk from (lifted (S.laps shelf.old).lifts (S.spans shelf.old)) }
+    ensures place { (result.walk.more ≡ pos 0 → ⊥)
+        → result.walk.index ≡ ends_before (page * PAGE) (S.spans shelf.old) }
+    ensures before { result.walk.index < from.index }
+    ensures reached { ends_before (page * PAGE) (S.spans shelf.old) ≤ result.walk.index }
+    ensures start { IfSome (slice_get (S.spans shelf.new) result.walk.index)
+        (λ s. s.start ≡ result.start) }
+    ensures high { AreUpTo result.high (take
+        (from.index - result.walk.index)
+        (drop result.walk.index (lifted (S.laps shelf.old).lifts (S.spans shelf.new)))) }
+    ensures front { take result.walk.index (S.spans shelf.new)
+        ≡ take result.walk.index (S.spans shelf.old) }
+    ensures rest { drop from.index (S.spans shelf.new) ≡ drop from.index (S.spans shelf.old) }
+    ensures laps { S.laps shelf.new ≡ S.laps shelf.old }
+    ensures room { S.room shelf.new ≡ S.room shelf.old }
+    ensures two_steps { steps.new + 2 * result.walk.index ≡ steps.old + 2 * from.index }
+{
+    let mut last = Followed {
+        walk: from,
+        start: page * PAGE,
+        high: i64::MIN,
+    };
+    while 0 < last.walk.index && last.walk.more != 0 && page * PAGE <= last.start {
+        let next = follow_run(shelf, lift, last.walk, page, steps);
+        last = Followed {
+            high: last.high.max(next.high),
+            ..next
+        };
+    }
+    last
 }
 
 /// The span by what a shelf has of it, under its lift.
@@ -131,28 +305,6 @@ fn lowered_by(lift: Lift, span: Span) -> Span
         spare: span.spare.wrapping_sub(lift.add),
         ..span
     }
-}
-
-/// The lift under which spans have so much more capacity.
-fn raised_lift(lift: Lift, more: i64) -> Lift
-    ensures { result ≡ raised_lift more lift }
-{
-    Lift {
-        high: raised_bound(lift.high, more),
-        add: lift.add.wrapping_add(more),
-    }
-}
-
-/// A bound so much higher, or the end of its type's range where it leaves that. Mostly both are below
-/// 0: then it is the sum.
-fn raised_bound(high: i64, more: i64) -> i64
-    ensures { result ≡ saturate_signed w64 (high +ℤ more) }
-{
-    let sum = high.wrapping_add(more);
-    if high.max(sum) < 0 {
-        return sum;
-    }
-    high.saturating_add(more)
 }
 
 /// The `high` of the lift of a span is no longer below its capacity. Returns the lift as it was.

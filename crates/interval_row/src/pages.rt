@@ -23,15 +23,23 @@ pub struct Times {
     pub end: u64,
 }
 
-/// True only where no two pages of the spans share a mark. Where spans are as long as a page or
-/// longer on average it is false too, since marks would spare no reads.
-pub(crate) fn tell_pages(times: Times, count: u32) -> bool
+/// True only where no two pages of the spans share a mark.
+pub(crate) fn are_in_lap(times: Times) -> bool
     requires near { times.end ≤ 2 ^ 60 }
     requires rising { times.start ≤ times.end }
     ensures { IsTrue result → times.end < (times.start / PAGE + LAP) * PAGE }
 {
     times.end < (times.start / PAGE + u64::from(LAP)) * PAGE
-        && times.end - times.start < u64::from(count) * PAGE
+}
+
+/// The same. Where spans are as long as a page or longer on average it is false too, since marks
+/// would spare no reads.
+pub(crate) fn tell_pages(times: Times, count: u32) -> bool
+    requires near { times.end ≤ 2 ^ 60 }
+    requires rising { times.start ≤ times.end }
+    ensures { IsTrue result → times.end < (times.start / PAGE + LAP) * PAGE }
+{
+    are_in_lap(times) && times.end - times.start < u64::from(count) * PAGE
 }
 
 /// The first spans, and those of the next page.

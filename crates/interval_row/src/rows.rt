@@ -1,9 +1,8 @@
 //! Spans in a plain list.
 
 use crate::shelf::Shelf;
-use crate::spans;
 use node_chain::order::Order;
-use node_chain::{Lift, Mark, Marks};
+use node_chain::{Lift, Mark, Marks, Pass, Passed, Raise, Raised};
 use slot_core::{Memory, Span, Steps};
 use std::alloc::Global;
 use std::marker::Model;
@@ -61,10 +60,22 @@ impl Shelf for Rows {
         self.spans.set(index, span);
     }
 
-    fn raise_at<L: Ledger>(&mut self, index: u32, more: i64, steps: &mut Steps<L>) -> Span {
-        let span = self.at(index, steps);
-        self.set(index, spans::wrapped_by(span, more), steps);
-        span
+    fn raise_back<L: Ledger>(&mut self, from: u32, raise: Raise, steps: &mut Steps<L>) -> Raised {
+        let mut high = i64::MIN;
+        for index in (0..from).rev() {
+            let span = self.at(index, steps);
+            self.set(index, raise.raised(span), steps);
+            high = high.max(raise.spare_after(span));
+            if index == 0 || !raise.passes_on(span) {
+                return Raised {
+                    index,
+                    start: span.start,
+                    spare: raise.spare(span),
+                    high,
+                };
+            }
+        }
+        unreachable!()
     }
 
     fn insert<L: Ledger>(&mut self, index: u32, span: Span, steps: &mut Steps<L>) {
@@ -97,6 +108,10 @@ impl Shelf for Rows {
 
     fn lift(&self, index: u32) -> Lift {
         self.laps.lift_at(index)
+    }
+
+    fn pass_back(&mut self, first: u32, end: u32, pass: Pass) -> Passed {
+        self.laps.pass_back(first, end, pass)
     }
 
     fn set_lift(&mut self, index: u32, lift: Lift) {

@@ -1,13 +1,15 @@
 //! What spans and numbers lie in.
 
-ghost use Rattle.std.specs.Prelude.{◌≡◌, ℕ, ◌+◌, ◌≤◌, ◌<◌, ◌^◌, Bool, List, [], ◌∷◌, ◌++◌, drop, insert, length, Some, IfOk, slice_get, slice_set};
+ghost use Rattle.std.specs.Prelude.{◌≡◌, ℕ, ◌+◌, ◌-◌, ◌*◌, ◌≤◌, ◌<◌, ◌^◌, ◌≤ℤ◌, ◌<ℤ◌, Bool, true, false, List, [], ◌∷◌, ◌++◌, drop, insert, length, Some, IfOk, IfSome, slice_get, slice_set};
 ghost use Rattle.slot_core.specs.declared.jobs.Span.{Span};
 ghost use Rattle.node_chain.specs.Laps.{blank_laps, Laps};
 ghost use Rattle.node_chain.specs.declared.marks.TheConstants.{LAP};
-ghost use Rattle.interval_row.specs.Lifts.{lifted_by};
+ghost use Rattle.node_chain.specs.declared.marks.Lift.{Lift};
+ghost use Rattle.node_chain.specs.declared.marks.Mark.{Mark};
+ghost use Rattle.node_chain.specs.Passes.{lifts_passed, spans_ending};
+ghost use Rattle.node_chain.specs.Raises.{lifted_by, map_between, passes_on, spare_after, spare_under};
 
-use crate::spans;
-use node_chain::{Chain, Lift, Mark};
+use node_chain::{Chain, Lift, Mark, Pass, Passed, Raise, Raised};
 use slot_core::{Memory, Span, Steps};
 use std::alloc::Global;
 use std::sync::ledger::Ledger;
@@ -54,16 +56,25 @@ pub trait Shelf: Drop {
         ensures laps { laps self.new ≡ laps self.old }
         ensures one_step { steps.new ≡ steps.old + 1 };
 
-    /// Gives the span there so much more capacity, a sum that wraps round, and tells the span as it
-    /// was. Two steps.
-    fn raise_at<L: Ledger>(&mut self, index: u32, more: i64, steps: &mut Steps<L>) -> Span
-        requires { index < length (spans self.old) }
-        ensures span { slice_get (spans self.old) index ≡ Some result }
+    /// Gives the spans before an index, the last first, so much more capacity each, up to the first
+    /// that does not pass it on. Two steps each.
+    fn raise_back<L: Ledger>(&mut self, from: u32, raise: Raise, steps: &mut Steps<L>) -> Raised
+        requires some { 1 ≤ from }
+        requires within { from ≤ length (spans self.old) }
         ensures spans { spans self.new
-            ≡ slice_set (spans self.old) index (lifted_by more result) }
+            ≡ map_between (lifted_by raise.more) result.index from (spans self.old) }
+        ensures before { result.index < from }
+        ensures first { IfSome (slice_get (spans self.old) result.index)
+            (λ s. (result.start ≡ s.start) × (result.spare ≡ spare_under raise.add s)) }
+        ensures passed { (i : ℕ) → (s : Span) → result.index < i → i < from
+            → slice_get (spans self.old) i ≡ Some s → passes_on raise s ≡ true }
+        ensures ended { 1 ≤ result.index → IfSome (slice_get (spans self.old) result.index)
+            (λ s. passes_on raise s ≡ false) }
+        ensures high { (i : ℕ) → (s : Span) → result.index ≤ i → i < from
+            → slice_get (spans self.old) i ≡ Some s → spare_after raise s ≤ℤ result.high }
         ensures room { room self.new ≡ room self.old }
         ensures laps { laps self.new ≡ laps self.old }
-        ensures two_steps { steps.new ≡ steps.old + 2 };
+        ensures two_steps { steps.new ≡ steps.old + 2 * (from - result.index) };
 
     /// Puts a span in before the one there. Three steps.
     fn insert<L: Ledger>(&mut self, index: u32, span: Span, steps: &mut Steps<L>)
@@ -109,6 +120,29 @@ pub trait Shelf: Drop {
         requires { index < LAP }
         ensures { slice_get (laps self.now).lifts index ≡ Some result };
 
+    /// Passes the lifts before an index and from `first` on, the last first: those in whose pages a
+    /// span ends get so much more, up to the first of them that is above the limit.
+    fn pass_back(&mut self, first: u32, end: u32, pass: Pass) -> Passed
+        requires rising { first ≤ end }
+        requires within { end ≤ LAP }
+        ensures lifts { laps self.new ≡ record (laps self.old) {
+          lifts = lifts_passed
+              pass.more (laps self.old).marks result.index (end - result.index) (laps self.old).lifts;
+        } }
+        ensures first { first ≤ result.index }
+        ensures last { result.index ≤ end }
+        ensures passed { (i : ℕ) → (mark : Mark) → (lift : Lift) → result.index ≤ i → i < end
+            → slice_get (laps self.old).marks i ≡ Some mark → slice_get (laps self.old).lifts i ≡ Some lift
+            → 1 ≤ mark.count → lift.high ≤ℤ pass.limit }
+        ensures ended { first < result.index → IfSome (slice_get (laps self.old).marks (result.index - 1))
+            (λ mark. 1 ≤ mark.count) }
+        ensures above { first < result.index → IfSome (slice_get (laps self.old).lifts (result.index - 1))
+            (λ lift. pass.limit <ℤ lift.high) }
+        ensures count { result.count
+            ≡ spans_ending (laps self.old).marks result.index (end - result.index) }
+        ensures spans { spans self.new ≡ spans self.old }
+        ensures room { room self.new ≡ room self.old };
+
     /// Puts another lift at an index.
     fn set_lift(&mut self, index: u32, lift: Lift)
         requires { index < LAP }
@@ -147,11 +181,9 @@ impl Shelf for Chain {
         self.set(self.at(index), span, steps);
     }
 
-    fn raise_at<L: Ledger>(&mut self, index: u32, more: i64, steps: &mut Steps<L>) -> Span {
-        let id = self.at(index);
-        let span = self.get(id, steps);
-        self.set_spare(id, spans::wrapped_by(span, more).spare, steps);
-        span
+    #[inline(always)]
+    fn raise_back<L: Ledger>(&mut self, from: u32, raise: Raise, steps: &mut Steps<L>) -> Raised {
+        self.raise_back(from, raise, steps)
     }
 
     fn insert<L: Ledger>(&mut self, index: u32, span: Span, steps: &mut Steps<L>) {
@@ -176,6 +208,11 @@ impl Shelf for Chain {
 
     fn lift(&self, index: u32) -> Lift {
         self.lift(index)
+    }
+
+    #[inline(always)]
+    fn pass_back(&mut self, first: u32, end: u32, pass: Pass) -> Passed {
+        self.pass_back(first, end, pass)
     }
 
     fn set_lift(&mut self, index: u32, lift: Lift) {

@@ -6,7 +6,6 @@ ghost use Rattle.spare_capacity.specs.Lending.{raised, repaid};
 ghost use Rattle.spare_capacity.specs.Recurrence.{last_end, with_spare};
 ghost use Rattle.spare_capacity.specs.Refill.{IsShort};
 ghost use Rattle.interval_row.specs.Changes.{part_before, part_from, shifted};
-ghost use Rattle.interval_row.specs.Lifts.{lifted_by};
 ghost use Rattle.interval_row.specs.Works.{changed_by, spare_by, MayChangeBy};
 
 use slot_core::Span;
@@ -69,16 +68,6 @@ pub(crate) fn raised_by(span: Span, more: i64) -> Span
 {
     Span {
         spare: span.spare + more,
-        ..span
-    }
-}
-
-/// The span with so much more capacity, a sum that wraps round.
-pub(crate) fn wrapped_by(span: Span, more: i64) -> Span
-    ensures { result ≡ lifted_by more span }
-{
-    Span {
-        spare: span.spare.wrapping_add(more),
         ..span
     }
 }

@@ -1,14 +1,19 @@
 //! What a table sees of what it keeps its spans in.
 
-ghost use Rattle.std.specs.Int.{w64};
-ghost use Rattle.std.specs.Prelude.{◌≡◌, ℕ, ◌+◌, ◌≤◌, ◌<◌, ◌^◌, ◌+ℤ◌, Bool, FitsSigned, List, [], ◌∷◌, ◌++◌, drop, insert, length, replicate, Some, IfOk, slice_get, slice_set};
+ghost use Rattle.std.specs.Prelude.{◌≡◌, ℕ, ◌+◌, ◌-◌, ◌*◌, ◌≤◌, ◌<◌, ◌^◌, pos, Bool, List, [], ◌∷◌, ◌++◌, drop, insert, length, replicate, take, Some, IfOk, IfSome, slice_get, slice_set};
 ghost use Rattle.slot_core.specs.declared.jobs.Span.{Span};
-ghost use Rattle.spare_capacity.specs.Lending.{raised};
+ghost use Rattle.spare_capacity.specs.Recurrence.{first_start, last_end};
 ghost use Rattle.node_chain.specs.Laps.{blank_mark};
 ghost use Rattle.node_chain.specs.declared.marks.Mark.{Mark};
 ghost use Rattle.node_chain.specs.declared.marks.TheConstants.{LAP};
-ghost use Rattle.interval_row.specs.Lifts.{raised_at, AreAtMost, MayRaise};
+ghost use Rattle.interval_row.specs.declared.marks.TheConstants.{PAGE};
+ghost use Rattle.interval_row.specs.Changes.{ends_before};
+ghost use Rattle.interval_row.specs.Lifts.{AreAtMost};
+ghost use Rattle.interval_row.specs.Marks.{page_of};
+ghost use Rattle.interval_row.specs.Spans.{AreFilled};
+ghost use Rattle.interval_row.specs.Walks.{after_walk, AreInPages, AreUpTo};
 
+use crate::walk_back::{Followed, PageWalk, Walk};
 use node_chain::Mark;
 use slot_core::{Memory, Span, Steps};
 use std::alloc::Global;
@@ -57,17 +62,25 @@ pub trait Store: Drop {
         ensures marks { marks self.new ≡ marks self.old }
         ensures one_step { steps.new ≡ steps.old + 1 };
 
-    /// Gives the span there so much more capacity, and tells the span as it was. Two steps.
-    fn raise_at<L: Ledger>(&mut self, index: u32, more: i64, steps: &mut Steps<L>) -> Span
-        requires within { index < length (spans self.old) }
-        requires fits { (s : Span) → slice_get (spans self.old) index ≡ Some s
-            → FitsSigned w64 (s.spare +ℤ more) }
-        ensures span { slice_get (spans self.old) index ≡ Some result }
-        ensures spans { spans self.new
-            ≡ slice_set (spans self.old) index (raised more result) }
+    /// The last spans that are yet to follow in a walk back do: those that end in the page, one by
+    /// one, as long as something is repaid. Two steps each.
+    fn follow_spans<L: Ledger>(&mut self, from: Walk, page: u64, steps: &mut Steps<L>) -> Followed
+        requires near { page * PAGE < 2 ^ 64 }
+        requires some { ends_before (page * PAGE) (spans self.old) < from.index }
+        requires place { from.index ≤ ends_before ((page + 1) * PAGE) (spans self.old) }
+        requires filled { AreFilled (after_walk from (spans self.old)) }
+        requires more { from.more ≡ pos 0 → ⊥ }
+        ensures spans { after_walk result.walk (spans self.new) ≡ after_walk from (spans self.old) }
+        ensures place { (result.walk.more ≡ pos 0 → ⊥)
+            → result.walk.index ≡ ends_before (page * PAGE) (spans self.new) }
+        ensures before { result.walk.index < from.index }
+        ensures start { IfSome (slice_get (spans self.new) result.walk.index)
+            (λ s. s.start ≡ result.start) }
+        ensures high { AreUpTo result.high
+            (take (from.index - result.walk.index) (drop result.walk.index (spans self.new))) }
         ensures room { room self.new ≡ room self.old }
         ensures marks { marks self.new ≡ marks self.old }
-        ensures two_steps { steps.new ≡ steps.old + 2 };
+        ensures two_steps { steps.new + 2 * result.walk.index ≡ steps.old + 2 * from.index };
 
     /// Puts a span in before the one there. Three steps.
     fn insert<L: Ledger>(&mut self, index: u32, span: Span, steps: &mut Steps<L>)
@@ -107,12 +120,8 @@ pub trait Store: Drop {
         ensures room { room self.new ≡ room self.old }
         ensures marks { marks self.new ≡ slice_set (marks self.old) index mark };
 
-    /// A number that no capacity of the spans that end in the pages of this mark is above.
-    fn high(&self, index: u32) -> i64
-        requires { index < LAP }
-        ensures { AreAtMost index result (spans self.now) };
-
-    /// `high` may tell this number from then on.
+    /// No capacity of the spans that end in the pages of this mark is above this number, which may
+    /// spare later walks the reading of them.
     fn set_high(&mut self, index: u32, high: i64)
         requires index { index < LAP }
         requires below { AreAtMost index high (spans self.old) }
@@ -120,12 +129,24 @@ pub trait Store: Drop {
         ensures room { room self.new ≡ room self.old }
         ensures marks { marks self.new ≡ marks self.old };
 
-    /// All spans that end in the pages of this mark get so much more capacity. None of them is read
-    /// or written.
-    fn raise(&mut self, index: u32, more: i64)
-        requires index { index < LAP }
-        requires fits { MayRaise index more (spans self.old) }
-        ensures spans { spans self.new ≡ raised_at index more (spans self.old) }
+    /// Pages follow in a walk back, the last first, as long as the spans of a page have no capacity,
+    /// before and after: all of these at once, without a step.
+    fn pass_pages(&mut self, first_page: u64, from: PageWalk) -> PageWalk
+        requires pages { AreInPages (after_walk from.walk (spans self.old)) (marks self.old) }
+        requires first { first_page
+            ≡ page_of (first_start (after_walk from.walk (spans self.old))) }
+        requires end { from.page ≤ page_of (last_end 0 (after_walk from.walk (spans self.old))) }
+        requires rising { first_page ≤ from.page }
+        requires place { from.walk.index ≡ ends_before (from.page * PAGE) (spans self.old) }
+        ensures spans { after_walk result.walk (spans self.new)
+            ≡ after_walk from.walk (spans self.old) }
+        ensures more { result.walk.more ≡ from.walk.more }
+        ensures place { result.walk.index ≡ ends_before (result.page * PAGE) (spans self.new) }
+        ensures first { first_page ≤ result.page }
+        ensures last { result.page ≤ from.page }
+        ensures before { result.walk.index ≤ from.walk.index }
+        ensures ended { first_page < result.page
+            → ends_before ((result.page - 1) * PAGE) (spans self.new) < result.walk.index }
         ensures room { room self.new ≡ room self.old }
         ensures marks { marks self.new ≡ marks self.old };
 }

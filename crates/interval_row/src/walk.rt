@@ -8,10 +8,10 @@ ghost use Rattle.interval_row.specs.Spans.{place_of, with_work_at, AreFilled};
 ghost use Rattle.interval_row.specs.Walks.{after_walk};
 
 use crate::marks::PAGE;
-use crate::pages::{self, Times, tell_pages};
+use crate::pages::{self, Times};
 use crate::spans;
 use crate::store::Store;
-use crate::walk_back::{Followed, Walk, follow_pages, follow_spans};
+use crate::walk_back::{PageWalk, Walk, follow_all, follow_pages, follow_rest};
 use slot_core::{Span, Steps};
 use std::sync::ledger::Ledger;
 
@@ -81,16 +81,15 @@ fn set_span<S: Store, L: Ledger>(
     place: FoundSpan,
     span: Span,
     steps: &mut Steps<L>,
-) -> Followed
+) -> Walk
     requires filled { AreFilled (S.spans store.old) }
     requires span { slice_get (S.spans store.old) place.index ≡ Some place.span }
     requires spare { span ≡ with_spare
         (record place.span { work = span.work })
         (first_spare (drop (place.index + 1) (S.spans store.old))) }
-    ensures spans { after_walk result.walk (S.spans store.new)
+    ensures spans { after_walk result (S.spans store.new)
         ≡ filled (with_work_at place.index span.work (S.spans store.old)) }
-    ensures index { result.walk.index ≡ place.index }
-    ensures span { result.span ≡ span }
+    ensures index { result.index ≡ place.index }
     ensures placed { slice_get (S.spans store.new) place.index ≡ Some span }
     ensures room { S.room store.new ≡ S.room store.old }
     ensures marks { S.marks store.new ≡ S.marks store.old }
@@ -98,17 +97,14 @@ fn set_span<S: Store, L: Ledger>(
 {
     store.set(place.index, span, steps);
     let more = spans::repaid(place.span.spare, span.spare);
-    Followed {
-        span,
-        walk: Walk {
-            index: place.index,
-            more,
-        },
+    Walk {
+        index: place.index,
+        more,
     }
 }
 
 /// The span at a place becomes this one, with another work and its capacity, and those before it
-/// follow, up to the first that is repaid nothing: by whole pages where the marks tell of pages. At
+/// follow, up to the first that is repaid nothing: by whole pages where no two share a mark. At
 /// most one step, and two for each span before.
 pub(crate) fn set_work<S: Store, L: Ledger>(
     store: &mut S,
@@ -131,11 +127,11 @@ pub(crate) fn set_work<S: Store, L: Ledger>(
     ensures few_steps { steps.new ≤ steps.old + 2 * place.index + 1 }
 {
     let from = set_span(store, place, span, steps);
-    if !tell_pages(times, store.len()) {
-        follow_spans(store, from, 0, steps);
+    if !pages::are_in_lap(times) {
+        follow_all(store, from, span.start, steps);
         return;
     }
     let page = span.end / PAGE;
-    let walk = follow_spans(store, from, page * PAGE, steps);
-    follow_pages(store, times.start / PAGE, page, walk, steps);
+    let walk = follow_rest(store, from, span.start, page, steps);
+    follow_pages(store, times.start / PAGE, PageWalk { page, walk }, steps);
 }

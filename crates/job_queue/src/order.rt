@@ -19,8 +19,12 @@ pub(crate) fn is_same_key(a: Key, b: Key) -> bool
 pub(crate) fn has_key(job: &Job, key: Key) -> bool
     ensures { result ≡ same_key job.now.key key }
 {
-    if let (Key::Offline(graph, task, instance), Key::Offline(g, t, i)) = (job.key, key) {
-        return instance == i && task == t && graph == g;
+    if let (
+        Key::Offline(graph, task, instance),
+        Key::Offline(other_graph, other_task, other_instance),
+    ) = (job.key, key)
+    {
+        return instance == other_instance && task == other_task && graph == other_graph;
     }
     is_same_key(job.key, key)
 }

@@ -11,7 +11,7 @@ ghost use Rattle.slot_core.specs.Claims.Safety.{after_run};
 ghost use Rattle.job_queue.specs.Queues.{IsEarliestLast, IsQueue, IsReadyPlace, after_run_at, search_steps};
 
 use crate::marked::MarkedJobs;
-use crate::order::{earlier_of, has_key, is_earlier, is_same_key};
+use crate::order::{earlier_of, has_key, is_earlier};
 use slot_core::{Job, Key, Memory, Steps};
 use std::alloc::Global;
 use std::collections::VecDeque;
@@ -335,7 +335,7 @@ impl JobQueue {
     {
         for place in 0..self.len() as usize {
             steps.tick();
-            if is_same_key(self.job(place).key, key) {
+            if has_key(self.job(place), key) {
                 return Some(place);
             }
         }
@@ -429,6 +429,7 @@ fn first_come<'a, L: Ledger>(
     ensures none { result ≡ None → steps.new ≡ steps.old }
     ensures steps { steps.old ≤ steps.new }
     ensures few_steps { steps.new ≤ steps.old + length come.now + length listed.now.items }
+    ensures two_steps { steps.new ≤ steps.old + 2 }
 {
     if !beside.is_empty() {
         return None;
@@ -547,7 +548,7 @@ fn place_listed<L: Ledger>(
         if now < job.est {
             return None;
         }
-        if is_same_key(job.key, key) {
+        if has_key(job, key) {
             return Some(place);
         }
     }

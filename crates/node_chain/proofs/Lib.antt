@@ -12,6 +12,8 @@ pub mod NodeWords
 pub mod Orders
 pub mod Pairs
 pub mod Parts
+pub mod PassedLifts
 pub mod Rings
 pub mod Sizes
+pub mod WalksBack
 pub mod Writes

@@ -4,5 +4,7 @@ pub mod Links
 pub mod Nodes
 pub mod Orders
 pub mod Ownership
+pub mod Passes
+pub mod Raises
 pub mod Raw
 pub mod Words

@@ -1,15 +1,20 @@
 //! The chain.
 
-ghost use Rattle.std.specs.Prelude.{◌≡◌, ℕ, ◌+◌, ◌≤◌, ◌<◌, ◌^◌, [], ◌∷◌, ◌++◌, drop, insert, length, Some, None, IfOk, slice_get, slice_set};
+ghost use Rattle.std.specs.Prelude.{◌≡◌, ℕ, ◌+◌, ◌*◌, ◌-◌, ◌≤◌, ◌<◌, ◌^◌, ◌≤ℤ◌, ◌<ℤ◌, [], ◌∷◌, ◌++◌, drop, insert, length, Some, None, IfOk, IfSome, slice_get, slice_set, true, false};
 ghost use Rattle.slot_core.specs.declared.jobs.Span.{Span};
 ghost use Rattle.node_chain.specs.declared.marks.TheConstants.{LAP};
 ghost use Rattle.node_chain.specs.Chains.{id_at, id_of, span_at, IsChain, IsListed};
 ghost use Rattle.node_chain.specs.Laps.{blank_laps};
+ghost use Rattle.node_chain.specs.declared.marks.Lift.{Lift};
+ghost use Rattle.node_chain.specs.declared.marks.Mark.{Mark};
+ghost use Rattle.node_chain.specs.Passes.{lifts_passed, spans_ending};
+ghost use Rattle.node_chain.specs.Raises.{map_between, pair_lifted_by, passes_on, spare_after, spare_under};
 
 use crate::block::Block;
 use crate::links::{ENDS, join, part, set_next};
-use crate::marks::{Lift, Mark, Marks};
+use crate::marks::{Lift, Mark, Marks, Pass, Passed};
 use crate::order::Order;
+use crate::raises::{Raise, Raised};
 use slot_core::{Memory, Span, Steps};
 use std::alloc::Global;
 use std::marker::Model;
@@ -170,19 +175,46 @@ impl Chain {
         self.block.set_span(place, span);
     }
 
-    /// Gives the span under this id another capacity. One step.
-    pub fn set_spare<L: Ledger>(&mut self, id: NodeId, spare: i64, steps: &mut Steps<L>)
-        requires { IsListed self.old.pairs id }
-        ensures span { (i : ℕ) → (s : Span) → id_at self.old.pairs i ≡ Some id
-            → span_at self.old.pairs i ≡ Some s
-            → self.new.pairs ≡ slice_set self.old.pairs i (id, record s { spare = spare }) }
+    /// Gives the spans before an index, the last first, so much more capacity each, up to the first
+    /// that does not pass it on. Two steps each.
+    #[inline(always)]
+    pub fn raise_back<L: Ledger>(&mut self, from: u32, raise: Raise, steps: &mut Steps<L>) -> Raised
+        requires some { 1 ≤ from }
+        requires within { from ≤ length self.old.pairs }
+        ensures pairs { self.new.pairs
+            ≡ map_between (pair_lifted_by raise.more) result.index from self.old.pairs }
+        ensures before { result.index < from }
+        ensures first { IfSome (span_at self.old.pairs result.index)
+            (λ s. (result.start ≡ s.start) × (result.spare ≡ spare_under raise.add s)) }
+        ensures passed { (i : ℕ) → (s : Span) → result.index < i → i < from
+            → span_at self.old.pairs i ≡ Some s → passes_on raise s ≡ true }
+        ensures ended { 1 ≤ result.index → IfSome (span_at self.old.pairs result.index)
+            (λ s. passes_on raise s ≡ false) }
+        ensures high { (i : ℕ) → (s : Span) → result.index ≤ i → i < from
+            → span_at self.old.pairs i ≡ Some s → spare_after raise s ≤ℤ result.high }
         ensures capacity { self.new.capacity ≡ self.old.capacity }
         ensures laps { self.new.laps ≡ self.old.laps }
-        ensures one_step { steps.new ≡ steps.old + 1 }
+        ensures two_steps { steps.new ≡ steps.old + 2 * (from - result.index) }
     {
-        let NodeId(place) = id;
-        steps.tick();
-        self.block.set_spare(place, spare);
+        let ids = self.ids.items();
+        let mut high = i64::MIN;
+        for index in (0..from).rev() {
+            let NodeId(place) = ids[index as usize];
+            let span = self.block.node(place).span;
+            steps.tick();
+            steps.tick();
+            self.block.set_spare(place, raise.raised(span).spare);
+            high = high.max(raise.spare_after(span));
+            if index == 0 || !raise.passes_on(span) {
+                return Raised {
+                    index,
+                    start: span.start,
+                    spare: raise.spare(span),
+                    high,
+                };
+            }
+        }
+        unreachable!()
     }
 
     /// Inserts a span before the one of this id, and returns its id, which no span in the chain
@@ -284,6 +316,33 @@ impl Chain {
         ensures { slice_get self.now.laps.lifts index ≡ Some result }
     {
         self.laps.lift_at(index)
+    }
+
+    /// Passes the lifts before an index and from `first` on, the last first: those in whose pages a
+    /// span ends get so much more, up to the first of them that is above the limit.
+    #[inline(always)]
+    pub fn pass_back(&mut self, first: u32, end: u32, pass: Pass) -> Passed
+        requires rising { first ≤ end }
+        requires within { end ≤ LAP }
+        ensures lifts { self.new.laps ≡ record self.old.laps {
+          lifts = lifts_passed
+              pass.more self.old.laps.marks result.index (end - result.index) self.old.laps.lifts;
+        } }
+        ensures first { first ≤ result.index }
+        ensures last { result.index ≤ end }
+        ensures passed { (i : ℕ) → (mark : Mark) → (lift : Lift) → result.index ≤ i → i < end
+            → slice_get self.old.laps.marks i ≡ Some mark → slice_get self.old.laps.lifts i ≡ Some lift
+            → 1 ≤ mark.count → lift.high ≤ℤ pass.limit }
+        ensures ended { first < result.index → IfSome (slice_get self.old.laps.marks (result.index - 1))
+            (λ mark. 1 ≤ mark.count) }
+        ensures above { first < result.index → IfSome (slice_get self.old.laps.lifts (result.index - 1))
+            (λ lift. pass.limit <ℤ lift.high) }
+        ensures count { result.count
+            ≡ spans_ending self.old.laps.marks result.index (end - result.index) }
+        ensures pairs { self.new.pairs ≡ self.old.pairs }
+        ensures capacity { self.new.capacity ≡ self.old.capacity }
+    {
+        self.laps.pass_back(first, end, pass)
     }
 
     /// Puts another lift at an index.

@@ -15,8 +15,10 @@ mod front;
 mod links;
 pub mod marks;
 pub mod order;
+pub mod raises;
 mod raw;
 mod words;
 
 pub use chain::{Chain, NodeId};
-pub use marks::{LAP, Lift, Mark, Marks};
+pub use marks::{LAP, Lift, Mark, Marks, Pass, Passed};
+pub use raises::{Raise, Raised};

@@ -1,8 +1,11 @@
 //! Numbers beside spans, for each page of time.
 
-ghost use Rattle.std.specs.Prelude.{◌≡◌, ◌<◌, Some, IfOk, slice_get, slice_set};
+ghost use Rattle.std.specs.Prelude.{◌≡◌, ℕ, ◌-◌, ◌≤◌, ◌<◌, ◌≤ℤ◌, ◌<ℤ◌, Some, IfOk, IfSome, slice_get, slice_set};
+ghost use Rattle.node_chain.specs.declared.marks.Lift.{Lift};
+ghost use Rattle.node_chain.specs.declared.marks.Mark.{Mark};
 ghost use Rattle.node_chain.specs.declared.marks.TheConstants.{LAP};
 ghost use Rattle.node_chain.specs.Laps.{blank_laps};
+ghost use Rattle.node_chain.specs.Passes.{lift_raised, lifts_passed, spans_ending};
 
 use slot_core::Memory;
 use std::alloc::Global;
@@ -32,6 +35,23 @@ pub struct Lift {
     pub high: i64,
     /// The capacity of each of these spans is what is kept in the span and this, a sum that wraps.
     pub add: i64,
+}
+
+/// How lifts are passed, the last first: each gets so much more, as long as none is above a limit.
+#[derive(Clone, Copy)]
+pub struct Pass {
+    /// In slots, below 0 where each gets less. The sums wrap round.
+    pub more: i64,
+    /// A lift with a greater `high` ends it, where a span ends in its pages.
+    pub limit: i64,
+}
+
+/// The lifts that were passed: those from an index on.
+#[derive(Clone, Copy)]
+pub struct Passed {
+    pub index: u32,
+    /// How many spans end in their pages.
+    pub count: u64,
 }
 
 /// A lap of marks and a lap of lifts, each found by its index.
@@ -103,5 +123,58 @@ impl Marks {
         ensures { self.new ≡ record self.old { lifts = slice_set self.old.lifts index lift } }
     {
         self.lifts[index as usize] = lift;
+    }
+
+    /// Passes the lifts before an index and from `first` on, the last first: those in whose pages a
+    /// span ends get so much more, up to the first of them that is above the limit.
+    pub fn pass_back(&mut self, first: u32, end: u32, pass: Pass) -> Passed
+        requires rising { first ≤ end }
+        requires within { end ≤ LAP }
+        ensures lifts { self.new ≡ record self.old {
+          lifts = lifts_passed
+              pass.more self.old.marks result.index (end - result.index) self.old.lifts;
+        } }
+        ensures first { first ≤ result.index }
+        ensures last { result.index ≤ end }
+        ensures passed { (i : ℕ) → (mark : Mark) → (lift : Lift) → result.index ≤ i → i < end
+            → slice_get self.old.marks i ≡ Some mark → slice_get self.old.lifts i ≡ Some lift
+            → 1 ≤ mark.count → lift.high ≤ℤ pass.limit }
+        ensures ended { first < result.index → IfSome (slice_get self.old.marks (result.index - 1))
+            (λ mark. 1 ≤ mark.count) }
+        ensures above { first < result.index → IfSome (slice_get self.old.lifts (result.index - 1))
+            (λ lift. pass.limit <ℤ lift.high) }
+        ensures count { result.count
+            ≡ spans_ending self.old.marks result.index (end - result.index) }
+    {
+        let marks = &self.marks.as_slice()[first as usize..end as usize];
+        let lifts = &mut self.lifts.as_mut_slice()[first as usize..end as usize];
+        let mut count = 0;
+        for left in (0..marks.len()).rev() {
+            let spans = marks[left].count;
+            if spans != 0 {
+                if pass.limit < lifts[left].high {
+                    return Passed {
+                        index: first + left as u32 + 1,
+                        count,
+                    };
+                }
+                lifts[left] = raised(lifts[left], pass.more);
+                count += u64::from(spans);
+            }
+        }
+        Passed {
+            index: first,
+            count,
+        }
+    }
+}
+
+/// The lift with so much more, sums that wrap round.
+fn raised(lift: Lift, more: i64) -> Lift
+    ensures { result ≡ lift_raised more lift }
+{
+    Lift {
+        high: lift.high.wrapping_add(more),
+        add: lift.add.wrapping_add(more),
     }
 }

@@ -54,6 +54,13 @@ impl<T: Copy + Drop> Order<T> {
         self.row[self.head + index as usize]
     }
 
+    /// The items.
+    pub fn items(&self) -> &[T]
+        ensures { result.now ≡ self.now.items }
+    {
+        &self.row.as_slice()[self.head..]
+    }
+
     /// Puts another item at an index.
     pub fn set(&mut self, index: u32, item: T)
         requires { index < length self.old.items }
@@ -102,7 +109,7 @@ impl Order<NodeId> {
         requires { (i : ℕ) × (slice_get self.now.items i ≡ Some id) }
         ensures { slice_get self.now.items result ≡ Some id }
     {
-        let ids = &self.row.as_slice()[self.head..];
+        let ids = self.items();
         for index in 0..ids.len() {
             if ids[index] == id {
                 return index;

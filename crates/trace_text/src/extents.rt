@@ -4,11 +4,12 @@
 ghost use Rattle.std.specs.Prelude.{◌≡◌, ◌≤◌, ◌<◌, ◌+◌, ◌++◌, ◌∷◌, decimal, drop, length, true};
 ghost use Rattle.std.specs.Fmt.{signed_decimal};
 ghost use Rattle.trace_text.specs.declared.TheConstants.{DECIMAL_LIMIT, EXTENT_LIMIT, LINE_LIMIT, SPAN_LIMIT};
-ghost use Rattle.trace_text.specs.declared.extents.TheConstants.{END_LIMIT, EXTENT_COUNT, EXTENT_SIZE, SPARE_COUNT, SPARE_SIZE, START_LIMIT};
+ghost use Rattle.trace_text.specs.declared.extents.TheConstants.{END_LIMIT, EXTENT_COUNT, EXTENT_SIZE, SPARE_COUNT, SPARE_SIZE};
 ghost use Rattle.trace_text.specs.Extents.{end_text, extent_text};
 
 use crate::DECIMAL_LIMIT;
 use crate::line::Line;
+use crate::words::push_number;
 use slot_core::Span;
 use std::array::from_fn;
 use std::marker::Model;
@@ -26,11 +27,8 @@ const EXTENT_SIZE: usize = 16;
 /// `EXTENT_SIZE` makes one of 64, so that the address of a cell takes a shift.
 const SPARE_SIZE: usize = 16;
 
-/// Most bytes of the start of a span, after a space.
-const START_LIMIT: usize = 1 + DECIMAL_LIMIT;
-
 /// Most bytes of the end of a span, between a dash and a colon.
-const END_LIMIT: usize = 1 + DECIMAL_LIMIT + 1;
+pub(crate) const END_LIMIT: usize = 1 + DECIMAL_LIMIT + 1;
 
 /// What writes spans.
 pub(crate) trait SpanWriter {
@@ -54,18 +52,8 @@ fn push_extent(line: &mut Line, span: &Span)
     ensures text { line.new ≡ line.old ++ extent_text span.now.start span.now.end }
     ensures short { length line.new ≤ length line.old + EXTENT_LIMIT }
 {
-    push_start(line, span.start);
+    push_number(line, span.start);
     push_end(line, span.end);
-}
-
-/// Appends a space and the start of a span.
-fn push_start(line: &mut Line, start: u64)
-    requires { length line.old + START_LIMIT ≤ LINE_LIMIT }
-    ensures text { line.new ≡ line.old ++ 32 ∷ decimal start }
-    ensures short { length line.new ≤ length line.old + START_LIMIT }
-{
-    line.push(b" ");
-    line.number(start);
 }
 
 /// Appends a dash, the end of a span and a colon, made anew.
@@ -102,8 +90,8 @@ struct ExtentCell {
     bytes: [u8; EXTENT_SIZE],
     len: usize,
     /// The dash, the end and the colon, which stay where only the start is another.
-    tail: [u8; EXTENT_SIZE],
-    tail_len: usize,
+    end_bytes: [u8; EXTENT_SIZE],
+    end_len: usize,
 }
 
 impl Model for ExtentCell {
@@ -118,8 +106,8 @@ impl Model for ExtentCell {
     ghost invariant = { λ c.
         (c.len ≤ EXTENT_SIZE)
         × (take c.len c.bytes ≡ extent_text c.start c.end)
-        × (c.tail_len ≤ EXTENT_SIZE)
-        × (take c.tail_len c.tail ≡ end_text c.end) };
+        × (c.end_len ≤ EXTENT_SIZE)
+        × (take c.end_len c.end_bytes ≡ end_text c.end) };
 }
 
 impl ExtentCell {
@@ -127,15 +115,15 @@ impl ExtentCell {
     fn new() -> ExtentCell {
         let mut bytes = [0; EXTENT_SIZE];
         bytes[..5].copy_from_slice(b" 0-0:");
-        let mut tail = [0; EXTENT_SIZE];
-        tail[..3].copy_from_slice(b"-0:");
+        let mut end_bytes = [0; EXTENT_SIZE];
+        end_bytes[..3].copy_from_slice(b"-0:");
         ExtentCell {
             start: 0,
             end: 0,
             bytes,
             len: 5,
-            tail,
-            tail_len: 3,
+            end_bytes,
+            end_len: 3,
         }
     }
 
@@ -166,35 +154,35 @@ impl ExtentCell {
         ensures short { length line.new ≤ length line.old + EXTENT_LIMIT }
     {
         let from = line.bytes().len();
-        push_start(line, span.start);
+        push_number(line, span.start);
         let dash = line.bytes().len();
-        self.push_tail(line, span.end);
+        self.push_kept_end(line, span.end);
         self.keep(span, line, from, dash);
     }
 
     /// Appends the dash, this end and the colon, which are made anew where they are not those that
     /// are kept.
     #[inline]
-    fn push_tail(&self, line: &mut Line, end: u64)
+    fn push_kept_end(&self, line: &mut Line, end: u64)
         requires { length line.old + END_LIMIT ≤ LINE_LIMIT }
         ensures text { line.new ≡ line.old ++ end_text end }
         ensures short { length line.new ≤ length line.old + END_LIMIT }
     {
         if self.end == end {
-            line.push_block(self.tail, self.tail_len);
+            line.push_block(self.end_bytes, self.end_len);
         } else {
             push_end(line, end);
         }
     }
 
     /// Keeps the text of the extent of the span, which stands in the line from this place on, where
-    /// it is not too long. Its tail stands there from the dash on.
+    /// it is not too long. Its end stands there from the dash on.
     fn keep(&mut self, span: &Span, line: &Line, from: usize, dash: usize)
         requires order { from ≤ dash }
         requires inside { dash ≤ length line.now }
         requires room { dash + EXTENT_SIZE ≤ LINE_LIMIT }
         requires text { drop from line.now ≡ extent_text span.now.start span.now.end }
-        requires tail { drop dash line.now ≡ end_text span.now.end }
+        requires end { drop dash line.now ≡ end_text span.now.end }
     {
         let len = line.bytes().len() - from;
         if len <= EXTENT_SIZE {
@@ -202,8 +190,8 @@ impl ExtentCell {
             self.start = span.start;
             self.end = span.end;
             self.len = len;
-            self.tail = line.block_from(dash);
-            self.tail_len = line.bytes().len() - dash;
+            self.end_bytes = line.block_from(dash);
+            self.end_len = line.bytes().len() - dash;
         }
     }
 }

@@ -12,6 +12,7 @@ pub mod taker;
 mod words;
 
 pub use entries::{entry_line, key_text};
+use extents::END_LIMIT;
 pub use line::Line;
 pub use reports::{job_line, span_line};
 pub use run_lines::read_run;
@@ -34,8 +35,8 @@ const ANSWER_LIMIT: usize = 6 + 3 * (1 + DECIMAL_LIMIT);
 /// them.
 const WORDS_LIMIT: usize = 8 + 1 + DECIMAL_LIMIT + 1 + KEY_LIMIT + 1 + ANSWER_LIMIT;
 
-/// Most bytes of the extent of a span: its start and its end, a byte before each, and a colon.
-const EXTENT_LIMIT: usize = 2 * (1 + DECIMAL_LIMIT) + 1;
+/// Most bytes of the extent of a span: a space, its start, and what tells its end.
+const EXTENT_LIMIT: usize = 1 + DECIMAL_LIMIT + END_LIMIT;
 
 /// Most bytes of a span and the space before it.
 const SPAN_LIMIT: usize = EXTENT_LIMIT + DECIMAL_LIMIT;

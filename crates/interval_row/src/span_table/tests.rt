@@ -1,13 +1,13 @@
 //! What a table keeps beside its store.
 
 ghost use Rattle.std.specs.Prelude.{◌≡◌, ◌<◌};
+ghost use Rattle.node_chain.specs.declared.marks.TheConstants.{LAP};
 
 use crate::lifted::Lifted;
 use crate::pages::Times;
 use crate::span_table::ChainTable;
 use crate::store::Store;
 use crate::table::{Front, SpareTable};
-use crate::walk_back::has_none_to_give;
 use node_chain::Chain;
 use slot_core::{Span, Steps};
 use std::alloc::Global;
@@ -90,12 +90,21 @@ fn charges_last<R: Abort, L: Ledger>(rt: &R, alloc: Global, blank: Blank) -> Res
 {
     let mut steps: Steps<L> = Steps::new(blank);
     let mut table = ChainTable::with_room(alloc, &[span(0, 3, 1, 2)], 200, 200)?;
-    assert!(rt; !has_none_to_give(&table.chain, 3, 0));
+    assert!(rt; !has_none_to_give(&table, 3, 0));
     charge_last(&mut table, 700, &mut steps);
-    assert!(rt; has_none_to_give(&table.chain, 0, 300) && !has_none_to_give(&table.chain, 0, 301));
+    assert!(rt; has_none_to_give(&table, 0, 300) && !has_none_to_give(&table, 0, 301));
     charge_last(&mut table, 1, &mut steps);
-    assert!(rt; has_none_to_give(&table.chain, 0, 301) && !has_none_to_give(&table.chain, 0, 302));
+    assert!(rt; has_none_to_give(&table, 0, 301) && !has_none_to_give(&table, 0, 302));
     Ok(())
+}
+
+/// No span that ends in the pages of a mark is told to have any capacity, before or after so much
+/// more.
+fn has_none_to_give(table: &ChainTable, mark_index: u32, more: i64) -> bool
+    requires { mark_index < LAP }
+{
+    let high = table.chain.shelf.lift(mark_index).high;
+    !(0 < high.max(high.wrapping_add(more)))
 }
 
 /// So many slots more for the last span.

@@ -1,54 +1,50 @@
-use Rattle.std.proofs.Common.{◌≡◌, ◌/◌, ◌∙◌, refl, ap, subst, sym, arith}
+use Rattle.std.proofs.Common.{◌≡◌, ◌/◌, ◌∙◌, refl, ap, sym, arith}
 use Rattle.std.proofs.lemmas.Option.{slice_get_within, get_or_from_slice_get}
 use Rattle.slot_core.specs.declared.jobs.Span.{Span}
 use Rattle.spare_capacity.specs.Recurrence.{filled, first_start, last_end}
 use Rattle.spare_capacity.proofs.Steps.{no_row}
-use Rattle.interval_row.specs.Spans.{with_work_at, AreFilled}
+use Rattle.interval_row.specs.Spans.{with_work_at}
 use Rattle.interval_row.specs.Walks.{after_walk}
 use Rattle.interval_row.proofs.CutTimes.{rises-at, start-at}
 use Rattle.interval_row.proofs.Laps.{ends, follows, rises}
-use Rattle.interval_row.proofs.PageWalks.{none-before, walked-done, CanWalk, CanWalk-AreTimed}
+use Rattle.interval_row.proofs.PageWalks.{CanWalk, CanWalk-AreTimed}
 use Rattle.interval_row.proofs.Places.{end-le-last_end}
 use Rattle.interval_row.proofs.walk.set_work.Given.{Over}
 use Rattle.interval_row.proofs.walk.set_work.Goals as goal
-use Rattle.interval_row.proofs.walk.set_work.Goals.{After-follow_spans-walk, After-set_span-from}
+use Rattle.interval_row.proofs.walk.set_work.Goals.{After-follow_rest-walk, After-set_span-from}
 
-pub tell_pages-requires-clause-rising : goal.tell_pages-requires-clause-rising
-tell_pages-requires-clause-rising g c = rises c.requires.timed
+pub are_in_lap-requires-clause-rising : goal.are_in_lap-requires-clause-rising
+are_in_lap-requires-clause-rising g c = rises c.requires.timed
 
 -- what the spans become
 can : (g : Over) (c : After-set_span-from g) → CanWalk c.args.times.start c.args.times.end (filled (with_work_at c.args.place.index c.args.span.work (g.S.Store.spans c.args.store.now))) (g.S.Store.marks c.args.store.now)
 can g c = CanWalk-AreTimed c.args.place.index c.args.span.work c.args.place.span c.requires.timed c.requires.span c.requires.few
 
-pub follow_spans-requires-clause-filled : goal.follow_spans-requires-clause-filled
-follow_spans-requires-clause-filled g c = rw c.set_span-from.ensures.spans (can g ((goal.at.follow_spans-requires-clause-filled g c).After-set_span-from)).filled
+pub follow_all-requires-clause-filled : goal.follow_all-requires-clause-filled
+follow_all-requires-clause-filled g c = rw c.set_span-from.ensures.spans (can g ((goal.at.follow_all-requires-clause-filled g c).After-set_span-from)).filled
 
-pub returns-then-not-tell_pages-clause-spans : goal.returns-then-not-tell_pages-clause-spans
-returns-then-not-tell_pages-clause-spans g c =
-    let walk = c.follow_spans.result in
-    let rows = g.S.Store.spans c.follow_spans.new.store in
-    let same = c.follow_spans.ensures.spans ∙ c.set_span-from.ensures.spans in
-    let are : AreFilled (after_walk walk rows) = subst AreFilled (sym same) (can g ((goal.at.returns-then-not-tell_pages-clause-spans g c).After-set_span-from)).filled in
-    let none = none-before 0 walk rows are (omega arith) in
-    sym (walked-done walk rows (λ other. c.follow_spans.ensures.place other ∙ none)) ∙ same
+pub follow_rest-walk-requires-clause-within : goal.follow_rest-walk-requires-clause-within
+follow_rest-walk-requires-clause-within g c =
+    let at = slice_get_within (g.S.Store.spans c.set_span-from.new.store) c.args.place.index c.args.span c.set_span-from.ensures.placed in
+    omega (arith, at, c.set_span-from.ensures.index)
 
-pub follow_spans-walk-requires-clause-filled : goal.follow_spans-walk-requires-clause-filled
-follow_spans-walk-requires-clause-filled g c = rw c.set_span-from.ensures.spans (can g ((goal.at.follow_spans-walk-requires-clause-filled g c).After-set_span-from)).filled
+pub follow_rest-walk-requires-clause-filled : goal.follow_rest-walk-requires-clause-filled
+follow_rest-walk-requires-clause-filled g c = rw c.set_span-from.ensures.spans (can g ((goal.at.follow_rest-walk-requires-clause-filled g c).After-set_span-from)).filled
 
 -- and are after the page of the place
-walking : (g : Over) (c : After-follow_spans-walk g) → after_walk c.follow_spans-walk.result (g.S.Store.spans c.follow_spans-walk.new.store) ≡ filled (with_work_at c.args.place.index c.args.span.work (g.S.Store.spans c.args.store.now))
-walking g c = c.follow_spans-walk.ensures.spans ∙ c.set_span-from.ensures.spans
+walking : (g : Over) (c : After-follow_rest-walk g) → after_walk c.follow_rest-walk.result (g.S.Store.spans c.follow_rest-walk.new.store) ≡ filled (with_work_at c.args.place.index c.args.span.work (g.S.Store.spans c.args.store.now))
+walking g c = c.follow_rest-walk.ensures.spans ∙ c.set_span-from.ensures.spans
 
 pub follow_pages-requires-clause-pages : goal.follow_pages-requires-clause-pages
 follow_pages-requires-clause-pages g c =
     let can = can g ((goal.at.follow_pages-requires-clause-pages g c).After-set_span-from) in
-    let marks = c.follow_spans-walk.ensures.marks ∙ c.set_span-from.ensures.marks in
-    rw (walking g ((goal.at.follow_pages-requires-clause-pages g c).After-follow_spans-walk), marks) (can.pages (c.if-not-tell_pages.ensures refl))
+    let marks = c.follow_rest-walk.ensures.marks ∙ c.set_span-from.ensures.marks in
+    rw (walking g ((goal.at.follow_pages-requires-clause-pages g c).After-follow_rest-walk), marks) (can.pages (c.if-not-are_in_lap.ensures refl))
 
 pub follow_pages-requires-clause-first : goal.follow_pages-requires-clause-first
 follow_pages-requires-clause-first g c =
     let can = can g ((goal.at.follow_pages-requires-clause-first g c).After-set_span-from) in
-    let starts = ap first_start (walking g ((goal.at.follow_pages-requires-clause-first g c).After-follow_spans-walk)) ∙ can.starts in
+    let starts = ap first_start (walking g ((goal.at.follow_pages-requires-clause-first g c).After-follow_rest-walk)) ∙ can.starts in
     ap (λ n. n / 64) (sym starts)
 
 pub follow_pages-requires-clause-end : goal.follow_pages-requires-clause-end
@@ -56,7 +52,7 @@ follow_pages-requires-clause-end g c =
     let rows = g.S.Store.spans c.args.store.now in
     let k = c.args.place.index in
     let can = can g ((goal.at.follow_pages-requires-clause-end g c).After-set_span-from) in
-    let last = ap (last_end 0) (walking g ((goal.at.follow_pages-requires-clause-end g c).After-follow_spans-walk)) ∙ can.ends in
+    let last = ap (last_end 0) (walking g ((goal.at.follow_pages-requires-clause-end g c).After-follow_rest-walk)) ∙ can.ends in
     let is = ap (λ (s : Span). s.end) (get_or_from_slice_get rows k c.args.place.span no_row c.requires.span) in
     let within = end-le-last_end c.args.times.start rows k (follows c.requires.timed) (slice_get_within rows k c.args.place.span c.requires.span) in
     omega (arith, last, is, within.1, ends c.requires.timed, ap (λ (s : Span). s.end) c.requires.spare)
@@ -70,4 +66,4 @@ follow_pages-requires-clause-rising g c =
     omega (arith, start-at c.args.times.start k rows span follow c.requires.span, rises-at c.args.times.start k rows span follow c.requires.span, ap (λ (s : Span). s.end) c.requires.spare)
 
 pub returns-clause-spans : goal.returns-clause-spans
-returns-clause-spans g c = c.follow_pages.ensures.spans ∙ walking g ((goal.at.returns-clause-spans g c).After-follow_spans-walk)
+returns-clause-spans g c = c.follow_pages.ensures.spans ∙ walking g ((goal.at.returns-clause-spans g c).After-follow_rest-walk)

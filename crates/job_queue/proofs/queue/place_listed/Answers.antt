@@ -8,15 +8,15 @@ returns-then-now-job-clause-place g c =
     let jobs = c.args.listed.now.items in
     IsReadyPlace-later c.args.now c.args.key jobs c.loop-place.place c.index-job.result.now c.requires (omega arith) c.index-job.ensures c.if-now-job.true c.loop-place.invariant.passed
 
-pub returns-then-is_same_key-clause-place : goal.returns-then-is_same_key-clause-place
-returns-then-is_same_key-clause-place g c =
+pub returns-then-has_key-clause-place : goal.returns-then-has_key-clause-place
+returns-then-has_key-clause-place g c =
     let jobs = c.args.listed.now.items in
-    IsReadyPlace-found c.args.now c.args.key jobs c.loop-place.place c.index-job.result.now (omega arith) c.index-job.ensures c.if-now-job.false (sym c.if-is_same_key.ensures) c.loop-place.invariant.passed
+    IsReadyPlace-found c.args.now c.args.key jobs c.loop-place.place c.index-job.result.now (omega arith) c.index-job.ensures c.if-now-job.false (sym c.if-has_key.ensures) c.loop-place.invariant.passed
 
 pub loop-place-preserved : goal.loop-place-preserved
 loop-place-preserved g c =
     let jobs = c.args.listed.now.items in
     record {
-      passed = find-take_now c.args.now c.args.key jobs c.loop-place.place c.index-job.result.now (omega arith) c.index-job.ensures c.if-now-job.false (sym c.if-is_same_key.ensures) c.loop-place.invariant.passed;
+      passed = find-take_now c.args.now c.args.key jobs c.loop-place.place c.index-job.result.now (omega arith) c.index-job.ensures c.if-now-job.false (sym c.if-has_key.ensures) c.loop-place.invariant.passed;
       counted = omega arith;
     }

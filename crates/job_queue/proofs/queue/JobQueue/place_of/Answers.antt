@@ -5,14 +5,14 @@ use Rattle.job_queue.proofs.queue.JobQueue.place_of.Goals as goal
 pub loop-place-preserved : goal.loop-place-preserved
 loop-place-preserved g c =
     record {
-      passed = HasNone-more c.args.key c.args.self.now.jobs c.loop-place.place c.job.result.now (omega arith) c.job.ensures (sym c.if-is_same_key.ensures) c.loop-place.invariant.passed;
+      passed = HasNone-more c.args.key c.args.self.now.jobs c.loop-place.place c.job.result.now (omega arith) c.job.ensures (sym c.if-has_key.ensures) c.loop-place.invariant.passed;
       counted = omega arith;
     }
 
-pub returns-then-is_same_key : goal.returns-then-is_same_key
-returns-then-is_same_key g c =
+pub returns-then-has_key : goal.returns-then-has_key
+returns-then-has_key g c =
     let jobs = c.args.self.now.jobs in
-    let found = position-found c.args.key jobs c.loop-place.place c.job.result.now (omega arith) c.job.ensures c.loop-place.invariant.passed (sym c.if-is_same_key.ensures) in
+    let found = position-found c.args.key jobs c.loop-place.place c.job.result.now (omega arith) c.job.ensures c.loop-place.invariant.passed (sym c.if-has_key.ensures) in
     record {
       place = sym found;
       queue = c.len-place-end.ensures.queue;

@@ -1,11 +1,9 @@
-use Rattle.std.proofs.Common.{◌≡◌, ◌≢◌, ◌≤◌, ◌<◌, ◌+◌, ◌-◌, ℕ, false, true, List, length, get_or, take, drop, Some, sym, ap, ◌∙◌, arith}
+use Rattle.std.proofs.Common.{◌≡◌, ◌≢◌, ◌≤◌, ◌<◌, ◌+◌, ℕ, false, true, List, length, get_or, Some, sym, ap, ◌∙◌, arith}
 use Rattle.std.specs.Prelude.{slice_get}
 use Rattle.std.proofs.Math.Dec.{eqb}
 use Rattle.std.proofs.lemmas.Bool.{eq-eqb, eqb-true, false≢true}
-use Rattle.std.proofs.lemmas.List.{take_rest}
 use Rattle.std.proofs.lemmas.Option.{slice_get-get_or, slice_get_within, get_or_from_slice_get}
 use Rattle.node_chain.specs.declared.chain.NodeId.{NodeId}
-use Rattle.node_chain.specs.Orders.{OrderParts}
 use Rattle.node_chain.proofs.order.Order+NodeId.index_of.Goals as goal
 
 -- an id of the same place stands there
@@ -26,14 +24,9 @@ inside xs i id end before k at =
     let within = slice_get_within xs k id at in
     omega (arith, end, before k at, within)
 
--- the rest of a slice is the list without its front
-rest_is : (lent items ids : List NodeId) (head : ℕ) → lent ≡ items → drop head items ≡ ids → take (length lent - head) (drop head lent) ≡ ids
-rest_is lent items ids head is view = take_rest lent head ∙ ap (drop head) is ∙ view
-
 pub returns-then-eq : goal.returns-then-eq
 returns-then-eq c =
-    let ids = rest_is c.as_slice.result.now _ _ c.self.inside.head c.as_slice.ensures.value (ap (λ (o : OrderParts NodeId). o.items) c.self.view_is) in
-    sym (ap (λ xs. slice_get xs c.loop-index.index) ids)
+    sym (ap (λ xs. slice_get xs c.loop-index.index) c.items-ids.ensures)
     ∙ found _ c.loop-index.index c.args.id _ c.loop-index-test.true (sym c.if-eq.true ∙ c.eq.ensures)
 
 pub loop-index-preserved : goal.loop-index-preserved
@@ -42,5 +35,4 @@ loop-index-preserved c =
 
 pub unreachable-requires : goal.unreachable-requires
 unreachable-requires c =
-    let ids = rest_is c.as_slice.result.now _ _ c.self.inside.head c.as_slice.ensures.value (ap (λ (o : OrderParts NodeId). o.items) c.self.view_is) in
-    inside _ c.loop-index.index c.args.id c.loop-index-test.false c.loop-index.invariant c.requires.0 (ap (λ xs. slice_get xs c.requires.0) ids ∙ c.requires.1)
+    inside _ c.loop-index.index c.args.id c.loop-index-test.false c.loop-index.invariant c.requires.0 (ap (λ xs. slice_get xs c.requires.0) c.items-ids.ensures ∙ c.requires.1)

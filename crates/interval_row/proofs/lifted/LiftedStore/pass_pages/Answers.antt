@@ -1,0 +1,54 @@
+use Rattle.std.proofs.Common.{◌-◌, ◌*◌, ◌∙◌, ap, refl, sym, arith}
+use Rattle.interval_row.specs.Changes.{ends_before}
+use Rattle.interval_row.specs.Walks.{after_walk}
+use Rattle.interval_row.proofs.RunWalks.{ends_before-lifted}
+use Rattle.interval_row.proofs.lifted.LiftedStore.pass_pages.Goals as goal
+
+pub loop-last-init : goal.loop-last-init
+loop-last-init g c =
+    let laps = g.S.Shelf.laps c.self.inside.shelf in
+    let kept = g.S.Shelf.spans c.self.inside.shelf in
+    record {
+      spans = ap (λ v. after_walk c.args.from.walk v.spans) c.self.view_is;
+      more = refl;
+      place = c.requires.place ∙ ap (λ v. ends_before (c.args.from.page * 64) v.spans) (sym c.self.view_is) ∙ ends_before-lifted laps.lifts (c.args.from.page * 64) kept;
+      first = c.requires.rising;
+      last = omega arith;
+      before = omega arith;
+      covered = c.self.invariant;
+      room = ap (λ v. v.room) c.self.view_is;
+      marks = ap (λ v. v.marks) c.self.view_is;
+    }
+
+pub pass_run-last-requires-clause-pages : goal.pass_run-last-requires-clause-pages
+pass_run-last-requires-clause-pages g c = rw (c.loop-last.invariant.spans, c.loop-last.invariant.marks) c.requires.pages
+
+pub pass_run-last-requires-clause-first : goal.pass_run-last-requires-clause-first
+pass_run-last-requires-clause-first g c = rw c.loop-last.invariant.spans (omega (arith, c.requires.first, c.max-low.ensures))
+
+pub pass_run-last-requires-clause-end : goal.pass_run-last-requires-clause-end
+pass_run-last-requires-clause-end g c = rw c.loop-last.invariant.spans (omega (arith, c.requires.end, c.loop-last.invariant.last))
+
+pub returns-then-low-last-clause-ended : goal.returns-then-low-last-clause-ended
+returns-then-low-last-clause-ended g c =
+    let shelf = c.pass_run-last.new.shelf in
+    let same = ends_before-lifted (g.S.Shelf.laps shelf).lifts ((c.pass_run-last.result.page - 1) * 64) (g.S.Shelf.spans shelf) in
+    λ l. omega (arith, c.pass_run-last.ensures.ended c.if-low-last.true, same)
+
+pub loop-last-preserved : goal.loop-last-preserved
+loop-last-preserved g c = record {
+  spans = c.pass_run-last.ensures.spans ∙ c.loop-last.invariant.spans;
+  more = c.pass_run-last.ensures.more ∙ c.loop-last.invariant.more;
+  place = c.pass_run-last.ensures.place;
+  first = omega (arith, c.pass_run-last.ensures.first, c.max-low.ensures);
+  last = omega (arith, c.pass_run-last.ensures.last, c.loop-last.invariant.last);
+  before = omega (arith, c.pass_run-last.ensures.before, c.loop-last.invariant.before);
+  covered = c.pass_run-last.ensures.covered;
+  room = c.pass_run-last.ensures.room ∙ c.loop-last.invariant.room;
+  marks = c.pass_run-last.ensures.marks ∙ c.loop-last.invariant.marks;
+}
+
+pub returns-clause-place : goal.returns-clause-place
+returns-clause-place g c =
+    let shelf = c.loop-last.self-inside.shelf in
+    c.loop-last.invariant.place ∙ sym (ends_before-lifted (g.S.Shelf.laps shelf).lifts (c.loop-last.last.page * 64) (g.S.Shelf.spans shelf))

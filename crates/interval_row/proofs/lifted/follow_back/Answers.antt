@@ -1,0 +1,97 @@
+use Rattle.std.proofs.Common.{◌≡◌, ◌+◌, ◌-◌, ◌*◌, ◌%◌, ◌<◌, ◌≤◌, ◌∙◌, ◌≤ℤ◌, ltb, drop, take, FitsSigned, length, slice_get, ap, refl, sym, subst, arith, rules, w64, to_z, of_z}
+use Rattle.std.proofs.lemmas.Int.{ints, clamps, to_z-of_z}
+use Rattle.std.proofs.lemmas.List.Sums.{count_by-le-length}
+use Rattle.slot_core.specs.declared.jobs.Span.{Span}
+use Rattle.node_chain.specs.Laps.{Laps}
+use Rattle.interval_row.specs.Changes.{ends_before}
+use Rattle.interval_row.specs.Lifts.{lifted}
+use Rattle.interval_row.specs.Spans.{AreFilled}
+use Rattle.interval_row.specs.Walks.{after_walk, AreUpTo}
+use Rattle.interval_row.proofs.RunWalks.{come-after, come-before, drop-further, ends_before-runs, take-fewer, AreUpTo-runs}
+use Rattle.interval_row.proofs.lifted.follow_back.Goals as goal
+
+pub loop-last-init : goal.loop-last-init
+loop-last-init g c =
+    let none : c.args.from.index - c.args.from.index ≡ 0 = omega arith in
+    record {
+      spans = refl;
+      within = omega arith;
+      before = λ stays. absurd (stays c.requires.more (omega (arith, c.requires.some)) (omega arith));
+      reached = omega (arith, c.requires.some);
+      some = λ some late. c.requires.some;
+      border = λ early. absurd (omega (arith, early));
+      start = λ less. absurd (omega (arith, less));
+      high = rw none tt;
+      front = refl;
+      rest = refl;
+      laps = refl;
+      room = refl;
+      steps = refl;
+    }
+
+pub follow_run-next-requires-clause-lift : goal.follow_run-next-requires-clause-lift
+follow_run-next-requires-clause-lift g c =
+    ap (λ (l : Laps). slice_get l.lifts (c.args.page % 512)) c.loop-last.invariant.laps ∙ c.requires.lift
+
+pub follow_run-next-requires-clause-some : goal.follow_run-next-requires-clause-some
+follow_run-next-requires-clause-some g c =
+    let same = ends_before-runs (c.args.page * 64) (g.S.Shelf.laps c.args.shelf.now).lifts c.loop-last.last.walk c.args.from (g.S.Shelf.spans c.loop-last.shelf) (g.S.Shelf.spans c.args.shelf.now) c.loop-last.invariant.spans in
+    omega (arith, same, c.loop-last.invariant.some c.loop-last-test.true c.if-page-last.true)
+
+pub follow_run-next-requires-clause-place : goal.follow_run-next-requires-clause-place
+follow_run-next-requires-clause-place g c =
+    let same = ends_before-runs ((c.args.page + 1) * 64) (g.S.Shelf.laps c.args.shelf.now).lifts c.loop-last.last.walk c.args.from (g.S.Shelf.spans c.loop-last.shelf) (g.S.Shelf.spans c.args.shelf.now) c.loop-last.invariant.spans in
+    omega (arith, same, c.loop-last.invariant.within, c.requires.place)
+
+pub follow_run-next-requires-clause-filled : goal.follow_run-next-requires-clause-filled
+follow_run-next-requires-clause-filled g c =
+    let rows = g.S.Shelf.spans c.loop-last.shelf in
+    subst (λ (l : Laps). AreFilled (after_walk c.loop-last.last.walk (lifted l.lifts rows))) (sym c.loop-last.invariant.laps) (subst AreFilled (sym c.loop-last.invariant.spans) c.requires.filled)
+
+pub loop-last-smaller : goal.loop-last-smaller
+loop-last-smaller g c = omega (arith, c.follow_run-next.ensures.before)
+
+pub loop-last-preserved : goal.loop-last-preserved
+loop-last-preserved g c =
+    let last = c.follow_run-next.result in
+    let was = c.loop-last.last in
+    let j = last.walk.index in
+    let y = c.args.page * 64 in
+    let lifts = (g.S.Shelf.laps c.args.shelf.now).lifts in
+    let first = g.S.Shelf.spans c.args.shelf.now in
+    let old = g.S.Shelf.spans c.loop-last.shelf in
+    let new = g.S.Shelf.spans c.follow_run-next.new.shelf in
+    let one : after_walk last.walk (lifted lifts new) ≡ after_walk was.walk (lifted lifts old) =
+    subst (λ (l : Laps). after_walk last.walk (lifted l.lifts new) ≡ after_walk was.walk (lifted l.lifts old)) c.loop-last.invariant.laps c.follow_run-next.ensures.spans in
+    let same : after_walk last.walk (lifted lifts new) ≡ after_walk c.args.from (lifted lifts first) = one ∙ c.loop-last.invariant.spans in
+    let are : AreFilled (after_walk last.walk (lifted lifts new)) = subst AreFilled (sym same) c.requires.filled in
+    let low : ends_before y new ≡ ends_before y first = ends_before-runs y lifts last.walk c.args.from new first same in
+    let low_old : ends_before y old ≡ ends_before y first = ends_before-runs y lifts was.walk c.args.from old first c.loop-last.invariant.spans in
+    let z = (c.args.page + 1) * 64 in
+    let high : ends_before z new ≡ ends_before z first = ends_before-runs z lifts last.walk c.args.from new first same in
+    let within : j < length new =
+    omega (arith, high, c.follow_run-next.ensures.before, c.loop-last.invariant.within, c.requires.place, count_by-le-length (λ (s : Span). ltb s.end z) new) in
+    let top : FitsSigned w64 c.max.result = search rules in
+    let was_high : FitsSigned w64 was.high = search rules in
+    let last_high : FitsSigned w64 last.high = search rules in
+    let bound = to_z-of_z w64 c.max.result top in
+    let under : was.high ≤ℤ to_z w64 (of_z w64 c.max.result) = omega (arith, ints, clamps, c.max.ensures.value, bound, to_z-of_z w64 was.high was_high) in
+    let over : last.high ≤ℤ to_z w64 (of_z w64 c.max.result) = omega (arith, ints, clamps, c.max.ensures.value, bound, to_z-of_z w64 last.high last_high) in
+    let run : AreUpTo last.high (take (was.walk.index - j) (drop j (lifted lifts new))) =
+    subst (λ (l : Laps). AreUpTo last.high (take (was.walk.index - j) (drop j (lifted l.lifts new)))) c.loop-last.invariant.laps c.follow_run-next.ensures.high in
+    let less : j ≤ was.walk.index = omega (arith, c.follow_run-next.ensures.before) in
+    record {
+      spans = same;
+      within = omega (arith, less, c.loop-last.invariant.within);
+      before = λ stays. omega (arith, c.follow_run-next.ensures.before, c.loop-last.invariant.within);
+      reached = omega (arith, low_old, c.follow_run-next.ensures.reached);
+      some = λ some late. omega (arith, low, come-after lifts last.walk last.start new are within c.follow_run-next.ensures.start y some late);
+      border = λ early. come-before lifts last.walk last.start new are within c.follow_run-next.ensures.start y (omega (arith, low, low_old, c.follow_run-next.ensures.reached)) early ∙ low;
+      start = λ less. c.follow_run-next.ensures.start;
+      high = AreUpTo-runs lifts was.high last.high (to_z w64 (of_z w64 c.max.result)) j was.walk.index c.args.from.index new old less c.loop-last.invariant.within under over c.follow_run-next.ensures.rest run c.loop-last.invariant.high;
+      front = c.follow_run-next.ensures.front ∙ take-fewer j was.walk.index old first c.loop-last.invariant.front less;
+      rest = drop-further was.walk.index c.args.from.index new old c.follow_run-next.ensures.rest c.loop-last.invariant.within ∙ c.loop-last.invariant.rest;
+      laps = c.follow_run-next.ensures.laps ∙ c.loop-last.invariant.laps;
+      room = c.follow_run-next.ensures.room ∙ c.loop-last.invariant.room;
+      steps = omega (arith, c.follow_run-next.ensures.two_steps, c.loop-last.invariant.steps);
+    }

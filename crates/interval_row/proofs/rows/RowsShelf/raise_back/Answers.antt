@@ -1,0 +1,91 @@
+use Rattle.std.proofs.Common.{ℕ, ◌≡◌, ◌-◌, ◌<◌, suc, ap, arith, get_or, refl, rules, slice_get, slice_set, subst, sym, List, Option, Some, IfSome, false, ◌∙◌, w64, to_z, of_z, FitsSigned}
+use Rattle.std.specs.Int.{int_max}
+use Rattle.std.proofs.lemmas.Int.{to_z-of_z}
+use Rattle.std.proofs.lemmas.Option.{slice_get-get_or}
+use Rattle.slot_core.specs.declared.jobs.Span.{Span}
+use Rattle.node_chain.specs.Nodes.{blank}
+use Rattle.node_chain.specs.Raises.{lifted_by, map_between, passes_on, spare_under}
+use Rattle.node_chain.proofs.WalksBack.{between-before, between-next, AreUpTo, AreUpTo-next, PassOn-next}
+use Rattle.interval_row.proofs.rows.RowsShelf.raise_back.Given.{Over}
+use Rattle.interval_row.proofs.rows.RowsShelf.raise_back.Goals as goal
+use Rattle.interval_row.proofs.rows.RowsShelf.raise_back.Goals.{After-max-high, then-index-eq0-via-then-index-eq0, then-index-eq0-via-else-index-eq0+then-not-passes_on}
+
+module _ (g : Over) (c : After-max-high g) where
+  abbrev k : ℕ
+  k = c.loop-index.index - 1
+
+  abbrev spans : List Span
+  spans = c.args.self.now.spans
+
+  below : k < c.args.from
+  below = omega (arith, c.loop-index-test.true, c.loop-index.auto.index)
+
+  now : c.loop-index.self.spans ≡ map_between (lifted_by c.args.raise.more) (suc k) c.args.from spans
+  now =
+      let next : c.loop-index.index ≡ suc k = omega (arith, c.loop-index-test.true) in
+      c.loop-index.invariant.spans ∙ ap (λ n. map_between (lifted_by c.args.raise.more) n c.args.from spans) next
+
+  -- the code reads the next span
+  here : slice_get spans k ≡ Some c.at-span.result
+  here =
+      let own = slice_get-get_or spans k blank (omega (arith, below, c.requires.within)) in
+      own ∙ sym (between-before (lifted_by c.args.raise.more) k c.args.from spans (get_or spans k blank) below own)
+      ∙ ap (λ xs. slice_get xs k) (sym now) ∙ c.at-span.ensures.span
+
+  -- it is raised
+  done : c.set.new.self.spans ≡ map_between (lifted_by c.args.raise.more) k c.args.from spans
+  done =
+      c.set.ensures.spans ∙ (λ i. slice_set (now i) k (c.raised.ensures i))
+      ∙ between-next (lifted_by c.args.raise.more) k c.args.from spans c.at-span.result below here
+
+  -- no span from it on has more capacity than the new bound
+  high : AreUpTo c.args.raise spans (to_z w64 (of_z w64 c.max-high.result)) k c.args.from
+  high =
+      let whole : FitsSigned w64 c.max-high.result = search rules in
+      let fits : FitsSigned w64 c.spare_after.result = search rules in
+      let given = to_z-of_z w64 c.spare_after.result fits ∙ c.spare_after.ensures in
+      let max = to_z-of_z w64 c.max-high.result whole ∙ c.max-high.ensures.value ∙ ap (int_max (to_z w64 c.loop-index.high-bits)) given in
+      AreUpTo-next c.args.raise spans (to_z w64 c.loop-index.high-bits) (to_z w64 (of_z w64 c.max-high.result)) k c.args.from c.at-span.result here max
+      (λ i s low. c.loop-index.invariant.high i s (omega (arith, low)))
+
+pub returns-then-index-eq0-clause-spans : goal.returns-then-index-eq0-clause-spans
+returns-then-index-eq0-clause-spans g c = done g ((goal.at.returns-then-index-eq0-clause-spans g c).After-max-high)
+
+pub returns-then-index-eq0-clause-first : goal.returns-then-index-eq0-clause-first
+returns-then-index-eq0-clause-first g c =
+    let whole : FitsSigned w64 c.spare.result = search rules in
+    subst
+    (λ (o : Option Span). IfSome o (λ s. (c.at-span.result.start ≡ s.start) × (to_z w64 (of_z w64 c.spare.result) ≡ spare_under c.args.raise.add s)))
+    (sym (here g ((goal.at.returns-then-index-eq0-clause-first g c).After-max-high)))
+    (refl, to_z-of_z w64 c.spare.result whole ∙ c.spare.ensures)
+
+pub returns-then-index-eq0-clause-passed : goal.returns-then-index-eq0-clause-passed
+returns-then-index-eq0-clause-passed g c i s low below e =
+    c.loop-index.invariant.passed i s (omega (arith, low, c.loop-index-test.true)) below e
+
+pub returns-then-index-eq0-clause-ended : goal.returns-then-index-eq0-clause-ended
+returns-then-index-eq0-clause-ended g c some = elim c.then-index-eq0.branch [
+  | then-index-eq0-via-then-index-eq0 w ↦ absurd (omega (arith, some, w.if-index-eq0.true))
+  | then-index-eq0-via-else-index-eq0+then-not-passes_on w ↦
+      subst
+      (λ (o : Option Span). IfSome o (λ s. passes_on c.args.raise s ≡ false))
+      (sym (here g ((goal.at.returns-then-index-eq0-clause-ended g c).After-max-high)))
+      (sym w.passes_on.ensures ∙ w.if-not-passes_on.true)
+]
+
+pub returns-then-index-eq0-clause-high : goal.returns-then-index-eq0-clause-high
+returns-then-index-eq0-clause-high g c = high g ((goal.at.returns-then-index-eq0-clause-high g c).After-max-high)
+
+pub loop-index-preserved : goal.loop-index-preserved
+loop-index-preserved g c =
+    let b = (goal.at.loop-index-preserved g c).After-max-high in
+    record {
+      some = omega (arith, c.if-index-eq0.false);
+      spans = done g b;
+      room = c.set.ensures.room ∙ c.loop-index.invariant.room;
+      laps = c.set.ensures.laps ∙ c.loop-index.invariant.laps;
+      passed = PassOn-next c.args.raise (spans g b) (k g b) c.args.from c.at-span.result (here g b) (sym c.passes_on.ensures ∙ c.if-not-passes_on.false)
+          (λ i s low. c.loop-index.invariant.passed i s (omega (arith, low)));
+      high = high g b;
+      steps = omega (arith, c.at-span.ensures.one_step, c.set.ensures.one_step, c.loop-index.invariant.steps, c.loop-index-test.true);
+    }
