@@ -333,7 +333,8 @@ fn passed_before<T: SpareTable>(
 /// anything up to the last end. The span does not cover what is due, so such a time exists.
 ///
 /// Inside a span nothing more is due, so only starts, and the last end, are tried. Where all times
-/// of a page leave room, its spans are passed.
+/// of a page leave room, its spans are passed. It stands apart, so that its loop keeps its numbers
+/// in registers.
 #[inline(never)]
 fn first_short_start<T: SpareTable, L: Ledger>(
     table: &T,

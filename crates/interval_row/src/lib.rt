@@ -28,3 +28,4 @@ pub use shelf::Shelf;
 pub use span_table::{ChainTable, RowTable, Table};
 pub use store::Store;
 pub use table::{Front, SpareTable, Spot};
+pub use walk_back::{Followed, PageWalk, Walk};

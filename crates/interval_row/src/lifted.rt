@@ -75,6 +75,7 @@ impl<S: Shelf> Store for Lifted<S> {
         self.shelf.set(index, lowered_by(lift, span), steps);
     }
 
+    // It stands apart, so that its loop keeps its numbers in registers.
     #[inline(never)]
     fn follow_spans<L: Ledger>(&mut self, from: Walk, page: u64, steps: &mut Steps<L>) -> Followed {
         let index = index_of_page(page);
@@ -126,8 +127,8 @@ impl<S: Shelf> Store for Lifted<S> {
     }
 }
 
-/// Pages follow in a walk back as `pass_pages` says, down to the page `low`, which is of the same lap
-/// as the last of them: their lifts stand side by side.
+/// Pages follow in a walk back as `pass_pages` says, down to the page `low`, where their lifts stand
+/// side by side.
 #[inline(always)]
 fn pass_run<S: Shelf>(shelf: &mut S, low: u64, from: PageWalk) -> PageWalk
     requires pages { AreInPages
@@ -174,8 +175,8 @@ fn pass_run<S: Shelf>(shelf: &mut S, low: u64, from: PageWalk) -> PageWalk
     }
 }
 
-/// The most capacity that a span may have to pass on what it is repaid as a whole: then it has none
-/// to give, before and after.
+/// A capacity so low that a span with no more passes on what it is repaid as a whole: then it has
+/// none to give, before and after.
 fn most_to_pass_on(more: i64) -> i64
     ensures before { result ≤ℤ pos 0 }
     ensures after { (result +ℤ more) ≤ℤ pos 0 }

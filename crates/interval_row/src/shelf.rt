@@ -15,7 +15,7 @@ use std::alloc::Global;
 use std::sync::ledger::Ledger;
 
 /// Spans in order, each found by how many stand before it, with room for at most 2^20, and laps of
-/// marks and lifts, whose numbers mean nothing here. Only `with_room` takes memory, and no call but
+/// marks and lifts, of which only `pass_back` asks what they say. Only `with_room` takes memory, and no call but
 /// it refuses.
 pub trait Shelf: Drop {
     /// The spans in order.
@@ -57,7 +57,7 @@ pub trait Shelf: Drop {
         ensures one_step { steps.new ≡ steps.old + 1 };
 
     /// Gives the spans before an index, the last first, so much more capacity each, up to the first
-    /// that does not pass it on. Two steps each.
+    /// that does not pass it on, which gets it too. Two steps each.
     fn raise_back<L: Ledger>(&mut self, from: u32, raise: Raise, steps: &mut Steps<L>) -> Raised
         requires some { 1 ≤ from }
         requires within { from ≤ length (spans self.old) }
@@ -121,23 +121,28 @@ pub trait Shelf: Drop {
         ensures { slice_get (laps self.now).lifts index ≡ Some result };
 
     /// Passes the lifts before an index and from `first` on, the last first: those in whose pages a
-    /// span ends get so much more, up to the first of them that is above the limit.
+    /// span ends get so much more, until one of these is above the limit, which stays.
     fn pass_back(&mut self, first: u32, end: u32, pass: Pass) -> Passed
         requires rising { first ≤ end }
         requires within { end ≤ LAP }
         ensures lifts { laps self.new ≡ record (laps self.old) {
           lifts = lifts_passed
-              pass.more (laps self.old).marks result.index (end - result.index) (laps self.old).lifts;
+              pass.more
+              (laps self.old).marks
+              result.index
+              (end - result.index)
+              (laps self.old).lifts;
         } }
         ensures first { first ≤ result.index }
         ensures last { result.index ≤ end }
         ensures passed { (i : ℕ) → (mark : Mark) → (lift : Lift) → result.index ≤ i → i < end
-            → slice_get (laps self.old).marks i ≡ Some mark → slice_get (laps self.old).lifts i ≡ Some lift
+            → slice_get (laps self.old).marks i ≡ Some mark
+            → slice_get (laps self.old).lifts i ≡ Some lift
             → 1 ≤ mark.count → lift.high ≤ℤ pass.limit }
-        ensures ended { first < result.index → IfSome (slice_get (laps self.old).marks (result.index - 1))
-            (λ mark. 1 ≤ mark.count) }
-        ensures above { first < result.index → IfSome (slice_get (laps self.old).lifts (result.index - 1))
-            (λ lift. pass.limit <ℤ lift.high) }
+        ensures ended { first < result.index
+            → IfSome (slice_get (laps self.old).marks (result.index - 1)) (λ mark. 1 ≤ mark.count) }
+        ensures above { first < result.index
+            → IfSome (slice_get (laps self.old).lifts (result.index - 1)) (λ lift. pass.limit <ℤ lift.high) }
         ensures count { result.count
             ≡ spans_ending (laps self.old).marks result.index (end - result.index) }
         ensures spans { spans self.new ≡ spans self.old }

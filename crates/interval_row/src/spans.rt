@@ -2,7 +2,7 @@
 
 ghost use Rattle.std.specs.Int.{w64};
 ghost use Rattle.std.specs.Prelude.{◌≡◌, ◌+◌, ◌≤◌, ◌<◌, ◌^◌, FitsSigned, pos, neg_ℤ, ◌+ℤ◌, ◌-ℤ◌, ◌≤ℤ◌};
-ghost use Rattle.spare_capacity.specs.Lending.{raised, repaid};
+ghost use Rattle.spare_capacity.specs.Lending.{repaid};
 ghost use Rattle.spare_capacity.specs.Recurrence.{last_end, with_spare};
 ghost use Rattle.spare_capacity.specs.Refill.{IsShort};
 ghost use Rattle.interval_row.specs.Changes.{part_before, part_from, shifted};
@@ -57,17 +57,6 @@ fn raised(span: Span, slots: u64) -> Span
 {
     Span {
         spare: span.spare + slots as i64,
-        ..span
-    }
-}
-
-/// The span with so much more capacity.
-pub(crate) fn raised_by(span: Span, more: i64) -> Span
-    requires { FitsSigned w64 (span.spare +ℤ more) }
-    ensures { result ≡ raised more span }
-{
-    Span {
-        spare: span.spare + more,
         ..span
     }
 }

@@ -20,9 +20,9 @@ use std::alloc::Global;
 use std::sync::ledger::Ledger;
 
 /// Spans in order, each found by how many stand before it, with room for at most 2^20, and a lap of
-/// marks, whose numbers are the table's. The capacities of all spans that end in the pages of a
-/// mark can be told of and raised at once. Only `with_room` takes memory, and no call but it
-/// refuses.
+/// marks, whose numbers are the table's. A walk back goes by whole pages whose spans have no
+/// capacity, and takes the count of a mark for that of the spans that end in its page. Only
+/// `with_room` takes memory, and no call but it refuses.
 pub trait Store: Drop {
     /// The spans in order.
     ghost spans: { Self → List Span };
@@ -62,8 +62,8 @@ pub trait Store: Drop {
         ensures marks { marks self.new ≡ marks self.old }
         ensures one_step { steps.new ≡ steps.old + 1 };
 
-    /// The last spans that are yet to follow in a walk back do: those that end in the page, one by
-    /// one, as long as something is repaid. Two steps each.
+    /// The last spans that are yet to follow in a walk back do: those that end in the page, as long
+    /// as something is repaid. Two steps each.
     fn follow_spans<L: Ledger>(&mut self, from: Walk, page: u64, steps: &mut Steps<L>) -> Followed
         requires near { page * PAGE < 2 ^ 64 }
         requires some { ends_before (page * PAGE) (spans self.old) < from.index }
@@ -74,6 +74,7 @@ pub trait Store: Drop {
         ensures place { (result.walk.more ≡ pos 0 → ⊥)
             → result.walk.index ≡ ends_before (page * PAGE) (spans self.new) }
         ensures before { result.walk.index < from.index }
+        ensures reached { ends_before (page * PAGE) (spans self.old) ≤ result.walk.index }
         ensures start { IfSome (slice_get (spans self.new) result.walk.index)
             (λ s. s.start ≡ result.start) }
         ensures high { AreUpTo result.high
@@ -120,8 +121,8 @@ pub trait Store: Drop {
         ensures room { room self.new ≡ room self.old }
         ensures marks { marks self.new ≡ slice_set (marks self.old) index mark };
 
-    /// No capacity of the spans that end in the pages of this mark is above this number, which may
-    /// spare later walks the reading of them.
+    /// It is told that no capacity of the spans that end in the pages of this mark is above this
+    /// number, which may spare later walks the reading of them.
     fn set_high(&mut self, index: u32, high: i64)
         requires index { index < LAP }
         requires below { AreAtMost index high (spans self.old) }
@@ -129,8 +130,9 @@ pub trait Store: Drop {
         ensures room { room self.new ≡ room self.old }
         ensures marks { marks self.new ≡ marks self.old };
 
-    /// Pages follow in a walk back, the last first, as long as the spans of a page have no capacity,
-    /// before and after: all of these at once, without a step.
+    /// Pages follow in a walk back, the last first, without a step: those in which no span ends, and
+    /// such as are known to have no capacity, before and after. It ends at a page in which a span
+    /// ends, or at the first page.
     fn pass_pages(&mut self, first_page: u64, from: PageWalk) -> PageWalk
         requires pages { AreInPages (after_walk from.walk (spans self.old)) (marks self.old) }
         requires first { first_page

@@ -22,7 +22,7 @@ pub struct Walk {
     pub more: i64,
 }
 
-/// The walk from spans on that have followed, of which the first starts there.
+/// The walk from spans on that have followed, of which the first starts at `start`.
 #[derive(Clone, Copy)]
 pub struct Followed {
     pub walk: Walk,
@@ -31,8 +31,8 @@ pub struct Followed {
     pub high: i64,
 }
 
-/// A walk that has come back to the start of a page: the spans that end in this page and in all
-/// later ones have followed.
+/// A walk at the start of a page: as long as something is repaid, the spans that end in this page
+/// and in all later ones have followed.
 #[derive(Clone, Copy)]
 pub struct PageWalk {
     pub page: u64,
@@ -65,8 +65,8 @@ pub(crate) fn follow_all<S: Store, L: Ledger>(
     }
 }
 
-/// From a span on that has followed, and starts there, those before it do that end in the same page,
-/// as long as something is repaid. Two steps each.
+/// From a span on that has followed, and starts there, those before it do that end in the same
+/// page, as long as something is repaid. Two steps each.
 pub(crate) fn follow_rest<S: Store, L: Ledger>(
     store: &mut S,
     from: Walk,
@@ -92,8 +92,9 @@ pub(crate) fn follow_rest<S: Store, L: Ledger>(
     store.follow_spans(from, page, steps).walk
 }
 
-/// The spans of a page follow one by one, two steps each, as long as something is repaid. Where all
-/// of them have, the bound that is put is the greatest of their capacities.
+/// The spans of a page follow, two steps each, as long as something is repaid. Where all of them
+/// have, and something is repaid to those before, the bound that is put is the greatest of their
+/// capacities.
 fn follow_page<S: Store, L: Ledger>(
     store: &mut S,
     page: u64,

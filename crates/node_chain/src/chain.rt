@@ -176,7 +176,7 @@ impl Chain {
     }
 
     /// Gives the spans before an index, the last first, so much more capacity each, up to the first
-    /// that does not pass it on. Two steps each.
+    /// that does not pass it on, which gets it too. Two steps each.
     #[inline(always)]
     pub fn raise_back<L: Ledger>(&mut self, from: u32, raise: Raise, steps: &mut Steps<L>) -> Raised
         requires some { 1 ≤ from }
@@ -319,7 +319,7 @@ impl Chain {
     }
 
     /// Passes the lifts before an index and from `first` on, the last first: those in whose pages a
-    /// span ends get so much more, up to the first of them that is above the limit.
+    /// span ends get so much more, until one of these is above the limit, which stays.
     #[inline(always)]
     pub fn pass_back(&mut self, first: u32, end: u32, pass: Pass) -> Passed
         requires rising { first ≤ end }
@@ -331,12 +331,13 @@ impl Chain {
         ensures first { first ≤ result.index }
         ensures last { result.index ≤ end }
         ensures passed { (i : ℕ) → (mark : Mark) → (lift : Lift) → result.index ≤ i → i < end
-            → slice_get self.old.laps.marks i ≡ Some mark → slice_get self.old.laps.lifts i ≡ Some lift
+            → slice_get self.old.laps.marks i ≡ Some mark
+            → slice_get self.old.laps.lifts i ≡ Some lift
             → 1 ≤ mark.count → lift.high ≤ℤ pass.limit }
-        ensures ended { first < result.index → IfSome (slice_get self.old.laps.marks (result.index - 1))
-            (λ mark. 1 ≤ mark.count) }
-        ensures above { first < result.index → IfSome (slice_get self.old.laps.lifts (result.index - 1))
-            (λ lift. pass.limit <ℤ lift.high) }
+        ensures ended { first < result.index
+            → IfSome (slice_get self.old.laps.marks (result.index - 1)) (λ mark. 1 ≤ mark.count) }
+        ensures above { first < result.index
+            → IfSome (slice_get self.old.laps.lifts (result.index - 1)) (λ lift. pass.limit <ℤ lift.high) }
         ensures count { result.count
             ≡ spans_ending self.old.laps.marks result.index (end - result.index) }
         ensures pairs { self.new.pairs ≡ self.old.pairs }

@@ -4,8 +4,8 @@
 //! names the next. Place 0 holds no span: it stands before the first node and after the last, so
 //! that the ends need no case of their own. The block has the links of all nodes side by side, then
 //! their spans. Beside the block a chain keeps the ids of its spans in order, so that a span is
-//! found by how many stand before it, without a walk, and marks and lifts: plain numbers for
-//! whoever keeps a chain. Four functions of `raw` hold pointers; all else is plain code over a row
+//! found by how many stand before it, without a walk, and marks and lifts: numbers about pages of
+//! time for whoever keeps a chain. Four functions of `raw` hold pointers; all else is plain code over a row
 //! of words, a list of nodes and a list of ids.
 #![tactic(auto)]
 

@@ -15,7 +15,7 @@ use std::marker::Model;
 pub const LAP: u32 = 512;
 
 /// Plain numbers about the pages of time that share an index. What they mean is up to whoever puts
-/// them; here is what a table of spans puts.
+/// them, but that `pass_back` goes by `count`; here is what a table of spans puts.
 #[derive(Clone, Copy)]
 pub struct Mark {
     /// How many spans end in the pages.
@@ -27,8 +27,8 @@ pub struct Mark {
     pub low: u64,
 }
 
-/// Two plain numbers more about these pages. What they mean is up to whoever puts them; here is
-/// what a table of spans puts.
+/// Two plain numbers more about these pages. What they mean is up to whoever puts them, but that
+/// `pass_back` goes by `high` and changes both; here is what a table of spans puts.
 #[derive(Clone, Copy)]
 pub struct Lift {
     /// No capacity of the spans that end in the pages is above this.
@@ -37,7 +37,8 @@ pub struct Lift {
     pub add: i64,
 }
 
-/// How lifts are passed, the last first: each gets so much more, as long as none is above a limit.
+/// How lifts are passed, the last first: each in whose pages a span ends gets so much more, until
+/// one of these is above the limit.
 #[derive(Clone, Copy)]
 pub struct Pass {
     /// In slots, below 0 where each gets less. The sums wrap round.
@@ -126,7 +127,7 @@ impl Marks {
     }
 
     /// Passes the lifts before an index and from `first` on, the last first: those in whose pages a
-    /// span ends get so much more, up to the first of them that is above the limit.
+    /// span ends get so much more, until one of these is above the limit, which stays.
     pub fn pass_back(&mut self, first: u32, end: u32, pass: Pass) -> Passed
         requires rising { first ≤ end }
         requires within { end ≤ LAP }
