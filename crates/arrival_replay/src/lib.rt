@@ -11,15 +11,17 @@ ghost use Rattle.slot_core.specs.Calls.Counts.{Rose};
 ghost use Rattle.slot_core.specs.Keeping.Executives.{Does, Shows, StandsFor};
 ghost use Rattle.slot_core.specs.Runs.Histories.{History};
 ghost use Rattle.slot_core.specs.Keeping.Plans.{IsPlan};
-ghost use Rattle.slot_core.specs.Output.Texts.{entry_line, trace_text};
+ghost use Rattle.slot_core.specs.Output.Texts.{entry_line, spans_text, trace_text};
 ghost use Rattle.slot_core.specs.Runs.Traces.{arrive, end_entry, history_of, shown_entry, slot, trace};
 ghost use Rattle.slot_io.specs.Sinks.{AppendsPart};
 ghost use Rattle.trace_text.specs.Takers.{AppendsBroken};
 ghost use Rattle.arrival_replay.specs.Replays.{due_arrival, entry_of, is_on_the_way, may_change_spans, next_occurrence, BreaksOff, IsStopped, StandsBefore};
 
 mod silent;
+mod teller;
 
 use crate::silent::Silent;
+use crate::teller::{Each, Teller};
 use interval_row::SpareTable;
 use slot_core::{
     Arrival, Done, Entry, Event, Failed, Firm, Gone, Ran, Shown, Spo, Steps, Taker, What,
@@ -64,9 +66,7 @@ pub fn drive<T: SpareTable, W: Taker>(
     ensures counted { W.faults taker.old ≤ W.faults taker.new }
     ensures failed { OnErr result (Rose (W.faults taker.old) (W.faults taker.new)) }
 {
-    let place = arrivals.len();
-    go_to::<T, W, Brand>(exec, arrivals, slots, place, taker, Blank::new(1))?;
-    end(exec, slots, taker)
+    tell_all(exec, arrivals, slots, &mut Each { taker })
 }
 
 /// Brings an executive that has just started to where the arrival of this row, counted from 1,
@@ -127,7 +127,40 @@ pub fn replay<T: SpareTable, K: Sink>(
     ensures counted { K.faults out.old ≤ K.faults out.new }
     ensures failed { OnErr result (Rose (K.faults out.old) (K.faults out.new)) }
 {
-    drive(exec, arrivals, slots, &mut TextTaker::over(out))
+    tell_all(exec, arrivals, slots, &mut TextTaker::over(out))
+}
+
+/// `drive`, with a taker that is told where spans stay.
+fn tell_all<T: SpareTable, W: Teller>(
+    exec: &mut Exec<T>,
+    arrivals: &[Arrival],
+    slots: u64,
+    taker: &mut W,
+) -> Result<(), Failed>
+    requires started { StandsFor exec.old [] }
+    requires some { 1 ≤ slots }
+    requires few { slots ≤ REPLAY_LIMIT }
+    requires fitting { are_fitting exec.old.plan.tasks slots arrivals.now ≡ true }
+    ensures took { OnOk result (W.took
+        exec.old.plan.tasks
+        taker.old
+        taker.new
+        (trace exec.old.plan.tasks arrivals.now slots)) }
+    ensures stands { OnOk result (StandsFor
+        exec.new
+        (history_of (trace exec.old.plan.tasks arrivals.now slots))) }
+    ensures time { OnOk result (exec.new.scene.time ≡ slots) }
+    ensures broke { OnErr result (BreaksOff
+        (W.broke exec.old.plan.tasks taker.old taker.new)
+        exec.new
+        (trace exec.old.plan.tasks arrivals.now slots)) }
+    ensures plan { exec.new.plan ≡ exec.old.plan }
+    ensures counted { W.faults taker.old ≤ W.faults taker.new }
+    ensures failed { OnErr result (Rose (W.faults taker.old) (W.faults taker.new)) }
+{
+    let place = arrivals.len();
+    go_to::<T, W, Brand>(exec, arrivals, slots, place, taker, Blank::new(1))?;
+    end(exec, slots, taker)
 }
 
 /// Answers this arrival now, whatever slot it names, and writes the line of its entry to a sink, in
@@ -226,7 +259,7 @@ fn tell_line<T: SpareTable, K: Sink, L: Ledger>(
 
 /// Drives an executive that has just started up to where the arrival at this place comes next, or
 /// where there is none, up to the end. Nobody asks for the steps.
-fn go_to<T: SpareTable, W: Taker, L: Ledger>(
+fn go_to<T: SpareTable, W: Teller, L: Ledger>(
     exec: &mut Exec<T>,
     arrivals: &[Arrival],
     slots: u64,
@@ -259,7 +292,7 @@ fn go_to<T: SpareTable, W: Taker, L: Ledger>(
 {
     let mut steps: Steps<L> = Steps::new(blank);
     let mut entry = entry_at(exec, 0, What::Start, &mut steps);
-    tell(exec, &entry, taker)?;
+    tell(exec, &entry, taker, true)?;
     let mut next = 0;
     while is_on_the_way(exec.now(), arrivals, slots, place, next) {
         let time = exec.now();
@@ -268,8 +301,8 @@ fn go_to<T: SpareTable, W: Taker, L: Ledger>(
             next += 1;
         }
         let what = happen(exec, due, &mut steps);
-        renew(&mut entry, exec, time, what, &mut steps);
-        tell(exec, &entry, taker)?;
+        let read = renew(&mut entry, exec, time, what, &mut steps);
+        tell(exec, &entry, taker, read)?;
     }
     Ok(())
 }
@@ -348,7 +381,7 @@ fn pass<T: SpareTable, L: Ledger>(exec: &mut Exec<T>, steps: &mut Steps<L>) -> W
 }
 
 /// The entry becomes that of what happened at this time. The first spans are read only where they
-/// may have changed.
+/// may have changed: it tells whether they were.
 #[inline(always)]
 fn renew<T: SpareTable, L: Ledger>(
     entry: &mut Entry,
@@ -356,7 +389,8 @@ fn renew<T: SpareTable, L: Ledger>(
     time: u64,
     what: What,
     steps: &mut Steps<L>,
-)
+) -> bool
+    ensures told { result ≡ may_change_spans what }
     ensures what { entry.new.what ≡ what }
     ensures read { may_change_spans what ≡ true → (h : History) → StandsFor exec.now h
         → entry.new ≡ shown_entry exec.now.plan.tasks exec.now.plan.cycle time what h }
@@ -365,9 +399,11 @@ fn renew<T: SpareTable, L: Ledger>(
 {
     entry.time = time;
     entry.what = what;
-    if may_change_spans(what) {
+    let may_change = may_change_spans(what);
+    if may_change {
         read_spans(exec, &mut entry.shown, steps);
     }
+    may_change
 }
 
 /// Whether what happened may have changed the spans: soft work, a refused arrival, and an early end
@@ -395,10 +431,19 @@ fn read_spans<T: SpareTable, L: Ledger>(exec: &Exec<T>, shown: &mut Shown, steps
     *shown = exec.shown(steps);
 }
 
-/// Hands over an entry. This call also tells that the executive has a plan.
+/// Hands over an entry, of which the spans are those of the last one where they were not read anew.
+/// This call also tells that the executive has a plan.
 #[inline(always)]
-fn tell<T: SpareTable, W: Taker>(exec: &Exec<T>, entry: &Entry, taker: &mut W) -> Result<(), Failed>
+fn tell<T: SpareTable, W: Teller>(
+    exec: &Exec<T>,
+    entry: &Entry,
+    taker: &mut W,
+    read: bool,
+) -> Result<(), Failed>
     requires named { what_in_set exec.now.plan.tasks entry.now.what ≡ true }
+    requires kept { read ≡ false → W.keeps
+        taker.old
+        (spans_text entry.now.what entry.now.shown) }
     ensures plan { IsPlan exec.now.plan }
     ensures took { OnOk result (W.took exec.now.plan.tasks taker.old taker.new (entry.now ∷ [])) }
     ensures broke { OnErr result (W.broke
@@ -408,8 +453,13 @@ fn tell<T: SpareTable, W: Taker>(exec: &Exec<T>, entry: &Entry, taker: &mut W) -
         (entry.now ∷ [])) }
     ensures counted { W.faults taker.old ≤ W.faults taker.new }
     ensures failed { OnErr result (Rose (W.faults taker.old) (W.faults taker.new)) }
+    ensures keeps { W.keeps taker.new (spans_text entry.now.what entry.now.shown) }
 {
-    taker.take(entry, exec.tasks())
+    if read {
+        taker.tell_new(entry, exec.tasks())
+    } else {
+        taker.tell_again(entry, exec.tasks())
+    }
 }
 
 /// The entry of what happened at this time, with the first spans after it.

@@ -118,6 +118,16 @@ works-small t (suc i) [] follow = omega arith
 works-small t (suc i) (s ∷ ss) follow =
     omega (arith, follow.3, works-small s.end i ss follow.4, sum_by-cons (λ (q : Span). q.work) s (take i ss))
 
+-- and so is what is due by a time
+pub work_until-small : (t x : ℕ) (spans : List Span) → FollowOn t spans → work_until spans x ≤ length spans * 2 ^ 40
+work_until-small t x [] follow = omega arith
+work_until-small t x (s ∷ ss) follow =
+    let rest = work_until-small s.end x ss follow.4 in
+    elim (cases_lt x s.end) [
+      | inl running ↦ omega (arith, work_until-running s ss x running, rest)
+      | inr ended ↦ omega (arith, work_until-ended s ss x ended, follow.3, rest)
+    ]
+
 -- a span's capacity and the slack before it are the least slack from its end on
 pub least-at : (t i : ℕ) (spans : List Span) (s : Span) → FollowOn t spans → spans ≡ filled spans → slice_get spans i ≡ Some s → IsLeastFrom t spans s.end ((pos (s.start - t) -ℤ pos (works (take i spans))) +ℤ s.spare)
 least-at t i [] s follow full at = absurd (cc at)

@@ -35,7 +35,7 @@ found_from reserve t r needed from until =
     find (exceeds reserve t r needed) (range_with_len from (until - from))
 
 -- a time that is short is found
-pub found-here : (reserve : Reserved) (t r needed at until need room : ℕ) → at < until → need ≡ needed + demand reserve r at → room ≡ at - t → room < need → option_map (evidence_of reserve t r needed) (found_from reserve t r needed at until) ≡ Some (record { until = at; need = need; room = room })
+found-here : (reserve : Reserved) (t r needed at until need room : ℕ) → at < until → need ≡ needed + demand reserve r at → room ≡ at - t → room < need → option_map (evidence_of reserve t r needed) (found_from reserve t r needed at until) ≡ Some (record { until = at; need = need; room = room })
 found-here reserve t r needed at until need room more is there short =
     let passes : exceeds reserve t r needed at ≡ true = lt-ltb (at - t) (needed + demand reserve r at) (omega arith) in
     rw (find-here (exceeds reserve t r needed) at until more passes, is, there) refl
@@ -51,7 +51,7 @@ found-later reserve t r needed at until level after more is fits =
     find-skip (exceeds reserve t r needed) at level.until until (omega arith) (λ x low high. fails-at reserve t r needed at x after low (omega (arith, here)) (is.flat x low high ∙ sym here))
 
 -- where a level holds and there is enough room at the start, no time is short
-pub found-level : (reserve : Reserved) (t r needed at until : ℕ) (level : Level) → t ≤ at → until ≤ level.until → IsLevelFrom reserve r at level → needed + level.demand ≤ at - t → found_from reserve t r needed at until ≡ None
+found-level : (reserve : Reserved) (t r needed at until : ℕ) (level : Level) → t ≤ at → until ≤ level.until → IsLevelFrom reserve r at level → needed + level.demand ≤ at - t → found_from reserve t r needed at until ≡ None
 found-level reserve t r needed at until level after holds is fits =
     find-none (exceeds reserve t r needed) at until (λ x low high.
     let here : demand reserve r at ≡ level.demand = is.flat at (omega arith) (omega arith) in

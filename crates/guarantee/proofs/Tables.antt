@@ -13,7 +13,7 @@ use Rattle.interval_row.specs.Changes.{ends_before}
 use Rattle.interval_row.specs.Tables.{span_at, spans_of_pairs, spot_at, works, IsFront, IsTable}
 use Rattle.guarantee.specs.declared.walk.SpanPlace.{SpanPlace}
 use Rattle.guarantee.specs.Places.{IsPlace, MayPass}
-use Rattle.guarantee.proofs.Places.{end-after, end-before, ends_before-within, spare-small, start-at, start-before, Stands, Stands-at, works-more, works-small}
+use Rattle.guarantee.proofs.Places.{end-after, end-before, ends_before-within, spare-small, start-at, start-before, Stands, Stands-at, works-more, works-small, work_until-small}
 
 -- there are as many spans as pairs
 pub length-spans_of_pairs : (pairs : List (Spot × Span)) → length (spans_of_pairs pairs) ≡ length pairs
@@ -46,6 +46,11 @@ pub place-end : (t limit : ℕ) (pairs : List (Spot × Span)) (place : SpanPlace
 place-end t limit pairs place table is =
     let stands = (IsSeen-place t limit pairs place table is).stands in
     (omega (arith, stands.after, stands.rising), stands.within)
+
+-- what is due by a time in a table is small
+pub due-small : (t limit x : ℕ) (pairs : List (Spot × Span)) → IsTable t pairs limit → work_until (spans_of_pairs pairs) x ≤ 2 ^ 60
+due-small t limit x pairs table =
+    omega (arith, work_until-small t x (spans_of_pairs pairs) table.consecutive, length-spans_of_pairs pairs, table.few, table.small)
 
 -- the place of the next span
 pub IsPlace-later : (pairs : List (Spot × Span)) (place : SpanPlace) (at : Spot) (s : Span) → IsPlace pairs place → spot_at pairs (place.index + 1) ≡ Some at → span_at pairs (place.index + 1) ≡ Some s → IsPlace pairs (record { at = at; index = place.index + 1; span = s; due = place.due + place.span.work })

@@ -15,7 +15,7 @@ ghost use Rattle.guarantee.specs.Offers.{evidence_at, first_short, need_until};
 ghost use Rattle.guarantee.specs.Places.{IsPlace};
 ghost use Rattle.guarantee.specs.Stretches.{exceeds, evidence_of, IsLevelFrom, LeavesAll, LeavesBetween, LeavesFrom, MostBetween, MostFrom, NeedsNone};
 
-use crate::walk::{SpanPlace, after, later, passed, past, place_of};
+use crate::walk::{SpanPlace, after, passed, past, place_of};
 use interval_row::{Front, PAGE, SpareTable};
 use slot_core::{Evidence, Span, Steps};
 use sporadic_reserve::Reserve;
@@ -332,9 +332,7 @@ fn passed_before<T: SpareTable>(
 /// The first time from the end of a span on that is too short, where no sporadic task may need
 /// anything up to the last end. The span does not cover what is due, so such a time exists.
 ///
-/// Inside a span nothing more is due, so only starts, and the last end, are tried. Where all times
-/// of a page leave room, its spans are passed. It stands apart, so that its loop keeps its numbers
-/// in registers.
+/// The table searches for it, with the slots counted from slot 0 on.
 #[inline(never)]
 fn first_short_start<T: SpareTable, L: Ledger>(
     table: &T,
@@ -358,27 +356,15 @@ fn first_short_start<T: SpareTable, L: Ledger>(
     ensures steps { steps.old ≤ steps.new }
     ensures reads_once { steps.new + place.index + 1 ≤ steps.old + length (T.pairs table.now) }
 {
-    let last = table.last_end();
-    let asked = ask.now + ask.slots;
-    let mut place = place;
-    loop {
-        let Some(next) = later(table, place, last, asked, steps) else {
-            return Evidence {
-                until: place.span.end,
-                need: ask.slots + place.due + place.span.work,
-                room: place.span.end - ask.now,
-            };
-        };
-        let need = ask.slots + next.due;
-        let room = next.span.start - ask.now;
-        if room < need {
-            return Evidence {
-                until: next.span.start,
-                need,
-                room,
-            };
-        }
-        place = next;
+    let front = Front {
+        count: place.index,
+        works: place.due,
+    };
+    let short = table.first_short(front, place.span, ask.now + ask.slots, steps);
+    Evidence {
+        until: short.until,
+        need: ask.slots + short.works,
+        room: short.until - ask.now,
     }
 }
 

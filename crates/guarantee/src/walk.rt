@@ -84,39 +84,6 @@ fn place_at<T: SpareTable, L: Ledger>(table: &T, front: Front, steps: &mut Steps
     }
 }
 
-/// The place of a span after one: a later one where the times up to it leave room for what is
-/// asked, all before `until`, else the next. One read, and none exactly after the last.
-#[inline(always)]
-pub(crate) fn later<T: SpareTable, L: Ledger>(
-    table: &T,
-    place: SpanPlace,
-    until: u64,
-    asked: u64,
-    steps: &mut Steps<L>,
-) -> Option<SpanPlace>
-    requires table { IsTable (T.time table.now) (T.pairs table.now) (T.limit table.now) }
-    requires place { IsPlace (T.pairs table.now) place }
-    requires until { until ≤ last_end (T.time table.now) (spans_of_pairs (T.pairs table.now)) }
-    requires some { 1 ≤ asked }
-    requires few { asked ≤ 2 ^ 62 }
-    ensures last { MatchOption result
-        (place.index + 1 ≡ length (T.pairs table.now))
-        (λ later. place.index < later.index) }
-    ensures place { IfSome result (λ later. IsPlace (T.pairs table.now) later) }
-    ensures passed { IfSome result (λ later. MayPass
-        (spans_of_pairs (T.pairs table.now))
-        asked
-        until
-        place.span.end
-        later.span.start) }
-    ensures steps { MatchOption result
-        (steps.new ≡ steps.old)
-        (λ later. steps.new ≡ steps.old + 1) }
-{
-    let front = passed(table, place, until, asked);
-    past(table, place, front, steps)
-}
-
 /// The spans before the first that is not passed: up to its start the times from the end of the
 /// place on leave room for what is asked, all before `until`. Where none is passed, those before
 /// the place. No span is read.

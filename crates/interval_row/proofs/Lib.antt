@@ -4,14 +4,16 @@ pub mod Cycles
 pub mod Ends
 pub mod Fillings
 pub mod Kept
-pub mod Marked
 pub mod Laps
 pub mod LiftedSpans
+pub mod Marked
 pub mod PageWalks
 pub mod PassedPages
 pub mod Places
 pub mod Rooms
 pub mod RunWalks
+pub mod Searching
+pub mod ShortTimes
 pub mod Skips
 pub mod Spots
 pub mod Stores

@@ -1,15 +1,11 @@
 -- What a table keeps its spans in.
-use Rattle.std.specs.Prelude.{ℕ, ◌≤◌, ◌^◌, List, length, map}
+use Rattle.std.specs.Prelude.{ℕ, ◌≤◌, ◌^◌, List, length}
 use Rattle.slot_core.specs.declared.jobs.Span.{Span}
-use Rattle.node_chain.specs.declared.chain.NodeId.{NodeId}
 use Rattle.node_chain.specs.declared.marks.Mark.{Mark}
 use Rattle.node_chain.specs.Laps.{Laps}
 use Rattle.node_chain.specs.Orders.{OrderParts}
+pub use Rattle.node_chain.specs.Searches.{chain_spans}
 use Rattle.interval_row.specs.Marks.{AreTimed}
-
--- the spans of a chain without their ids
-abbrev pub chain_spans : List (NodeId × Span) → List Span
-chain_spans pairs = map (λ (p : NodeId × Span). p.1) pairs
 
 -- what contracts see of a table: the spans, and how many there is room for
 pub record Stored : Type 0 where

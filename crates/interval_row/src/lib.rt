@@ -27,5 +27,5 @@ pub use rows::Rows;
 pub use shelf::Shelf;
 pub use span_table::{ChainTable, RowTable, Table};
 pub use store::Store;
-pub use table::{Front, SpareTable, Spot};
+pub use table::{Front, Short, SpareTable, Spot};
 pub use walk_back::{Followed, PageWalk, Walk};

@@ -16,7 +16,7 @@ use crate::shelf::Shelf;
 use crate::spans;
 use crate::store::Store;
 use crate::walk_back::{Followed, PageWalk, Walk};
-use node_chain::{LAP, Lift, Mark, Pass, Raise};
+use node_chain::{Found, LAP, Lift, Mark, Pass, Raise, Search};
 use slot_core::{Memory, Span, Steps};
 use std::alloc::Global;
 use std::marker::Model;
@@ -68,6 +68,24 @@ impl<S: Shelf> Store for Lifted<S> {
     fn at<L: Ledger>(&self, index: u32, steps: &mut Steps<L>) -> Span {
         let span = self.shelf.at(index, steps);
         lifted_by(self.shelf.lift(mark_index(span.end)), span)
+    }
+
+    #[inline(always)]
+    fn search<L: Ledger>(
+        &self,
+        from: u32,
+        works: u64,
+        search: Search,
+        steps: &mut Steps<L>,
+    ) -> Found {
+        let found = self.shelf.search(from, works, search, steps);
+        let Some(span) = found.span else {
+            return found;
+        };
+        Found {
+            span: Some(lifted_by(self.shelf.lift(mark_index(span.end)), span)),
+            ..found
+        }
     }
 
     fn set<L: Ledger>(&mut self, index: u32, span: Span, steps: &mut Steps<L>) {

@@ -12,9 +12,10 @@ ghost use Rattle.interval_row.specs.Tables.{IsFront};
 
 use crate::marks::{PAGE, mark_at};
 use crate::store::Store;
-use crate::table::Front;
-use node_chain::{LAP, Mark};
-use slot_core::Span;
+use crate::table::{Front, Short};
+use node_chain::{LAP, Mark, Search};
+use slot_core::{Span, Steps};
+use std::sync::ledger::Ledger;
 
 /// The first start and the last end of the spans of a store.
 #[derive(Clone, Copy)]
@@ -74,9 +75,64 @@ pub(crate) fn near<S: Store>(store: &S, times: Times, x: u64) -> Front
     front
 }
 
+/// Some of the first spans, and the page in which those after them are looked at next.
+#[derive(Clone, Copy)]
+struct PageFront {
+    page: u64,
+    front: Front,
+}
+
 /// Passes spans from `span` on, the one after the front, as long as each time leaves room for
 /// `asked` slots beside the works due by then. These count from slot 0. Where none is passed the
-/// same front. No span is read.
+/// same front. The page is the first that is not passed. No span is read.
+fn skip_pages<S: Store>(
+    store: &S,
+    times: Times,
+    front: Front,
+    span: Span,
+    until: u64,
+    asked: u64,
+) -> PageFront
+    requires timed { AreTimed times.start times.end (S.spans store.now) (S.marks store.now) }
+    requires front { IsFront (S.spans store.now) front }
+    requires span { slice_get (S.spans store.now) front.count ≡ Some span }
+    requires until { until ≤ times.end }
+    requires some { 1 ≤ asked }
+    requires few { asked ≤ 2 ^ 62 }
+    ensures front { IsFront (S.spans store.now) result.front }
+    ensures later { front.count ≤ result.front.count }
+    ensures within { result.front.count < length (S.spans store.now) }
+    ensures reached { (later : Span)
+        → slice_get (S.spans store.now) result.front.count ≡ Some later
+        → front.count < result.front.count → later.start < until }
+    ensures leaves { (later : Span)
+        → slice_get (S.spans store.now) result.front.count ≡ Some later
+        → (x : ℕ) → span.end ≤ x → x < later.end
+        → asked + work_until (S.spans store.now) x ≤ x }
+    ensures page { result.page ≤ times.end / PAGE }
+{
+    let first = span.end / PAGE;
+    if span.start / PAGE == first || !tell_pages(times, store.len()) {
+        return PageFront { page: first, front };
+    }
+    let mut passed = front;
+    for page in first..until / PAGE {
+        let mark = mark_at(store, page);
+        if mark.low < asked + passed.works {
+            return PageFront {
+                page,
+                front: passed,
+            };
+        }
+        passed = with_page(passed, mark);
+    }
+    PageFront {
+        page: first.max(until / PAGE),
+        front: passed,
+    }
+}
+
+/// The same, without the page.
 pub(crate) fn skip<S: Store>(
     store: &S,
     times: Times,
@@ -100,16 +156,102 @@ pub(crate) fn skip<S: Store>(
         → (x : ℕ) → span.end ≤ x → x < later.end
         → asked + work_until (S.spans store.now) x ≤ x }
 {
-    if span.start / PAGE == span.end / PAGE || !tell_pages(times, store.len()) {
-        return front;
+    skip_pages(store, times, front, span, until, asked).front
+}
+
+/// The front, and the span after it.
+fn with_span(front: Front, span: Span) -> Front
+    requires count { front.count + 1 < 2 ^ 32 }
+    requires works { front.works + span.work < 2 ^ 64 }
+    ensures { result ≡ record { count = front.count + 1; works = front.works + span.work } }
+{
+    Front {
+        count: front.count + 1,
+        works: front.works + span.work,
     }
-    let mut passed = front;
-    for page in span.end / PAGE..until / PAGE {
-        let mark = mark_at(store, page);
-        if mark.low < asked + passed.works {
-            return passed;
+}
+
+/// The spans before the place where a search goes on from `span`, the one after the front: up to
+/// its start each time from the end of `span` on leaves room for what is asked. No span is read.
+fn onward<S: Store>(store: &S, times: Times, front: Front, span: Span, asked: u64) -> PageFront
+    requires timed { AreTimed times.start times.end (S.spans store.now) (S.marks store.now) }
+    requires front { IsFront (S.spans store.now) front }
+    requires span { slice_get (S.spans store.now) front.count ≡ Some span }
+    requires some { 1 ≤ asked }
+    requires few { asked ≤ 2 ^ 62 }
+    ensures front { IsFront (S.spans store.now) result.front }
+    ensures later { front.count < result.front.count }
+    ensures within { result.front.count ≤ length (S.spans store.now) }
+    ensures leaves { (next : Span)
+        → slice_get (S.spans store.now) result.front.count ≡ Some next
+        → (x : ℕ) → span.end ≤ x → x < next.start
+        → asked + work_until (S.spans store.now) x ≤ x }
+    ensures last { result.front.count ≡ length (S.spans store.now) → span.end ≡ times.end }
+    ensures page { result.page ≤ times.end / PAGE }
+{
+    let passed = skip_pages(store, times, front, span, times.end, asked);
+    if passed.front.count != front.count {
+        return passed;
+    }
+    PageFront {
+        front: with_span(front, span),
+        ..passed
+    }
+}
+
+/// The first time from the end of `span` on, the one after the front, by which not `asked` slots
+/// are left beside what is due; `asked` counts from slot 0. Where there is none, the last end. At
+/// most one step a span after this one. It stands apart, so that its loop keeps its numbers in
+/// registers.
+#[inline(never)]
+pub(crate) fn first_short<S: Store, L: Ledger>(
+    store: &S,
+    times: Times,
+    front: Front,
+    span: Span,
+    asked: u64,
+    steps: &mut Steps<L>,
+) -> Short
+    requires timed { AreTimed times.start times.end (S.spans store.now) (S.marks store.now) }
+    requires front { IsFront (S.spans store.now) front }
+    requires span { slice_get (S.spans store.now) front.count ≡ Some span }
+    requires some { 1 ≤ asked }
+    requires few { asked ≤ 2 ^ 62 }
+    ensures from { span.end ≤ result.until }
+    ensures within { result.until ≤ times.end }
+    ensures works { result.works ≡ work_until (S.spans store.now) result.until }
+    ensures leaves { (x : ℕ) → span.end ≤ x → x < result.until
+        → asked + work_until (S.spans store.now) x ≤ x }
+    ensures short { result.until < times.end → result.until < asked + result.works }
+    ensures steps { steps.old ≤ steps.new }
+    ensures reads_once { steps.new + front.count + 1
+        ≤ steps.old + length (S.spans store.now) }
+{
+    let mut front = front;
+    let mut span = span;
+    loop {
+        let from = onward(store, times, front, span, asked);
+        let search = Search {
+            asked,
+            border: (from.page + 1) * PAGE,
+        };
+        let found = store.search(from.front.count, from.front.works, search, steps);
+        let Some(next) = found.span else {
+            return Short {
+                until: times.end,
+                works: found.works,
+            };
+        };
+        if next.start < asked + found.works {
+            return Short {
+                until: next.start,
+                works: found.works,
+            };
         }
-        passed = with_page(passed, mark);
+        front = Front {
+            count: found.index,
+            works: found.works,
+        };
+        span = next;
     }
-    passed
 }

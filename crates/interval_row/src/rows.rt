@@ -2,14 +2,15 @@
 
 use crate::shelf::Shelf;
 use node_chain::order::Order;
-use node_chain::{Lift, Mark, Marks, Pass, Passed, Raise, Raised};
+use node_chain::{Found, Lift, Mark, Marks, Pass, Passed, Raise, Raised, Search};
 use slot_core::{Memory, Span, Steps};
 use std::alloc::Global;
 use std::marker::Model;
 use std::sync::ledger::Ledger;
 
 /// Spans in a list whose places are reserved once, and laps of marks and lifts. A table
-/// over it answers as every table does, and promises no bound on steps but that of `read`.
+/// over it answers as every table does, and promises no bounds on steps but those of `read` and
+/// `first_short`.
 #[derive(Drop)]
 pub struct Rows {
     spans: Order<Span>,
@@ -53,6 +54,32 @@ impl Shelf for Rows {
     fn at<L: Ledger>(&self, index: u32, steps: &mut Steps<L>) -> Span {
         steps.tick();
         self.spans.at(index)
+    }
+
+    fn search<L: Ledger>(
+        &self,
+        from: u32,
+        works: u64,
+        search: Search,
+        steps: &mut Steps<L>,
+    ) -> Found {
+        let mut works = works;
+        for index in from..self.len() {
+            let span = self.at(index, steps);
+            if span.start < search.asked + works || search.border <= span.end {
+                return Found {
+                    index,
+                    works,
+                    span: Some(span),
+                };
+            }
+            works += span.work;
+        }
+        Found {
+            index: self.len(),
+            works,
+            span: None,
+        }
     }
 
     fn set<L: Ledger>(&mut self, index: u32, span: Span, steps: &mut Steps<L>) {

@@ -1,22 +1,23 @@
 //! What spans and numbers lie in.
 
-ghost use Rattle.std.specs.Prelude.{◌≡◌, ℕ, ◌+◌, ◌-◌, ◌*◌, ◌≤◌, ◌<◌, ◌^◌, ◌≤ℤ◌, ◌<ℤ◌, Bool, true, false, List, [], ◌∷◌, ◌++◌, drop, insert, length, Some, IfOk, IfSome, slice_get, slice_set};
+ghost use Rattle.std.specs.Prelude.{◌≡◌, ℕ, ◌+◌, ◌-◌, ◌*◌, ◌≤◌, ◌<◌, ◌^◌, ◌≤ℤ◌, ◌<ℤ◌, Bool, true, false, List, [], ◌∷◌, ◌++◌, drop, insert, length, Some, IfOk, IfSome, MatchOption, slice_get, slice_set};
 ghost use Rattle.slot_core.specs.declared.jobs.Span.{Span};
 ghost use Rattle.node_chain.specs.Laps.{blank_laps, Laps};
 ghost use Rattle.node_chain.specs.declared.marks.TheConstants.{LAP};
 ghost use Rattle.node_chain.specs.declared.marks.Lift.{Lift};
 ghost use Rattle.node_chain.specs.declared.marks.Mark.{Mark};
 ghost use Rattle.node_chain.specs.Passes.{lifts_passed, spans_ending};
+ghost use Rattle.node_chain.specs.Searches.{works_of_first};
 ghost use Rattle.node_chain.specs.Raises.{lifted_by, map_between, passes_on, spare_after, spare_under};
 
-use node_chain::{Chain, Lift, Mark, Pass, Passed, Raise, Raised};
+use node_chain::{Chain, Found, Lift, Mark, Pass, Passed, Raise, Raised, Search};
 use slot_core::{Memory, Span, Steps};
 use std::alloc::Global;
 use std::sync::ledger::Ledger;
 
 /// Spans in order, each found by how many stand before it, with room for at most 2^20, and laps of
-/// marks and lifts, of which only `pass_back` asks what they say. Only `with_room` takes memory, and no call but
-/// it refuses.
+/// marks and lifts, of which only `pass_back` asks what they say. Only `with_room` takes memory,
+/// and no call but it refuses.
 pub trait Shelf: Drop {
     /// The spans in order.
     ghost spans: { Self → List Span };
@@ -47,6 +48,34 @@ pub trait Shelf: Drop {
         requires { index < length (spans self.now) }
         ensures span { slice_get (spans self.now) index ≡ Some result }
         ensures one_step { steps.new ≡ steps.old + 1 };
+
+    /// Passes spans from an index on, with the works of those before it, up to the first that
+    /// starts too early for what is asked, or ends at the border or later. One step a span that is
+    /// read.
+    fn search<L: Ledger>(
+        &self,
+        from: u32,
+        works: u64,
+        search: Search,
+        steps: &mut Steps<L>,
+    ) -> Found
+        requires within { from ≤ length (spans self.now) }
+        requires works { works ≡ works_of_first from (spans self.now) }
+        requires fits { search.asked
+            + works_of_first (length (spans self.now)) (spans self.now) < 2 ^ 64 }
+        ensures from { from ≤ result.index }
+        ensures works { result.works ≡ works_of_first result.index (spans self.now) }
+        ensures span { result.span ≡ slice_get (spans self.now) result.index }
+        ensures passed { (i : ℕ) → (s : Span) → from ≤ i → i < result.index
+            → slice_get (spans self.now) i ≡ Some s
+            → (search.asked + works_of_first i (spans self.now) ≤ s.start)
+            × (s.end < search.border) }
+        ensures stopped { IfSome result.span (λ s. s.end < search.border
+            → s.start < search.asked + result.works) }
+        ensures end { result.index ≤ length (spans self.now) }
+        ensures steps { MatchOption result.span
+            (steps.new ≡ steps.old + (result.index - from))
+            (λ _. steps.new ≡ steps.old + (result.index - from) + 1) };
 
     /// Puts another span there. One step.
     fn set<L: Ledger>(&mut self, index: u32, span: Span, steps: &mut Steps<L>)
@@ -142,7 +171,8 @@ pub trait Shelf: Drop {
         ensures ended { first < result.index
             → IfSome (slice_get (laps self.old).marks (result.index - 1)) (λ mark. 1 ≤ mark.count) }
         ensures above { first < result.index
-            → IfSome (slice_get (laps self.old).lifts (result.index - 1)) (λ lift. pass.limit <ℤ lift.high) }
+            → IfSome (slice_get (laps self.old).lifts (result.index - 1))
+            (λ lift. pass.limit <ℤ lift.high) }
         ensures count { result.count
             ≡ spans_ending (laps self.old).marks result.index (end - result.index) }
         ensures spans { spans self.new ≡ spans self.old }
@@ -180,6 +210,17 @@ impl Shelf for Chain {
 
     fn at<L: Ledger>(&self, index: u32, steps: &mut Steps<L>) -> Span {
         self.get(self.at(index), steps)
+    }
+
+    #[inline(always)]
+    fn search<L: Ledger>(
+        &self,
+        from: u32,
+        works: u64,
+        search: Search,
+        steps: &mut Steps<L>,
+    ) -> Found {
+        self.search(from, works, search, steps)
     }
 
     fn set<L: Ledger>(&mut self, index: u32, span: Span, steps: &mut Steps<L>) {

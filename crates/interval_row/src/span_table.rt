@@ -12,7 +12,7 @@ use crate::pages::{self, Times};
 use crate::rows::Rows;
 use crate::spans::{self, Change};
 use crate::store::Store;
-use crate::table::{Front, SpareTable, Spot};
+use crate::table::{Front, Short, SpareTable, Spot};
 use crate::{changes, marks};
 use node_chain::Chain;
 use slot_core::{Memory, Span, Steps};
@@ -138,6 +138,16 @@ impl<S: Store> SpareTable for Table<S> {
 
     fn skip(&self, front: Front, span: Span, until: u64, asked: u64) -> Front {
         pages::skip(&self.chain, self.times, front, span, until, asked)
+    }
+
+    fn first_short<L: Ledger>(
+        &self,
+        front: Front,
+        span: Span,
+        asked: u64,
+        steps: &mut Steps<L>,
+    ) -> Short {
+        pages::first_short(&self.chain, self.times, front, span, asked, steps)
     }
 
     fn read<L: Ledger>(&self, at: Spot, steps: &mut Steps<L>) -> Span {

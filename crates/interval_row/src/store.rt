@@ -1,9 +1,10 @@
 //! What a table sees of what it keeps its spans in.
 
-ghost use Rattle.std.specs.Prelude.{◌≡◌, ℕ, ◌+◌, ◌-◌, ◌*◌, ◌≤◌, ◌<◌, ◌^◌, pos, Bool, List, [], ◌∷◌, ◌++◌, drop, insert, length, replicate, take, Some, IfOk, IfSome, slice_get, slice_set};
+ghost use Rattle.std.specs.Prelude.{◌≡◌, ℕ, ◌+◌, ◌-◌, ◌*◌, ◌≤◌, ◌<◌, ◌^◌, pos, Bool, List, [], ◌∷◌, ◌++◌, drop, insert, length, replicate, take, Some, IfOk, IfSome, MatchOption, slice_get, slice_set};
 ghost use Rattle.slot_core.specs.declared.jobs.Span.{Span};
 ghost use Rattle.spare_capacity.specs.Recurrence.{first_start, last_end};
 ghost use Rattle.node_chain.specs.Laps.{blank_mark};
+ghost use Rattle.node_chain.specs.Searches.{works_of_first};
 ghost use Rattle.node_chain.specs.declared.marks.Mark.{Mark};
 ghost use Rattle.node_chain.specs.declared.marks.TheConstants.{LAP};
 ghost use Rattle.interval_row.specs.declared.marks.TheConstants.{PAGE};
@@ -14,7 +15,7 @@ ghost use Rattle.interval_row.specs.Spans.{AreFilled};
 ghost use Rattle.interval_row.specs.Walks.{after_walk, AreInPages, AreUpTo};
 
 use crate::walk_back::{Followed, PageWalk, Walk};
-use node_chain::Mark;
+use node_chain::{Found, Mark, Search};
 use slot_core::{Memory, Span, Steps};
 use std::alloc::Global;
 use std::sync::ledger::Ledger;
@@ -53,6 +54,34 @@ pub trait Store: Drop {
         requires { index < length (spans self.now) }
         ensures span { slice_get (spans self.now) index ≡ Some result }
         ensures one_step { steps.new ≡ steps.old + 1 };
+
+    /// Passes spans from an index on, with the works of those before it, up to the first that
+    /// starts too early for what is asked, or ends at the border or later. One step a span that is
+    /// read.
+    fn search<L: Ledger>(
+        &self,
+        from: u32,
+        works: u64,
+        search: Search,
+        steps: &mut Steps<L>,
+    ) -> Found
+        requires within { from ≤ length (spans self.now) }
+        requires works { works ≡ works_of_first from (spans self.now) }
+        requires fits { search.asked
+            + works_of_first (length (spans self.now)) (spans self.now) < 2 ^ 64 }
+        ensures from { from ≤ result.index }
+        ensures works { result.works ≡ works_of_first result.index (spans self.now) }
+        ensures span { result.span ≡ slice_get (spans self.now) result.index }
+        ensures passed { (i : ℕ) → (s : Span) → from ≤ i → i < result.index
+            → slice_get (spans self.now) i ≡ Some s
+            → (search.asked + works_of_first i (spans self.now) ≤ s.start)
+            × (s.end < search.border) }
+        ensures stopped { IfSome result.span (λ s. s.end < search.border
+            → s.start < search.asked + result.works) }
+        ensures end { result.index ≤ length (spans self.now) }
+        ensures steps { MatchOption result.span
+            (steps.new ≡ steps.old + (result.index - from))
+            (λ _. steps.new ≡ steps.old + (result.index - from) + 1) };
 
     /// Puts another span there. One step.
     fn set<L: Ledger>(&mut self, index: u32, span: Span, steps: &mut Steps<L>)

@@ -25,12 +25,20 @@ pub struct Front {
     pub works: u64,
 }
 
+/// A time by which so much is due that too few slots are left beside it, or the end of the spans.
+#[derive(Clone, Copy, PartialEq, Eq)]
+pub struct Short {
+    pub until: u64,
+    /// What is due by then, in slots.
+    pub works: u64,
+}
+
 /// A table of consecutive spans from a time on, with their capacities by the recurrence. All times,
 /// lengths and works are in slots.
 ///
 /// A table has at least one and at most 2^20 spans. Each is at most 2^40 slots long, with a work of
 /// at most 2^40 slots. Only `with_room` takes memory, and no call but it refuses. The bounds on
-/// steps hold where the table is counted; that `read` takes one step holds for each table.
+/// steps hold where the table is counted; those of `read` and `first_short` hold for each table.
 pub trait SpareTable: Drop {
     /// The slot in which the first span starts.
     ghost time: { Self → ℕ };
@@ -45,7 +53,7 @@ pub trait SpareTable: Drop {
     ghost counted: { Bool };
 
     /// A table at time 0 of so many copies of a plan's spans, one after the other, with room for
-    /// `room` spans, and 20 KB of marks and lifts.
+    /// `room` spans, and 18 KB of marks and lifts.
     fn with_room(alloc: Global, spans: &[Span], copies: u32, room: u32) -> Result<Self, Memory>
         requires plan { ArePlanSpans spans.now }
         requires some { 1 ≤ copies }
@@ -109,6 +117,32 @@ pub trait SpareTable: Drop {
         ensures leaves { (later : Span) → span_at (pairs self.now) result.count ≡ Some later
             → (x : ℕ) → span.end ≤ x → x < later.end
             → asked + work_until (spans_of_pairs (pairs self.now)) x ≤ x };
+
+    /// The first time from the end of `span` on, the one after the front, by which not `asked`
+    /// slots are left beside what is due; `asked` counts from slot 0. Where there is none, the last
+    /// end. At most one step a span after this one.
+    fn first_short<L: Ledger>(
+        &self,
+        front: Front,
+        span: Span,
+        asked: u64,
+        steps: &mut Steps<L>,
+    ) -> Short
+        requires front { IsFront (spans_of_pairs (pairs self.now)) front }
+        requires span { span_at (pairs self.now) front.count ≡ Some span }
+        requires some { 1 ≤ asked }
+        requires few { asked ≤ 2 ^ 62 }
+        ensures from { span.end ≤ result.until }
+        ensures within { result.until ≤ last_end (time self.now) (spans_of_pairs (pairs self.now)) }
+        ensures works { result.works
+            ≡ work_until (spans_of_pairs (pairs self.now)) result.until }
+        ensures leaves { (x : ℕ) → span.end ≤ x → x < result.until
+            → asked + work_until (spans_of_pairs (pairs self.now)) x ≤ x }
+        ensures short { result.until < last_end (time self.now) (spans_of_pairs (pairs self.now))
+            → result.until < asked + result.works }
+        ensures steps { steps.old ≤ steps.new }
+        ensures reads_once { steps.new + front.count + 1
+            ≤ steps.old + length (pairs self.now) };
 
     /// The span at this spot. One step.
     fn read<L: Ledger>(&self, at: Spot, steps: &mut Steps<L>) -> Span

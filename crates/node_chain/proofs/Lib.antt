@@ -13,7 +13,9 @@ pub mod Orders
 pub mod Pairs
 pub mod Parts
 pub mod PassedLifts
+pub mod PassedSpans
 pub mod Rings
+pub mod SideBySide
 pub mod Sizes
 pub mod WalksBack
 pub mod Writes

@@ -1,5 +1,6 @@
 -- What contracts see of the numbers beside spans.
-use Rattle.std.specs.Prelude.{◌^◌, neg_ℤ, pos, List, replicate}
+use Rattle.std.specs.Prelude.{ℕ, ◌^◌, ℤ, neg_ℤ, pos, List, [], ◌∷◌, replicate}
+use Rattle.node_chain.specs.declared.marks.Due.{Due}
 use Rattle.node_chain.specs.declared.marks.Lift.{Lift}
 use Rattle.node_chain.specs.declared.marks.Mark.{Mark}
 use Rattle.node_chain.specs.declared.marks.TheConstants.{LAP}
@@ -20,3 +21,17 @@ blank_lift = record { high = neg_ℤ (pos (2 ^ 63)); add = pos 0 }
 -- laps without numbers
 abbrev pub blank_laps : Laps
 blank_laps = record { marks = replicate LAP blank_mark; lifts = replicate LAP blank_lift }
+
+-- two lists side by side, each item made of one of the first and one of the second
+abbrev pub paired : {X Y Z : Type 0} → (X → Y → Z) → List X → List Y → List Z
+paired f [] ys = []
+paired f (x ∷ xs) [] = []
+paired f (x ∷ xs) (y ∷ ys) = f x y ∷ paired f xs ys
+
+-- the mark with a count, and with what it tells beside
+abbrev pub made_mark : ℕ → Due → Mark
+made_mark count due = record { count = count; works = due.works; low = due.low }
+
+-- the lift of a bound and a sum
+abbrev pub made_lift : ℤ → ℤ → Lift
+made_lift high add = record { high = high; add = add }

@@ -7,4 +7,5 @@ pub mod Ownership
 pub mod Passes
 pub mod Raises
 pub mod Raw
+pub mod Searches
 pub mod Words

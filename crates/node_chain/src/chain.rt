@@ -1,6 +1,6 @@
 //! The chain.
 
-ghost use Rattle.std.specs.Prelude.{◌≡◌, ℕ, ◌+◌, ◌*◌, ◌-◌, ◌≤◌, ◌<◌, ◌^◌, ◌≤ℤ◌, ◌<ℤ◌, [], ◌∷◌, ◌++◌, drop, insert, length, Some, None, IfOk, IfSome, slice_get, slice_set, true, false};
+ghost use Rattle.std.specs.Prelude.{◌≡◌, ℕ, ◌+◌, ◌*◌, ◌-◌, ◌≤◌, ◌<◌, ◌^◌, ◌≤ℤ◌, ◌<ℤ◌, [], ◌∷◌, ◌++◌, drop, insert, length, Some, None, IfOk, IfSome, MatchOption, slice_get, slice_set, true, false};
 ghost use Rattle.slot_core.specs.declared.jobs.Span.{Span};
 ghost use Rattle.node_chain.specs.declared.marks.TheConstants.{LAP};
 ghost use Rattle.node_chain.specs.Chains.{id_at, id_of, span_at, IsChain, IsListed};
@@ -9,12 +9,14 @@ ghost use Rattle.node_chain.specs.declared.marks.Lift.{Lift};
 ghost use Rattle.node_chain.specs.declared.marks.Mark.{Mark};
 ghost use Rattle.node_chain.specs.Passes.{lifts_passed, spans_ending};
 ghost use Rattle.node_chain.specs.Raises.{map_between, pair_lifted_by, passes_on, spare_after, spare_under};
+ghost use Rattle.node_chain.specs.Searches.{chain_spans, works_of_first};
 
 use crate::block::Block;
 use crate::links::{ENDS, join, part, set_next};
 use crate::marks::{Lift, Mark, Marks, Pass, Passed};
 use crate::order::Order;
 use crate::raises::{Raise, Raised};
+use crate::searches::{Found, Search};
 use slot_core::{Memory, Span, Steps};
 use std::alloc::Global;
 use std::marker::Model;
@@ -63,7 +65,7 @@ impl Model for Chain {
 }
 
 impl Chain {
-    /// An empty chain with room for `n` spans, of about 44 bytes each, and 20 KB of marks and lifts
+    /// An empty chain with room for `n` spans, of about 44 bytes each, and 18 KB of marks and lifts
     /// without numbers.
     pub fn with_capacity(alloc: Global, n: u32) -> Result<Chain, Memory>
         requires some { 1 ≤ n }
@@ -217,6 +219,57 @@ impl Chain {
         unreachable!()
     }
 
+    /// Passes spans from an index on, with the works of those before it, up to the first that
+    /// starts too early for what is asked, or ends at the border or later. One step a span that is
+    /// read.
+    #[inline(always)]
+    pub fn search<L: Ledger>(
+        &self,
+        from: u32,
+        works: u64,
+        search: Search,
+        steps: &mut Steps<L>,
+    ) -> Found
+        requires within { from ≤ length self.now.pairs }
+        requires works { works ≡ works_of_first from (chain_spans self.now.pairs) }
+        requires fits { search.asked
+            + works_of_first (length self.now.pairs) (chain_spans self.now.pairs) < 2 ^ 64 }
+        ensures from { from ≤ result.index }
+        ensures works { result.works ≡ works_of_first result.index (chain_spans self.now.pairs) }
+        ensures span { result.span ≡ span_at self.now.pairs result.index }
+        ensures passed { (i : ℕ) → (s : Span) → from ≤ i → i < result.index
+            → span_at self.now.pairs i ≡ Some s
+            → (search.asked + works_of_first i (chain_spans self.now.pairs) ≤ s.start)
+            × (s.end < search.border) }
+        ensures stopped { IfSome result.span (λ s. s.end < search.border
+            → s.start < search.asked + result.works) }
+        ensures end { result.index ≤ length self.now.pairs }
+        ensures steps { MatchOption result.span
+            (steps.new ≡ steps.old + (result.index - from))
+            (λ _. steps.new ≡ steps.old + (result.index - from) + 1) }
+    {
+        let ids = self.ids.items();
+        let mut works = works;
+        for index in from as usize..ids.len() {
+            let NodeId(place) = ids[index];
+            steps.tick();
+            let span = self.block.node(place).span;
+            if span.start < search.asked + works || search.border <= span.end {
+                return Found {
+                    index: index as u32,
+                    works,
+                    span: Some(span),
+                };
+            }
+            works += span.work;
+        }
+        Found {
+            index: self.len,
+            works,
+            span: None,
+        }
+    }
+
     /// Inserts a span before the one of this id, and returns its id, which no span in the chain
     /// had. Three steps.
     pub fn insert_before<L: Ledger>(
@@ -337,7 +390,8 @@ impl Chain {
         ensures ended { first < result.index
             → IfSome (slice_get self.old.laps.marks (result.index - 1)) (λ mark. 1 ≤ mark.count) }
         ensures above { first < result.index
-            → IfSome (slice_get self.old.laps.lifts (result.index - 1)) (λ lift. pass.limit <ℤ lift.high) }
+            → IfSome (slice_get self.old.laps.lifts (result.index - 1))
+            (λ lift. pass.limit <ℤ lift.high) }
         ensures count { result.count
             ≡ spans_ending self.old.laps.marks result.index (end - result.index) }
         ensures pairs { self.new.pairs ≡ self.old.pairs }

@@ -5,7 +5,7 @@ ghost use Rattle.node_chain.specs.declared.marks.Lift.{Lift};
 ghost use Rattle.node_chain.specs.declared.marks.Mark.{Mark};
 ghost use Rattle.node_chain.specs.declared.marks.TheConstants.{LAP};
 ghost use Rattle.node_chain.specs.Laps.{blank_laps};
-ghost use Rattle.node_chain.specs.Passes.{lift_raised, lifts_passed, spans_ending};
+ghost use Rattle.node_chain.specs.Passes.{lifts_passed, spans_ending};
 
 use slot_core::Memory;
 use std::alloc::Global;
@@ -55,23 +55,39 @@ pub struct Passed {
     pub count: u64,
 }
 
-/// A lap of marks and a lap of lifts, each found by its index.
+/// What a mark tells beside its count.
+#[derive(Clone, Copy)]
+struct Due {
+    /// How many slots are due, as in the mark.
+    works: u64,
+    /// The bound of the mark.
+    low: u64,
+}
+
+/// A lap of marks and a lap of lifts, each found by its index. Each kind of number lies in a list of
+/// its own, so that a walk over many pages takes one index for all.
 #[derive(Drop)]
 pub struct Marks {
-    marks: Vec<Mark>,
-    lifts: Vec<Lift>,
+    counts: Vec<u32>,
+    dues: Vec<Due>,
+    highs: Vec<i64>,
+    adds: Vec<i64>,
 }
 
 impl Model for Marks {
     ghost use Rattle.std.specs.Prelude.{◌≡◌, length};
-    ghost use Rattle.node_chain.specs.Laps.{Laps};
+    ghost use Rattle.node_chain.specs.Laps.{Laps, paired, made_lift, made_mark};
     ghost use Rattle.node_chain.specs.declared.marks.TheConstants.{LAP};
 
     ghost Value = { Laps };
 
-    ghost view = { λ m. record { marks = m.marks.items; lifts = m.lifts.items } };
+    ghost view = { λ m. record {
+      marks = paired made_mark m.counts.items m.dues.items;
+      lifts = paired made_lift m.highs.items m.adds.items;
+    } };
 
-    ghost invariant = { λ m. (length m.marks.items ≡ LAP) × (length m.lifts.items ≡ LAP) };
+    ghost invariant = { λ m. (length m.counts.items ≡ LAP) × (length m.dues.items ≡ LAP)
+        × (length m.highs.items ≡ LAP) × (length m.adds.items ≡ LAP) };
 }
 
 impl Marks {
@@ -79,18 +95,12 @@ impl Marks {
     pub fn new(alloc: Global) -> Result<Marks, Memory>
         ensures { IfOk result (λ made. made ≡ blank_laps) }
     {
-        let mark = Mark {
-            count: 0,
-            works: 0,
-            low: 0,
-        };
-        let lift = Lift {
-            high: i64::MIN,
-            add: 0,
-        };
+        let due = Due { works: 0, low: 0 };
         Ok(Marks {
-            marks: vec![in alloc; mark; LAP as usize]?,
-            lifts: vec![in alloc; lift; LAP as usize]?,
+            counts: vec![in alloc; 0; LAP as usize]?,
+            dues: vec![in alloc; due; LAP as usize]?,
+            highs: vec![in alloc; i64::MIN; LAP as usize]?,
+            adds: vec![in alloc; 0; LAP as usize]?,
         })
     }
 
@@ -99,7 +109,12 @@ impl Marks {
         requires { index < LAP }
         ensures { slice_get self.now.marks index ≡ Some result }
     {
-        self.marks[index as usize]
+        let due = self.dues[index as usize];
+        Mark {
+            count: self.counts[index as usize],
+            works: due.works,
+            low: due.low,
+        }
     }
 
     /// Puts another mark at an index.
@@ -107,7 +122,11 @@ impl Marks {
         requires { index < LAP }
         ensures { self.new ≡ record self.old { marks = slice_set self.old.marks index mark } }
     {
-        self.marks[index as usize] = mark;
+        self.counts[index as usize] = mark.count;
+        self.dues[index as usize] = Due {
+            works: mark.works,
+            low: mark.low,
+        };
     }
 
     /// The lift at an index.
@@ -115,7 +134,10 @@ impl Marks {
         requires { index < LAP }
         ensures { slice_get self.now.lifts index ≡ Some result }
     {
-        self.lifts[index as usize]
+        Lift {
+            high: self.highs[index as usize],
+            add: self.adds[index as usize],
+        }
     }
 
     /// Puts another lift at an index.
@@ -123,7 +145,8 @@ impl Marks {
         requires { index < LAP }
         ensures { self.new ≡ record self.old { lifts = slice_set self.old.lifts index lift } }
     {
-        self.lifts[index as usize] = lift;
+        self.highs[index as usize] = lift.high;
+        self.adds[index as usize] = lift.add;
     }
 
     /// Passes the lifts before an index and from `first` on, the last first: those in whose pages a
@@ -147,19 +170,21 @@ impl Marks {
         ensures count { result.count
             ≡ spans_ending self.old.marks result.index (end - result.index) }
     {
-        let marks = &self.marks.as_slice()[first as usize..end as usize];
-        let lifts = &mut self.lifts.as_mut_slice()[first as usize..end as usize];
+        let counts = &self.counts.as_slice()[first as usize..end as usize];
+        let highs = &mut self.highs.as_mut_slice()[first as usize..end as usize];
+        let adds = &mut self.adds.as_mut_slice()[first as usize..end as usize];
         let mut count = 0;
-        for left in (0..marks.len()).rev() {
-            let spans = marks[left].count;
+        for left in (0..counts.len()).rev() {
+            let spans = counts[left];
             if spans != 0 {
-                if pass.limit < lifts[left].high {
+                if pass.limit < highs[left] {
                     return Passed {
                         index: first + left as u32 + 1,
                         count,
                     };
                 }
-                lifts[left] = raised(lifts[left], pass.more);
+                highs[left] = highs[left].wrapping_add(pass.more);
+                adds[left] = adds[left].wrapping_add(pass.more);
                 count += u64::from(spans);
             }
         }
@@ -167,15 +192,5 @@ impl Marks {
             index: first,
             count,
         }
-    }
-}
-
-/// The lift with so much more, sums that wrap round.
-fn raised(lift: Lift, more: i64) -> Lift
-    ensures { result ≡ lift_raised more lift }
-{
-    Lift {
-        high: lift.high.wrapping_add(more),
-        add: lift.add.wrapping_add(more),
     }
 }

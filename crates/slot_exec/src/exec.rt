@@ -35,7 +35,7 @@ use crate::ends::end_early;
 use crate::offers::{admit, answer_offer, offered};
 use crate::rooms::{Remembered, after_slot, due_told, due_with, free_beside};
 use crate::runs::{choose, run};
-use crate::shown::{first_spans, spot_of};
+use crate::shown::first_spans;
 use crate::sporadic_arrivals::{arriving_job, take_arrival};
 use crate::withdrawals::take_back;
 use circular_buffer::HeapCircularBuffer;
@@ -199,7 +199,7 @@ impl<T: SpareTable> Exec<T> {
     }
 
     /// The span at this place, with its work and its spare capacity, as it is at each history for
-    /// which the executive stands. One step; the spans before it are passed without reading them.
+    /// which the executive stands. One step: no other span is read.
     pub fn span<L: Ledger>(&self, i: u32, steps: &mut Steps<L>) -> Span
         requires { i < length self.now.scene.points }
         ensures span { slice_get (spans_of self.now.plan.cycle self.now.scene) i ≡ Some result }
@@ -209,7 +209,7 @@ impl<T: SpareTable> Exec<T> {
             ≡ Some result }
         ensures one_step { steps.new ≡ steps.old + 1 }
     {
-        self.table.read(spot_of(&self.table, i), steps)
+        self.table.read(self.table.spot(i), steps)
     }
 
     /// The first spans, as many as an entry shows, or all where there are fewer. One step each.

@@ -1,9 +1,11 @@
 -- What a taker that writes lines does to the bytes of its sink.
-use Rattle.std.specs.Prelude.{◌≡◌, ℕ, List, [], ◌∷◌, ◌++◌, take, Option}
+use Rattle.std.specs.Prelude.{◌≡◌, ℕ, ◌≤◌, ◌+◌, List, [], ◌∷◌, ◌++◌, drop, length, take, Option}
 use Rattle.std.specs.Io.KnownBytes.{Appends}
 use Rattle.slot_core.specs.declared.events.Entry.{Entry}
 use Rattle.slot_core.specs.declared.tasks.TaskSet.{TaskSet}
 use Rattle.slot_core.specs.Output.Texts.{entry_line, trace_text}
+use Rattle.trace_text.specs.declared.TheConstants.{LINE_LIMIT, SPANS_LIMIT}
+use Rattle.trace_text.specs.declared.line.TheConstants.{COPY_SIZE}
 
 -- known bytes grow by the lines of the entries before a last one, and by a part of its line from
 -- the front
@@ -14,3 +16,9 @@ pub record AppendsBroken
   pub all : entries ≡ front ++ last ∷ []
   pub part : ℕ
   pub written : Appends before after (trace_text set front ++ take part (entry_line set last))
+
+-- from this place on a line tells spans in this text and ends: it is short enough to be copied
+pub record EndsIn (line : List ℕ) (tail : ℕ) (spans : List ℕ) : Type 0 where
+  pub text : drop tail line ≡ spans ++ 10 ∷ []
+  pub short : length line ≤ tail + SPANS_LIMIT + 1
+  pub room : length line + COPY_SIZE ≤ LINE_LIMIT

@@ -1,9 +1,10 @@
 //! The texts of entries and keys.
 
-ghost use Rattle.std.specs.Prelude.{◌≡◌, ◌≤◌, ◌+◌, [], ◌++◌, true, length};
+ghost use Rattle.std.specs.Prelude.{◌≡◌, ◌≤◌, ◌+◌, [], ◌++◌, ◌∷◌, true, length, decimal};
 ghost use Rattle.slot_core.specs.Runs.Arrivals.{key_in_set, what_in_set};
-ghost use Rattle.slot_core.specs.Output.Texts.{entry_line, key_text, spans_text};
+ghost use Rattle.slot_core.specs.Output.Texts.{entry_line, key_text, spans_text, what_text};
 ghost use Rattle.trace_text.specs.declared.TheConstants.{KEY_LIMIT, LINE_LIMIT, SPANS_LIMIT};
+ghost use Rattle.trace_text.specs.declared.line.TheConstants.{COPY_SIZE};
 
 use crate::extents::{Anew, SpanWriter};
 use crate::keys::push_key;
@@ -18,37 +19,36 @@ pub fn entry_line(entry: &Entry, tasks: &TaskSet) -> Line
     ensures { result ≡ entry_line tasks.now entry.now }
 {
     let mut line = Line::new();
-    push_entry(&mut line, &mut Anew, entry, tasks);
+    push_head(&mut line, entry, tasks);
+    push_tail(&mut line, &mut Anew, entry.what, &entry.shown);
     line
 }
 
-/// Writes the line of an entry into an empty line.
-pub(crate) fn push_entry<W: SpanWriter>(
-    line: &mut Line,
-    writer: &mut W,
-    entry: &Entry,
-    tasks: &TaskSet,
-)
+/// Writes what stands before the spans of an entry into an empty line: its time and its words.
+#[inline(always)]
+pub(crate) fn push_head(line: &mut Line, entry: &Entry, tasks: &TaskSet)
     requires empty { line.old ≡ [] }
     requires named { what_in_set tasks.now entry.now.what ≡ true }
-    ensures { line.new ≡ entry_line tasks.now entry.now }
+    ensures text { line.new ≡ decimal entry.now.time ++ 32 ∷ what_text tasks.now entry.now.what }
+    ensures short { length line.new + SPANS_LIMIT + 1 + COPY_SIZE ≤ LINE_LIMIT }
 {
     line.number(entry.time);
     line.push(b" ");
     push_what(line, &entry.what, tasks);
-    push_tail(line, writer, entry.what, &entry.shown);
-    line.push(b"\n");
 }
 
-/// Appends what stands after the words of an entry: nothing at the end, else the spans.
-fn push_tail<W: SpanWriter>(line: &mut Line, writer: &mut W, what: What, shown: &Shown)
-    requires { length line.old + SPANS_LIMIT ≤ LINE_LIMIT }
-    ensures text { line.new ≡ line.old ++ spans_text what shown.now }
-    ensures short { length line.new ≤ length line.old + SPANS_LIMIT }
+/// Appends what stands after the words of an entry: nothing at the end, else the spans, and a line
+/// feed.
+#[inline(always)]
+pub(crate) fn push_tail<W: SpanWriter>(line: &mut Line, writer: &mut W, what: What, shown: &Shown)
+    requires { length line.old + SPANS_LIMIT + 1 ≤ LINE_LIMIT }
+    ensures text { line.new ≡ line.old ++ spans_text what shown.now ++ 10 ∷ [] }
+    ensures short { length line.new ≤ length line.old + SPANS_LIMIT + 1 }
 {
     if what != What::End {
         push_shown(line, writer, shown);
     }
+    line.push(b"\n");
 }
 
 /// The text of a key, whose graph, task or sporadic task lies in the task set.

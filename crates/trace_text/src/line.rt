@@ -1,12 +1,16 @@
 //! A line in the making.
 
-ghost use Rattle.std.specs.Prelude.{◌≡◌, ◌≤◌, ◌<◌, ◌+◌, [], ◌++◌, ◌-◌, drop, length, take, decimal};
+ghost use Rattle.std.specs.Prelude.{◌≡◌, ℕ, ◌≤◌, ◌<◌, ◌+◌, [], ◌++◌, ◌-◌, drop, length, take, decimal};
 ghost use Rattle.std.specs.Fmt.{signed_decimal};
 ghost use Rattle.trace_text.specs.declared.TheConstants.{DECIMAL_LIMIT, LINE_LIMIT};
+ghost use Rattle.trace_text.specs.declared.line.TheConstants.{COPY_SIZE};
 
 use crate::LINE_LIMIT;
 use itoa::write_digits;
 use std::marker::Model;
+
+/// How many bytes of a line are copied at once into another.
+pub(crate) const COPY_SIZE: usize = 64;
 
 /// Bytes of one line, at most `LINE_LIMIT`, which contracts see as a list. It takes no memory.
 #[derive(Drop)]
@@ -171,12 +175,32 @@ impl Line {
     pub(crate) fn block_from<const N: usize>(&self, from: usize) -> [u8; N]
         requires inside { from ≤ length self.now }
         requires room { from + N ≤ LINE_LIMIT }
-        ensures { length self.now ≤ from + N
+        ensures all { length self.now ≤ from + N
             → take (length self.now - from) result ≡ drop from self.now }
+        ensures front { (count : ℕ) → count ≤ N → from + count ≤ length self.now
+            → take count result ≡ take count (drop from self.now) }
     {
         let mut block = [0; N];
         block.copy_from_slice(&self.bytes[from..from + N]);
         block
+    }
+
+    /// Appends what stands in another line from this place on, in blocks: the last one may end past
+    /// that line.
+    #[inline]
+    pub(crate) fn push_from(&mut self, other: &Line, from: usize)
+        requires inside { from ≤ length other.now }
+        requires there { length other.now + COPY_SIZE ≤ LINE_LIMIT }
+        requires room { length self.old + (length other.now - from) + COPY_SIZE ≤ LINE_LIMIT }
+        ensures { self.new ≡ self.old ++ drop from other.now }
+    {
+        let end = other.bytes().len();
+        let mut place = from;
+        while place < end {
+            let count = (end - place).min(COPY_SIZE);
+            self.push_block(other.block_from::<COPY_SIZE>(place), count);
+            place += count;
+        }
     }
 
     /// The bytes of the line.

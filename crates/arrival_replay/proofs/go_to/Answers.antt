@@ -3,13 +3,16 @@ use Rattle.std.proofs.Common.{◌≡◌, ◌≤◌, true, false, [], ◌∷◌, 
 use Rattle.std.specs.Prelude.{slice_get}
 use Rattle.slot_core.specs.declared.events.What.TheVariants.{Start}
 use Rattle.slot_core.specs.Keeping.Plans.{PlanParts}
+use Rattle.slot_core.specs.Output.Texts.{spans_text}
 use Rattle.slot_core.specs.Runs.Arrivals.{what_in_set}
+use Rattle.slot_core.specs.Runs.ShownSpans.{ShownSpans}
 use Rattle.slot_core.specs.Runs.Traces.{shown_entry, trace, history_of}
 use Rattle.slot_io.proofs.SinkParts.{OnErr-anyhow}
 use Rattle.arrival_replay.proofs.UnderWay.{IsToTell, TookShown, TookShown-told, entry-renewed, IsUnderWay-told, BreaksOff-told, IsToTell-start}
 use Rattle.arrival_replay.proofs.Happenings.{place_after, place_after-some, place_after-none, place_after-within, on_the_way-early, on_the_way-told, left-falls, IsToTell-happened, time-happened, last-happened, due-may_come, due-later, happened-named}
 use Rattle.arrival_replay.proofs.Stops.{IsStopped-off, IsStopped-taken}
-use Rattle.arrival_replay.specs.Replays.{is_on_the_way}
+use Rattle.arrival_replay.specs.Replays.{is_on_the_way, next_occurrence}
+use Rattle.arrival_replay.proofs.KeptSpans.{keeps-again, keeps-told, spans-done}
 use Rattle.arrival_replay.proofs.go_to.Given.{Over}
 use Rattle.arrival_replay.proofs.go_to.Goals as goal
 use Rattle.arrival_replay.proofs.go_to.Goals.{After-happen-what, then-is_some, else-is_some}
@@ -32,6 +35,7 @@ loop-entry-init g c =
       last = c.requires.started.last;
       within = omega arith;
       counted = c.in_ok-tell.ensures.counted;
+      keeps = subst (λ w. g.W.Teller.keeps next (spans_text w e.shown)) c.entry_at-entry.ensures.what c.tell.ensures.keeps;
     }
 
 pub returns-in_err-tell-clause-broke : goal.returns-in_err-tell-clause-broke
@@ -65,13 +69,26 @@ happen-what-requires-clause-may_come g c =
     let l = c.loop-entry in
     due-may_come (TookShown (g.W.Taker.took set c.args.taker.now l.taker) exec.plan l.entry.shown) exec.plan l.exec (trace set c.args.arrivals.now c.args.slots) c.args.slots l.next c.now-time.result c.args.arrivals.now l.invariant.under_way c.now-time.ensures.time c.requires.fitting l.invariant.last c.due_arrival-due.result c.due_arrival-due.ensures
 
-pub tell-requires-in-loop-entry : goal.tell-requires-in-loop-entry
-tell-requires-in-loop-entry g c =
+pub tell-requires-in-loop-entry-clause-named : goal.tell-requires-in-loop-entry-clause-named
+tell-requires-in-loop-entry-clause-named g c =
     let exec = c.args.exec.now in
     let set = exec.plan.tasks in
     let l = c.loop-entry in
     let named = happened-named (TookShown (g.W.Taker.took set c.args.taker.now l.taker) exec.plan l.entry.shown) exec.plan l.exec (trace set c.args.arrivals.now c.args.slots) c.args.slots l.next c.now-time.result c.args.arrivals.now l.invariant.under_way c.now-time.ensures.time c.requires.fitting l.invariant.last c.happen-what.new.exec c.due_arrival-due.result c.happen-what.result c.now.ensures.kept.plan c.due_arrival-due.ensures c.happen-what.ensures.does in
-    record { named = ap (what_in_set c.happen-what.new.exec.plan.tasks) c.renew.ensures.what ∙ named }
+    ap (what_in_set c.happen-what.new.exec.plan.tasks) c.renew-read.ensures.what ∙ named
+
+-- what happened is told with its spans
+with_spans : (g : Over) (c : After-happen-what g) (shown : ShownSpans) → spans_text c.happen-what.result shown ≡ spans_text Start shown
+with_spans g c =
+    spans-done c.loop-entry.exec c.happen-what.new.exec (next_occurrence c.due_arrival-due.result) c.happen-what.result c.happen-what.ensures.does
+
+-- where no spans were read they are those of the last entry, of which the text is kept
+pub tell-requires-in-loop-entry-clause-kept : goal.tell-requires-in-loop-entry-clause-kept
+tell-requires-in-loop-entry-clause-kept g c = λ stay.
+    let o = (goal.at.tell-requires-in-loop-entry-clause-kept g c).After-happen-what in
+    let l = c.loop-entry in
+    let same = c.renew-read.ensures.kept (sym c.renew-read.ensures.told ∙ stay) in
+    keeps-again (g.W.Teller.keeps l.taker) c.now-time.result c.happen-what.result l.entry c.renew-read.new.entry same (with_spans g o) l.invariant.keeps
 
 -- the next place is that after what is due
 next_place : (g : Over) (c : After-happen-what g) → place_after c.due_arrival-due.result c.loop-entry.next ≡ c.if-is_some.next
@@ -151,8 +168,8 @@ loop-entry-preserved g c =
     let t = happened g o in
     let whole = trace plan.tasks arrivals n in
     let after = c.happen-what.new.exec in
-    let e = c.renew.new.entry in
-    let same = entry-renewed (took last) plan after whole n rest time what c.loop-entry.entry e t c.renew.ensures.read c.renew.ensures.kept in
+    let e = c.renew-read.new.entry in
+    let same = entry-renewed (took last) plan after whole n rest time what c.loop-entry.entry e t c.renew-read.ensures.read c.renew-read.ensures.kept in
     let one = subst (λ (p : PlanParts). g.W.Taker.took p.tasks last next (e ∷ [])) t.plan_is c.in_ok-tell-2.ensures.took in
     let all = g.met.W.Taker.took_more plan.tasks first last next t.told (e ∷ []) t.took.0 one in
     record {
@@ -160,6 +177,7 @@ loop-entry-preserved g c =
       last = last_happened g o;
       within = next_within g o;
       counted = omega (arith, c.loop-entry.invariant.counted, c.in_ok-tell-2.ensures.counted);
+      keeps = keeps-told (g.W.Teller.keeps next) what e c.renew-read.ensures.what (with_spans g o) c.tell-in-loop-entry.ensures.keeps;
     }
 
 pub returns-in_err-tell-2-clause-broke : goal.returns-in_err-tell-2-clause-broke
@@ -179,8 +197,8 @@ returns-in_err-tell-2-clause-broke g c =
     let t = happened g o in
     let whole = trace plan.tasks arrivals n in
     let after = c.happen-what.new.exec in
-    let e = c.renew.new.entry in
-    let same = entry-renewed (took last) plan after whole n rest time what c.loop-entry.entry e t c.renew.ensures.read c.renew.ensures.kept in
+    let e = c.renew-read.new.entry in
+    let same = entry-renewed (took last) plan after whole n rest time what c.loop-entry.entry e t c.renew-read.ensures.read c.renew-read.ensures.kept in
     let one = subst (λ (p : PlanParts). g.W.Taker.broke p.tasks last next (e ∷ [])) t.plan_is c.in_err-tell-2.ensures.broke in
     let all = g.met.W.Taker.broke_later plan.tasks first last next t.told (e ∷ []) t.took.0 one in
     OnErr-anyhow c.from_residual-in_err-tell-2.result (BreaksOff-told (TookShown (took last) plan c.loop-entry.entry.shown) broke plan after whole n rest time what t (subst (λ e. broke (t.told ++ e ∷ [])) same all))

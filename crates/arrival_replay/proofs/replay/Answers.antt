@@ -7,4 +7,4 @@ pub returns-clause-broke : goal.returns-clause-broke
 returns-clause-broke g c = search rules
 
 pub returns-clause-part : goal.returns-clause-part
-returns-clause-part g c = OnErr-part c.drive.result c.args.exec.now.plan.tasks _ _ c.drive.new.exec (trace c.args.exec.now.plan.tasks c.args.arrivals.now c.args.slots) (returns-clause-broke g c)
+returns-clause-part g c = OnErr-part c.tell_all.result c.args.exec.now.plan.tasks _ _ c.tell_all.new.exec (trace c.args.exec.now.plan.tasks c.args.arrivals.now c.args.slots) (returns-clause-broke g c)

@@ -8,7 +8,7 @@ use crate::exec::test_sets::{alarm_set, flight_set, row_set};
 use circular_buffer::HeapCircularBuffer;
 use cycle_plan::{Plan, make_plan};
 use guarantee::{Answer, test};
-use interval_row::{ChainTable, Front, RowTable, SpareTable, Spot};
+use interval_row::{ChainTable, Front, RowTable, Short, SpareTable, Spot};
 use job_queue::JobQueue;
 use slot_core::{Firm, Key, Memory, Ran, Soft, SoftJob, Span, Steps, TaskSet};
 use sporadic_reserve::Reserve;
@@ -255,6 +255,16 @@ impl<T: SpareTable> SpareTable for ReadTable<T> {
 
     fn skip(&self, front: Front, span: Span, until: u64, asked: u64) -> Front {
         self.table.skip(front, span, until, asked)
+    }
+
+    fn first_short<L: Ledger>(
+        &self,
+        front: Front,
+        span: Span,
+        asked: u64,
+        steps: &mut Steps<L>,
+    ) -> Short {
+        self.table.first_short(front, span, asked, steps)
     }
 
     fn read<L: Ledger>(&self, at: Spot, steps: &mut Steps<L>) -> Span {

@@ -14,13 +14,11 @@ shown-more spans more i s before after at shown pushed =
     let all = take_more spans i s (slice_get_within spans i s at) ∙ ap (λ x. take i spans ++ x ∷ []) here in
     pushed ∙ (ap (λ (b : ShownSpans). record b { spans = b.spans ++ s ∷ [] }) shown ∙ ap (λ xs. record { spans = xs; more = more }) (sym all))
 
-pub loop-shown-preserved : goal.loop-shown-preserved
-loop-shown-preserved g c =
+pub loop-index-preserved : goal.loop-index-preserved
+loop-index-preserved g c =
     let pairs = g.T.SpareTable.pairs c.args.table.now in
-    let at = sym c.loop-shown.invariant.next ∙ c.in-Some.is in
-    let read = c.read.ensures.span c.loop-shown._shown at in
+    let read = c.read.ensures.span c.loop-index.index c.spot.ensures in
     record {
-      next = c.next-next.ensures c.loop-shown._shown at;
-      shown = shown-more (spans_of_pairs pairs) _ c.loop-shown._shown c.read.result c.loop-shown.shown c.push.new.self read c.loop-shown.invariant.shown c.push.ensures;
+      shown = shown-more (spans_of_pairs pairs) _ c.loop-index.index c.read.result c.loop-index.shown c.push.new.self read c.loop-index.invariant.shown c.push.ensures;
       steps = omega arith;
     }

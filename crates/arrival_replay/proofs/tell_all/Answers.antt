@@ -8,7 +8,7 @@ use Rattle.slot_core.specs.Runs.Traces.{end_entry, trace}
 use Rattle.slot_io.proofs.SinkParts.{OnOk-anyhow}
 use Rattle.arrival_replay.proofs.EndTimes.{time-from_stands}
 use Rattle.arrival_replay.proofs.Stops.{all-taken, all-stands, BreaksOff-end}
-use Rattle.arrival_replay.proofs.drive.Goals as goal
+use Rattle.arrival_replay.proofs.tell_all.Goals as goal
 
 pub returns-clause-took : goal.returns-clause-took
 returns-clause-took g c =

@@ -1,5 +1,5 @@
 use Rattle.interval_row.proofs.Skips.{ArePassed}
-use Rattle.interval_row.proofs.pages.skip.Given as goal
+use Rattle.interval_row.proofs.pages.skip_pages.Given as goal
 
 -- the pages up to this one are passed
 abbrev pub invariant-loop-page : goal.invariant-loop-page

@@ -1,4 +1,4 @@
-use Rattle.arrival_replay.proofs.drive.Given as goal
+use Rattle.arrival_replay.proofs.tell_all.Given as goal
 
 -- the ledger is that of the blank
 abbrev pub ghosts-go_to : goal.ghosts-go_to
