@@ -1,14 +1,17 @@
 -- Lifts that are passed, and the slice of them that a loop writes.
-use Rattle.std.proofs.Common.{◌≡◌, ℕ, zero, suc, ◌+◌, ◌-◌, ◌≤◌, ◌<◌, ℤ, ◌≤ℤ◌, ◌==◌, Bool, true, false, List, ◌++◌, length, take, drop, set, get_or, slice_get, Some, refl, sym, ap, subst, ◌∙◌, add-zero, arith, inl, inr}
+use Rattle.std.proofs.Common.{◌≡◌, ℕ, zero, suc, ◌+◌, ◌-◌, ◌≤◌, ◌<◌, ℤ, ◌+ℤ◌, ◌≤ℤ◌, w64, ◌==◌, Bool, true, false, List, ◌++◌, length, take, drop, set, get_or, slice_get, Some, refl, sym, ap, subst, ◌∙◌, add-zero, arith, inl, inr}
 use Rattle.std.proofs.Math.Nat.{eq-or-lt_of_le}
+use Rattle.std.proofs.Math.IntN.{+ℤ_assoc}
 use Rattle.std.proofs.lemmas.Bool.{ne_eqb}
+use Rattle.std.proofs.lemmas.Int.{int_wrap-add_left, int_wrap-add_right}
 use Rattle.std.proofs.lemmas.List.{get_or-set_other, get_or-append_right, get_or_append_left, get_or-take, get_or-drop, set-append_left, set-append_right, length-take-le}
 use Rattle.std.proofs.lemmas.Option.{get_or_from_slice_get}
 use Rattle.std.specs.Bool.{if◌then◌else◌}
+use Rattle.std.specs.Int.{int_wrap}
 use borrow.Rule.Slice.PartMut.{post_of, put_mid}
 use Rattle.node_chain.specs.declared.marks.Lift.{Lift}
 use Rattle.node_chain.specs.declared.marks.Mark.{Mark}
-use Rattle.node_chain.specs.Laps.{blank_lift, blank_mark}
+use Rattle.node_chain.specs.Laps.{blank_lift, blank_mark, lift_over}
 use Rattle.node_chain.specs.Passes.{lift_passed, lift_raised, lifts_passed, spans_ending}
 
 -- what an item of a part is in the whole list
@@ -40,6 +43,12 @@ some-of n x y some = ap (λ b. if b then x else y) (ne_eqb n 0 (λ e. absurd (om
 set-below : {X : Type 0} (b : Bool) (xs : List X) (j i : ℕ) (x d : X) → i < j → get_or (if b then xs else set xs j x) i d ≡ get_or xs i d
 set-below true xs j i x d below = refl
 set-below false xs j i x d below = get_or-set_other xs j i x d (λ e. absurd (omega (arith, below, e)))
+
+-- a lift gets so much more where its sum does
+pub lift_over-raised : (more top add : ℤ) → lift_over top (int_wrap w64 (add +ℤ more)) ≡ lift_raised more (lift_over top add)
+lift_over-raised more top add =
+    let high = int_wrap-add_right w64 top (add +ℤ more) ∙ ap (int_wrap w64) (sym (+ℤ_assoc top add more)) ∙ sym (int_wrap-add_left w64 (top +ℤ add) more) in
+    λ i. record { high = high i; add = int_wrap w64 (add +ℤ more) }
 
 -- the spans that end in the first page, and in those after it
 pub ending-first : (marks : List Mark) (low n : ℕ) → spans_ending marks low (suc n) ≡ (get_or marks low blank_mark).count + spans_ending marks (suc low) n

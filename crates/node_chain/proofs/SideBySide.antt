@@ -1,8 +1,8 @@
 -- Two lists side by side, read and written as one.
-use Rattle.std.proofs.Common.{◌≡◌, ℕ, zero, suc, ◌<◌, List, [], ◌∷◌, ◌++◌, length, take, drop, set, get_or, replicate, slice_get, Some, refl, ap, ◌∙◌, arith}
+use Rattle.std.proofs.Common.{◌≡◌, ℕ, zero, suc, ◌<◌, List, [], ◌∷◌, ◌++◌, length, take, drop, set, get_or, replicate, slice_get, Some, refl, sym, ap, ◌∙◌, arith}
 use Rattle.std.proofs.lemmas.List.{length-take}
 use Rattle.std.proofs.lemmas.Option.{get_or_from_slice_get, slice_get-get_or, slice_get_within}
-use borrow.Rule.Slice.PartMut.{mid_of, put_mid}
+use borrow.Rule.Slice.PartMut.{mid_of, put_mid, put_same}
 use Rattle.node_chain.specs.Laps.{paired}
 
 module _ {X Y Z : Type 0} (f : X → Y → Z) where
@@ -47,6 +47,14 @@ module _ {X Y Z : Type 0} (f : X → Y → Z) where
   set-paired (a ∷ xs) (b ∷ ys) zero x y = refl
   set-paired (a ∷ xs) (b ∷ ys) (suc i) x y = ap (λ zs. f a b ∷ zs) (set-paired xs ys i x y)
 
+  -- a write to the second list
+  pub set-second : (xs : List X) (ys : List Y) (i : ℕ) (x : X) (y : Y) → paired f xs (set ys i y) ≡ set (paired f xs ys) i (f (get_or xs i x) y)
+  set-second [] ys i x y = refl
+  set-second (a ∷ xs) [] zero x y = refl
+  set-second (a ∷ xs) [] (suc i) x y = refl
+  set-second (a ∷ xs) (b ∷ ys) zero x y = refl
+  set-second (a ∷ xs) (b ∷ ys) (suc i) x y = ap (λ zs. f a b ∷ zs) (set-second xs ys i x y)
+
   -- the same two items over and over
   pub replicate-paired : (n : ℕ) (x : X) (y : Y) → paired f (replicate n x) (replicate n y) ≡ replicate n (f x y)
   replicate-paired zero x y = refl
@@ -85,3 +93,9 @@ module _ {X Y Z : Type 0} (f : X → Y → Z) where
       append-paired (take a xs) (take a ys) (part ++ drop n (drop a xs)) (beside ++ drop n (drop a ys)) low
       ∙ ap (λ zs. paired f (take a xs) (take a ys) ++ zs) (append-paired part beside (drop n (drop a xs)) (drop n (drop a ys)) same)
       ∙ (λ i. take-paired a xs ys i ++ (paired f part beside ++ (drop-paired n (drop a xs) (drop a ys) ∙ ap (drop n) (drop-paired a xs ys)) i))
+
+  -- a part of the second list that is put in
+  pub put_mid-second : (a n : ℕ) (xs : List X) (ys beside : List Y) → length xs ≡ length ys → length (mid_of a n xs) ≡ length beside
+      → paired f xs (put_mid a n ys beside) ≡ put_mid a n (paired f xs ys) (paired f (mid_of a n xs) beside)
+  put_mid-second a n xs ys beside long same =
+      ap (λ zs. paired f zs (put_mid a n ys beside)) (sym (put_same a n xs)) ∙ put_mid-paired a n xs (mid_of a n xs) ys beside long same

@@ -1,5 +1,6 @@
 -- What contracts see of the numbers beside spans.
-use Rattle.std.specs.Prelude.{ℕ, ◌^◌, ℤ, neg_ℤ, pos, List, [], ◌∷◌, replicate}
+use Rattle.std.specs.Prelude.{ℕ, ◌^◌, ℤ, ◌+ℤ◌, neg_ℤ, pos, List, [], ◌∷◌, replicate}
+use Rattle.std.specs.Int.{w64, int_wrap}
 use Rattle.node_chain.specs.declared.marks.Due.{Due}
 use Rattle.node_chain.specs.declared.marks.Lift.{Lift}
 use Rattle.node_chain.specs.declared.marks.Mark.{Mark}
@@ -32,6 +33,6 @@ paired f (x ∷ xs) (y ∷ ys) = f x y ∷ paired f xs ys
 abbrev pub made_mark : ℕ → Due → Mark
 made_mark count due = record { count = count; works = due.works; low = due.low }
 
--- the lift of a bound and a sum
-abbrev pub made_lift : ℤ → ℤ → Lift
-made_lift high add = record { high = high; add = add }
+-- the lift of a bound without the sum, and of the sum: together they wrap round
+abbrev pub lift_over : ℤ → ℤ → Lift
+lift_over top add = record { high = int_wrap w64 (top +ℤ add); add = add }

@@ -70,24 +70,26 @@ struct Due {
 pub struct Marks {
     counts: Vec<u32>,
     dues: Vec<Due>,
-    highs: Vec<i64>,
+    /// The `high` of each lift without its `add`, a difference that wraps: so a lift that is passed
+    /// gets both by one write.
+    tops: Vec<i64>,
     adds: Vec<i64>,
 }
 
 impl Model for Marks {
     ghost use Rattle.std.specs.Prelude.{◌≡◌, length};
-    ghost use Rattle.node_chain.specs.Laps.{Laps, paired, made_lift, made_mark};
+    ghost use Rattle.node_chain.specs.Laps.{Laps, paired, lift_over, made_mark};
     ghost use Rattle.node_chain.specs.declared.marks.TheConstants.{LAP};
 
     ghost Value = { Laps };
 
     ghost view = { λ m. record {
       marks = paired made_mark m.counts.items m.dues.items;
-      lifts = paired made_lift m.highs.items m.adds.items;
+      lifts = paired lift_over m.tops.items m.adds.items;
     } };
 
     ghost invariant = { λ m. (length m.counts.items ≡ LAP) × (length m.dues.items ≡ LAP)
-        × (length m.highs.items ≡ LAP) × (length m.adds.items ≡ LAP) };
+        × (length m.tops.items ≡ LAP) × (length m.adds.items ≡ LAP) };
 }
 
 impl Marks {
@@ -99,7 +101,7 @@ impl Marks {
         Ok(Marks {
             counts: vec![in alloc; 0; LAP as usize]?,
             dues: vec![in alloc; due; LAP as usize]?,
-            highs: vec![in alloc; i64::MIN; LAP as usize]?,
+            tops: vec![in alloc; i64::MIN; LAP as usize]?,
             adds: vec![in alloc; 0; LAP as usize]?,
         })
     }
@@ -134,9 +136,10 @@ impl Marks {
         requires { index < LAP }
         ensures { slice_get self.now.lifts index ≡ Some result }
     {
+        let add = self.adds[index as usize];
         Lift {
-            high: self.highs[index as usize],
-            add: self.adds[index as usize],
+            high: self.tops[index as usize].wrapping_add(add),
+            add,
         }
     }
 
@@ -145,7 +148,7 @@ impl Marks {
         requires { index < LAP }
         ensures { self.new ≡ record self.old { lifts = slice_set self.old.lifts index lift } }
     {
-        self.highs[index as usize] = lift.high;
+        self.tops[index as usize] = lift.high.wrapping_sub(lift.add);
         self.adds[index as usize] = lift.add;
     }
 
@@ -171,20 +174,20 @@ impl Marks {
             ≡ spans_ending self.old.marks result.index (end - result.index) }
     {
         let counts = &self.counts.as_slice()[first as usize..end as usize];
-        let highs = &mut self.highs.as_mut_slice()[first as usize..end as usize];
+        let tops = &self.tops.as_slice()[first as usize..end as usize];
         let adds = &mut self.adds.as_mut_slice()[first as usize..end as usize];
         let mut count = 0;
         for left in (0..counts.len()).rev() {
             let spans = counts[left];
             if spans != 0 {
-                if pass.limit < highs[left] {
+                let add = adds[left];
+                if pass.limit < tops[left].wrapping_add(add) {
                     return Passed {
                         index: first + left as u32 + 1,
                         count,
                     };
                 }
-                highs[left] = highs[left].wrapping_add(pass.more);
-                adds[left] = adds[left].wrapping_add(pass.more);
+                adds[left] = add.wrapping_add(pass.more);
                 count += u64::from(spans);
             }
         }

@@ -39,6 +39,13 @@ pub(crate) trait SpanWriter {
             ++ signed_decimal span.now.spare }
         ensures short { length line.new ≤ length line.old + SPAN_LIMIT };
 
+    /// The same for the first span of a line, which mostly starts where it did in no line before.
+    fn push_first(&mut self, line: &mut Line, span: &Span)
+        requires { length line.old + SPAN_LIMIT ≤ LINE_LIMIT }
+        ensures text { line.new ≡ line.old ++ extent_text span.now.start span.now.end
+            ++ signed_decimal span.now.spare }
+        ensures short { length line.new ≤ length line.old + SPAN_LIMIT };
+
     /// Appends the number of the spans that are not shown.
     fn push_more(&mut self, line: &mut Line, more: u32)
         requires { length line.old + DECIMAL_LIMIT ≤ LINE_LIMIT }
@@ -75,6 +82,10 @@ impl SpanWriter for Anew {
     fn push_span(&mut self, line: &mut Line, span: &Span) {
         push_extent(line, span);
         line.signed_number(span.spare);
+    }
+
+    fn push_first(&mut self, line: &mut Line, span: &Span) {
+        self.push_span(line, span);
     }
 
     fn push_more(&mut self, line: &mut Line, more: u32) {
@@ -337,6 +348,14 @@ impl SpanWriter for Cells {
         } else {
             self.push_anew(line, span);
         }
+    }
+
+    /// The text of its extent is not kept: the next line shows it with another start, or not at all.
+    #[inline(always)]
+    fn push_first(&mut self, line: &mut Line, span: &Span) {
+        push_number(line, span.start);
+        self.extents[extent_place(span)].push_kept_end(line, span.end);
+        self.spares[spare_place(span.spare)].push_spare(line, span.spare);
     }
 
     /// A number of spans has the text of so many slots, which may be kept.

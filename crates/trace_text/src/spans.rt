@@ -1,6 +1,6 @@
 //! Spans at the end of a line.
 
-ghost use Rattle.std.specs.Prelude.{◌≡◌, ◌≤◌, ◌+◌, ◌*◌, length, codes, ◌++◌, ◌∷◌, flat_map};
+ghost use Rattle.std.specs.Prelude.{◌≡◌, ◌≤◌, ◌<◌, ◌+◌, ◌-◌, ◌*◌, length, codes, ◌++◌, ◌∷◌, flat_map};
 ghost use Rattle.slot_core.specs.declared.TheConstants.{SHOWN_LIMIT};
 ghost use Rattle.slot_core.specs.declared.jobs.Span.{Span};
 ghost use Rattle.slot_core.specs.Output.Texts.{span_text, shown_text};
@@ -19,6 +19,28 @@ fn push_span<W: SpanWriter>(line: &mut Line, writer: &mut W, span: &Span)
     writer.push_span(line, span);
 }
 
+/// Appends a space and the first span.
+fn push_first<W: SpanWriter>(line: &mut Line, writer: &mut W, span: &Span)
+    requires { length line.old + SPAN_LIMIT ≤ LINE_LIMIT }
+    ensures text { line.new ≡ line.old ++ 32 ∷ span_text span.now }
+    ensures short { length line.new ≤ length line.old + SPAN_LIMIT }
+{
+    writer.push_first(line, span);
+}
+
+/// Appends the spans after the first, a space before each.
+#[inline(always)]
+fn push_others<W: SpanWriter>(line: &mut Line, writer: &mut W, spans: &[Span])
+    requires few { length spans.now < SHOWN_LIMIT }
+    requires room { length line.old + (SHOWN_LIMIT - 1) * SPAN_LIMIT ≤ LINE_LIMIT }
+    ensures text { line.new ≡ line.old ++ flat_map (λ (s : Span). 32 ∷ span_text s) spans.now }
+    ensures short { length line.new ≤ length line.old + (SHOWN_LIMIT - 1) * SPAN_LIMIT }
+{
+    for span in spans {
+        push_span(line, writer, span);
+    }
+}
+
 /// Appends the spans, a space before each.
 fn push_spans<W: SpanWriter>(line: &mut Line, writer: &mut W, spans: &[Span])
     requires few { length spans.now ≤ SHOWN_LIMIT }
@@ -26,8 +48,9 @@ fn push_spans<W: SpanWriter>(line: &mut Line, writer: &mut W, spans: &[Span])
     ensures text { line.new ≡ line.old ++ flat_map (λ (s : Span). 32 ∷ span_text s) spans.now }
     ensures short { length line.new ≤ length line.old + SHOWN_LIMIT * SPAN_LIMIT }
 {
-    for span in spans {
-        push_span(line, writer, span);
+    if let Some((first, others)) = spans.split_first() {
+        push_first(line, writer, first);
+        push_others(line, writer, others);
     }
 }
 

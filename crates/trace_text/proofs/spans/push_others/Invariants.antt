@@ -2,7 +2,7 @@ use Rattle.std.proofs.Common.{◌≡◌, ◌≤◌, ◌+◌, ◌*◌, ◌∷◌,
 use Rattle.std.specs.List.{flat_map}
 use Rattle.slot_core.specs.Output.Texts.{span_text}
 use Rattle.trace_text.specs.declared.TheConstants.{SPAN_LIMIT}
-use Rattle.trace_text.proofs.spans.push_spans.Given as goal
+use Rattle.trace_text.proofs.spans.push_others.Given as goal
 
 abbrev pub invariant-loop-span : goal.invariant-loop-span
 invariant-loop-span g l = record {
