@@ -52,13 +52,6 @@ last_end-walked start more zero rows = refl
 last_end-walked start more (suc k) [] = refl
 last_end-walked start more (suc k) (s ∷ ss) = last_end-walked s.end more k ss
 
--- no span ends before a time that the first reaches
-pub ends_before-reached : (start y : ℕ) (rows : List Span) (s : Span) → FollowOn start rows → slice_get rows 0 ≡ Some s → y ≤ s.end → ends_before y rows ≡ 0
-ends_before-reached start y [] s follow at reached = refl
-ends_before-reached start y (r ∷ rs) s follow at reached =
-    let late : y ≤ r.end = omega (arith, reached, ap (λ (t : Span). t.end) (same_Some r s at)) in
-    ends_before-later y r rs late ∙ ends_before-start r.end y rs follow.4 late
-
 -- a span ends where the one after it starts
 pub meets : (start k : ℕ) (rows : List Span) (s t : Span) → FollowOn start rows → slice_get rows k ≡ Some s → slice_get rows (suc k) ≡ Some t → s.end ≡ t.start
 meets start k [] s t follow at next = absurd (omega (arith, slice_get_within [] k s at))
@@ -79,7 +72,8 @@ before-page time end page late early high same = omega (arith, late, early, high
 after-page : (time end page : ℕ) → (page + 1) * 64 ≤ end → end < (time / 64 + 512) * 64 → time / 64 ≤ page → mark_index end ≡ page % 512 → ⊥
 after-page time end page after near low same = omega (arith, after, near, low, same)
 
-in-page : (end page : ℕ) → page * 64 ≤ end → end < (page + 1) * 64 → mark_index end ≡ page % 512
+-- an end between the borders of a page has its mark
+pub in-page : (end page : ℕ) → page * 64 ≤ end → end < (page + 1) * 64 → mark_index end ≡ page % 512
 in-page end page low high = omega (arith, low, high)
 
 -- a bound below 0, before and after, is one on what spans give
@@ -250,7 +244,7 @@ count_at-page page walk rows marks mark pages at told =
     omega (arith, ends_before-page (first_start rows) page rows at.lap at.is.low at.is.high, pages.counts (page % 512) mark told, count_at-walked (page % 512) walk.more walk.index rows)
 
 -- all capacities are within bounds
-AreWithin : (start : ℕ) (rows : List Span) → FollowOn start rows → rows ≡ filled rows → length rows ≤ 2 ^ 20 → AllByRecursion (λ (s : Span). IsWithin s.spare) rows
+pub AreWithin : (start : ℕ) (rows : List Span) → FollowOn start rows → rows ≡ filled rows → length rows ≤ 2 ^ 20 → AllByRecursion (λ (s : Span). IsWithin s.spare) rows
 AreWithin start [] follow e few = tt
 AreWithin start (s ∷ ss) follow e few =
     (IsWithin-spare start (s ∷ ss) 0 follow e few (omega arith), AreWithin s.end ss follow.4 (rest-filled s ss e) (omega (arith, few)))

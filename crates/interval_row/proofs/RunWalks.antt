@@ -1,18 +1,16 @@
 -- Runs of spans that follow at once in a walk back, each but the first with nothing to give.
-use Rattle.std.proofs.Common.{◌≡◌, ℕ, zero, suc, ◌+◌, ◌-◌, ◌*◌, ◌%◌, ◌<◌, ◌≤◌, ◌^◌, ℤ, pos, ◌+ℤ◌, ◌≤ℤ◌, T, leb, ltb, true, List, [], ◌∷◌, ◌++◌, length, get_or, map, set, take, drop, slice_get, Some, IfSome, FitsSigned, w64, int_le, inl, inr, refl, sym, subst, ◌∙◌, ap, arith}
+use Rattle.std.proofs.Common.{◌≡◌, ℕ, zero, suc, ◌+◌, ◌-◌, ◌*◌, ◌%◌, ◌<◌, ◌≤◌, ℤ, pos, ◌+ℤ◌, ◌≤ℤ◌, T, leb, ltb, true, List, [], ◌∷◌, ◌++◌, length, get_or, map, set, take, drop, slice_get, Some, IfSome, FitsSigned, w64, int_le, inl, inr, refl, sym, subst, ◌∙◌, ap, arith}
 use Rattle.std.specs.Int.{int_wrap}
 use Rattle.std.specs.Int.Signed.{le_z_yes}
 use Rattle.std.specs.List.{AllByRecursion}
 use Rattle.std.proofs.lemmas.Bool.{and_parts, cases_lt, leb-true}
 use Rattle.std.proofs.lemmas.Int.{ints, clamps, int_wrap_fits, int_wrap-add_left}
-use Rattle.std.proofs.Math.Seq.{drop-nil}
-use Rattle.std.proofs.lemmas.List.{drop-map, take-take}
+use Rattle.std.proofs.lemmas.List.{drop-drop, drop-map, take-take}
 use Rattle.std.proofs.lemmas.List.Sums.{count_by-le-length}
 use Rattle.std.proofs.lemmas.Option.{same_Some, slice_get-get_or, slice_get_within}
 use Rattle.slot_core.specs.declared.jobs.Span.{Span}
 use Rattle.spare_capacity.specs.Lending.{carry, raised, repaid}
-use Rattle.spare_capacity.specs.Recurrence.{filled, first_start, FollowOn}
-use Rattle.spare_capacity.proofs.Free.{rest-filled}
+use Rattle.spare_capacity.specs.Recurrence.{first_start, FollowOn}
 use Rattle.spare_capacity.proofs.Steps.{no_row}
 use Rattle.node_chain.specs.declared.marks.Lift.{Lift}
 use Rattle.node_chain.specs.declared.raises.Raise.{Raise}
@@ -23,10 +21,11 @@ use Rattle.interval_row.specs.Marks.{mark_index}
 use Rattle.interval_row.specs.Spans.{AreFilled}
 use Rattle.interval_row.specs.Walks.{after_walk, walked, AreUpTo, GivesNone}
 use Rattle.interval_row.specs.declared.walk_back.Walk.{Walk}
-use Rattle.interval_row.proofs.CutTimes.{ends_before-ended, ends_before-inside, ends_before-later, ends_before-start, rises-at, start-at}
+use Rattle.interval_row.proofs.CutTimes.{ends_before-ended, ends_before-inside, ends_before-later}
 use Rattle.interval_row.proofs.LiftedSpans.{lift_of-set, lift_of-there, lifted_in-same, AreAtMost-covered, AreAtMost-more, AreCovered-set}
-use Rattle.interval_row.proofs.PageWalks.{ends_before-walks, follows-walk, meets}
-use Rattle.interval_row.proofs.WalkBack.{IsWithin, IsWithin-spare}
+use Rattle.interval_row.proofs.PageWalks.{ends_before-walks, follows-walk, in-page, meets, AreWithin}
+use Rattle.interval_row.proofs.WalkBack.{IsWithin}
+use Rattle.interval_row.proofs.WalkPages.{ends_before-past, ends_before-short}
 
 -- a lift of what is kept and one of its page add up, in either order
 twice : (lifts : List Lift) (more : ℤ) (s : Span) → (lifted_in lifts (lifted_by more s)).spare ≡ int_wrap w64 ((lifted_in lifts s).spare +ℤ more)
@@ -62,12 +61,6 @@ in_parts f (suc k) d (suc n) (s ∷ ss) sum few = ap (λ ts. s ∷ ts) (in_parts
 -- so it is the map between these places
 each_between-is : (f : Span → Span) (k n : ℕ) (spans : List Span) → k ≤ n → n ≤ length spans → map_between f k n spans ≡ each_between f k n spans
 each_between-is f k n spans low few = in_parts f k (n - k) n spans (omega (arith, low)) few
-
--- all capacities of the recurrence are within bounds
-AreWithin : (start : ℕ) (rows : List Span) → FollowOn start rows → rows ≡ filled rows → length rows ≤ 2 ^ 20 → AllByRecursion (λ (s : Span). IsWithin s.spare) rows
-AreWithin start [] follow e few = tt
-AreWithin start (s ∷ ss) follow e few =
-    (IsWithin-spare start (s ∷ ss) 0 follow e few (omega arith), AreWithin s.end ss follow.4 (rest-filled s ss e) (omega (arith, few)))
 
 -- spans that all have nothing to give pass on what they are repaid
 record PassWhole (lifts : List Lift) (more : ℤ) (n : ℕ) (rows : List Span) : Type 0 where
@@ -205,39 +198,19 @@ ends_before-lifted lifts y (s ∷ ss) =
     ]
 
 -- a span with no fewer before it than end before a time ends then or later
-pub ends-late : (start y i : ℕ) (rows : List Span) (s : Span) → FollowOn start rows → slice_get rows i ≡ Some s → ends_before y rows ≤ i → y ≤ s.end
-ends-late start y i [] s follow at low = absurd (omega (arith, slice_get_within [] i s at))
-ends-late start y zero (r ∷ rs) s follow at low =
-    elim (cases_lt r.end y) [
-      | inl early ↦ absurd (omega (arith, low, ends_before-ended y r rs early))
-      | inr late ↦ omega (arith, late, ap (λ (t : Span). t.end) (same_Some r s at))
-    ]
-ends-late start y (suc i) (r ∷ rs) s follow at low =
-    elim (cases_lt r.end y) [
-      | inl early ↦ ends-late r.end y i rs s follow.4 at (omega (arith, low, ends_before-ended y r rs early))
-      | inr late ↦ omega (arith, late, start-at r.end i rs s follow.4 at, rises-at r.end i rs s follow.4 at)
+ends-late : (start y i : ℕ) (rows : List Span) (s : Span) → FollowOn start rows → slice_get rows i ≡ Some s → ends_before y rows ≤ i → y ≤ s.end
+ends-late start y i rows s follow at low =
+    elim (cases_lt s.end y) [
+      | inl early ↦ absurd (omega (arith, low, ends_before-past start y i rows s follow at early))
+      | inr late ↦ late
     ]
 
 -- and one with fewer before it, before
-pub ends-early : (start y i : ℕ) (rows : List Span) (s : Span) → FollowOn start rows → slice_get rows i ≡ Some s → i < ends_before y rows → s.end < y
-ends-early start y i [] s follow at low = absurd (omega (arith, slice_get_within [] i s at))
-ends-early start y zero (r ∷ rs) s follow at low =
-    elim (cases_lt r.end y) [
-      | inl early ↦ omega (arith, early, ap (λ (t : Span). t.end) (same_Some r s at))
-      | inr late ↦ absurd (omega (arith, low, ends_before-later y r rs late, ends_before-start r.end y rs follow.4 late))
-    ]
-ends-early start y (suc i) (r ∷ rs) s follow at low =
-    elim (cases_lt r.end y) [
-      | inl early ↦ ends-early r.end y i rs s follow.4 at (omega (arith, low, ends_before-ended y r rs early))
-      | inr late ↦ absurd (omega (arith, low, ends_before-later y r rs late, ends_before-start r.end y rs follow.4 late))
-    ]
-
--- so no more end before a time than stand before a span that ends then or later
-pub ends_before-at : (start y i : ℕ) (rows : List Span) (s : Span) → FollowOn start rows → slice_get rows i ≡ Some s → y ≤ s.end → ends_before y rows ≤ i
-ends_before-at start y i rows s follow at late =
-    elim (cases_lt i (ends_before y rows)) [
-      | inl low ↦ absurd (omega (arith, late, ends-early start y i rows s follow at low))
-      | inr high ↦ high
+ends-early : (start y i : ℕ) (rows : List Span) (s : Span) → FollowOn start rows → slice_get rows i ≡ Some s → i < ends_before y rows → s.end < y
+ends-early start y i rows s follow at low =
+    elim (cases_lt s.end y) [
+      | inl early ↦ early
+      | inr late ↦ absurd (omega (arith, low, ends_before-short start y i rows s follow at late))
     ]
 
 -- spans that are raised back in a page, from one that passes it on to another
@@ -252,10 +225,6 @@ pub record IsRun (lifts : List Lift) (page : ℕ) (lift : Lift) (raise : Raise) 
   pub after : (raise.limit +ℤ raise.more) ≤ℤ pos 0
   pub before : k < n
   pub passed : (i : ℕ) (s : Span) → k < i → i < n → slice_get rows i ≡ Some s → passes_on raise s ≡ true
-
--- an end between the borders of a page has its mark
-in-page : (end page : ℕ) → page * 64 ≤ end → end < (page + 1) * 64 → mark_index end ≡ page % 512
-in-page end page low high = omega (arith, low, high)
 
 -- a span that passes on what it is repaid starts at the border or later
 passed-start : (raise : Raise) (s : Span) → passes_on raise s ≡ true → raise.border ≤ s.start
@@ -301,7 +270,7 @@ module _ (lifts : List Lift) (page : ℕ) (lift : Lift) (raise : Raise) (k n : �
   IsRun-reached =
       let s = get_or rows k no_row in
       let at : slice_get rows k ≡ Some s = slice_get-get_or rows k no_row (omega (arith, is.before, IsRun-within)) in
-      ends_before-at (first_start rows) (page * 64) k rows s is.follow at (run-late k s (omega arith) is.before at)
+      ends_before-short (first_start rows) (page * 64) k rows s is.follow at (run-late k s (omega arith) is.before at)
 
   -- those of the run follow
   pub IsRun-follows : (first : Span) → slice_get rows k ≡ Some first → AreFilled (walked raise.more n (lifted lifts rows)) → FollowsRun lifts raise.more k n first rows
@@ -335,7 +304,7 @@ module _ (lifts : List Lift) (walk : Walk) (start : ℕ) (rows : List Span) (are
       let after : slice_get rows (suc k) ≡ Some come-to.0 = ap (slice_get rows) next ∙ come-to.1 in
       let follow = follows-lifted lifts walk rows are in
       let ends = meets (first_start rows) k rows s come-to.0 follow at after in
-      omega (arith, some, ends_before-at (first_start rows) y k rows s follow at (omega (arith, late, ends, come-to.2)))
+      omega (arith, some, ends_before-short (first_start rows) y k rows s follow at (omega (arith, late, ends, come-to.2)))
 
   -- where it is earlier, all spans that end before y are those before it
   pub come-before : (y : ℕ) → ends_before y rows ≤ walk.index → start < y → walk.index ≡ ends_before y rows
@@ -360,12 +329,7 @@ up-join high (suc a) b (suc c) (s ∷ ss) sum front rest = (front.0, up-join hig
 
 -- a rest of a rest
 drop-join : (k a n : ℕ) (rows : List Span) → k + a ≡ n → drop a (drop k rows) ≡ drop n rows
-drop-join zero a n rows sum =
-    let same : a ≡ n = omega (arith, sum) in
-    ap (λ m. drop m rows) same
-drop-join (suc k) a zero rows sum = absurd (omega (arith, sum))
-drop-join (suc k) a (suc n) [] sum = drop-nil a
-drop-join (suc k) a (suc n) (s ∷ ss) sum = drop-join k a n ss (omega (arith, sum))
+drop-join k a n rows sum = drop-drop a k rows ∙ ap (λ m. drop m rows) sum
 
 -- lists that are the same from a place on are so from a later one on
 pub drop-further : (k n : ℕ) (new rows : List Span) → drop k new ≡ drop k rows → k ≤ n → drop n new ≡ drop n rows
