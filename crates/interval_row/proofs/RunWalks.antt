@@ -6,6 +6,7 @@ use Rattle.std.specs.List.{AllByRecursion}
 use Rattle.std.proofs.lemmas.Bool.{and_parts, cases_lt, leb-true}
 use Rattle.std.proofs.lemmas.Int.{ints, clamps, int_wrap_fits, int_wrap-add_left}
 use Rattle.std.proofs.lemmas.List.{drop-drop, drop-map, take-take}
+use Rattle.std.proofs.lemmas.List.Elements.{All-drop, All-from_recursion, All-take, recursion_from_All}
 use Rattle.std.proofs.lemmas.List.Sums.{count_by-le-length}
 use Rattle.std.proofs.lemmas.Option.{same_Some, slice_get-get_or, slice_get_within}
 use Rattle.slot_core.specs.declared.jobs.Span.{Span}
@@ -372,18 +373,6 @@ all-join P zero (suc d) (suc n) (s ∷ ss) sum front run rest = (run.0, all-join
 all-join P (suc k) d zero (s ∷ ss) sum front run rest = absurd (omega (arith, sum))
 all-join P (suc k) d (suc n) (s ∷ ss) sum front run rest = (front.0, all-join P k d n ss (omega (arith, sum)) front.1 run rest)
 
--- what holds of all holds of the first of them
-all-take : (P : Span → Type 0) (k : ℕ) (rows : List Span) → AllByRecursion P rows → AllByRecursion P (take k rows)
-all-take P zero rows all = tt
-all-take P (suc k) [] all = tt
-all-take P (suc k) (s ∷ ss) all = (all.0, all-take P k ss all.1)
-
--- and of the rest
-all-drop : (P : Span → Type 0) (k : ℕ) (rows : List Span) → AllByRecursion P rows → AllByRecursion P (drop k rows)
-all-drop P zero rows all = all
-all-drop P (suc k) [] all = tt
-all-drop P (suc k) (s ∷ ss) all = all-drop P k ss all.1
-
 -- spans with all before them that end before a page, and before those that end later, end in it
 in-pages : (start page k n : ℕ) (rows : List Span) → FollowOn start rows → k ≤ n → ends_before (page * 64) rows ≤ k → n ≤ ends_before ((page + 1) * 64) rows → AllByRecursion (λ (s : Span). mark_index s.end ≡ page % 512) (take (n - k) (drop k rows))
 in-pages start page k n rows follow l low high =
@@ -412,8 +401,11 @@ module _ (lifts : List Lift) (j : ℕ) (was : Lift) (at : slice_get lifts j ≡ 
   AreCovered-runs high k n new rows more over l all own up front rest =
       let below = AreAtMost-more j was.high lift.high more (lifted lifts rows) (AreAtMost-covered lifts j was at rows all) in
       let still : AllByRecursion IsCovered rows = AreCovered-set lifts j was at lift same rows below all in
-      all-join IsCovered k (n - k) n new (omega (arith, l)) (subst (AllByRecursion IsCovered) (sym front) (all-take IsCovered k rows still)) (covered-run high k (n - k) new over own up)
-      (subst (AllByRecursion IsCovered) (sym rest) (all-drop IsCovered n rows still))
+      let each = All-from_recursion IsCovered rows still in
+      let first = recursion_from_All IsCovered (take k rows) (All-take IsCovered k rows each) in
+      let last = recursion_from_All IsCovered (drop n rows) (All-drop IsCovered n rows each) in
+      all-join IsCovered k (n - k) n new (omega (arith, l)) (subst (AllByRecursion IsCovered) (sym front) first) (covered-run high k (n - k) new over own up)
+      (subst (AllByRecursion IsCovered) (sym rest) last)
 
 -- a lifted span starts where it does
 pub start-lifted : (lifts : List Lift) (start k : ℕ) (rows : List Span) → IfSome (slice_get rows k) (λ (s : Span). s.start ≡ start) → IfSome (slice_get (lifted lifts rows) k) (λ (s : Span). s.start ≡ start)
