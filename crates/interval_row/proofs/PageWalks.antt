@@ -1,5 +1,5 @@
 -- What a walk back leaves of spans, and pages of which all spans follow at once.
-use Rattle.std.proofs.Common.{◌≡◌, ℕ, zero, suc, ◌+◌, ◌-◌, ◌*◌, ◌/◌, ◌%◌, ◌<◌, ◌≤◌, ◌^◌, ℤ, pos, ◌+ℤ◌, ◌≤ℤ◌, cond, eqb, ltb, List, [], ◌∷◌, length, take, drop, Some, inl, inr, refl, sym, subst, ◌∙◌, ap, arith}
+use Rattle.std.proofs.Common.{◌≡◌, ℕ, zero, suc, ◌+◌, ◌-◌, ◌*◌, ◌/◌, ◌%◌, ◌<◌, ◌≤◌, ◌^◌, ℤ, pos, ◌+ℤ◌, ◌≤ℤ◌, cond, eqb, ltb, List, [], ◌∷◌, length, take, drop, Some, inl, inr, FitsSigned, w64, refl, sym, subst, ◌∙◌, ap, arith}
 use Rattle.std.specs.Prelude.{slice_get}
 use Rattle.std.specs.List.{AllByRecursion}
 use Rattle.std.proofs.lemmas.Bool.{cases_lt, eq-eqb, ne_eqb}
@@ -11,10 +11,10 @@ use Rattle.spare_capacity.specs.Lending.{carry, raised, repaid}
 use Rattle.spare_capacity.specs.Recurrence.{filled, FollowOn, first_start, last_end}
 use Rattle.spare_capacity.proofs.Free.{rest-filled}
 use Rattle.interval_row.specs.Changes.{ends_before}
-use Rattle.interval_row.specs.Lifts.{raised_at, AreAtMost, MayRaise}
+use Rattle.interval_row.specs.Lifts.{raised_at, AreAtMost}
 use Rattle.interval_row.specs.Marks.{count_at, mark_index, AreTimed}
 use Rattle.interval_row.specs.Spans.{with_work_at, AreFilled}
-use Rattle.interval_row.specs.Walks.{after_walk, walked, AreInPages, AreUpTo, PagesGiveNone, IsPageOf}
+use Rattle.interval_row.specs.Walks.{after_walk, walked, AreInPages, AreUpTo, IsPageOf}
 use Rattle.interval_row.specs.declared.walk_back.Walk.{Walk}
 use Rattle.interval_row.proofs.CutTimes.{ends_before-ended, ends_before-later, ends_before-page, ends_before-start, AreInLap, IsInLap}
 use Rattle.interval_row.proofs.Cycles.{last_end-some}
@@ -75,6 +75,14 @@ after-page time end page after near low same = omega (arith, after, near, low, s
 -- an end between the borders of a page has its mark
 pub in-page : (end page : ℕ) → page * 64 ≤ end → end < (page + 1) * 64 → mark_index end ≡ page % 512
 in-page end page low high = omega (arith, low, high)
+
+-- a span has no capacity that it could give, before and after so much more
+abbrev pub GivesNone : ℤ → Span → Type 0
+GivesNone more s = (s.spare ≤ℤ pos 0) × ((s.spare +ℤ more) ≤ℤ pos 0)
+
+-- nor has any that ends in the pages of the mark at an index
+abbrev pub PagesGiveNone : ℕ → ℤ → List Span → Type 0
+PagesGiveNone j more spans = AllByRecursion (λ (s : Span). mark_index s.end ≡ j → GivesNone more s) spans
 
 -- a bound below 0, before and after, is one on what spans give
 pub PagesGiveNone-AreAtMost : (j : ℕ) (high more : ℤ) (rows : List Span) → high ≤ℤ pos 0 → (high +ℤ more) ≤ℤ pos 0 → AreAtMost j high rows → PagesGiveNone j more rows
@@ -156,6 +164,10 @@ PassesPage-PagesGiveNone time start page more (s ∷ ss) is follow all none =
           let all_of = whole-first time start page more s ss is follow all reached none (whole time s.end page more ss is follow.4 all.1 reached none.1) in
           record { carry = rw low (sym all_of.carry); spans = rw low (sym all_of.spans) }
     ]
+
+-- each span that ends in the pages of the mark at an index can have so much more capacity
+abbrev pub MayRaise : ℕ → ℤ → List Span → Type 0
+MayRaise j more spans = AllByRecursion (λ (s : Span). mark_index s.end ≡ j → FitsSigned w64 (s.spare +ℤ more)) spans
 
 -- the spans of a mark can be raised where what they become has capacities within bounds
 MayRaise-raised_at : (j : ℕ) (more : ℤ) (rows : List Span) → AllByRecursion (λ (s : Span). IsWithin s.spare) (raised_at j more rows) → MayRaise j more rows

@@ -20,11 +20,11 @@ use Rattle.interval_row.specs.Changes.{ends_before}
 use Rattle.interval_row.specs.Lifts.{lift_of, lifted, lifted_by, lifted_in, AreCovered}
 use Rattle.interval_row.specs.Marks.{mark_index}
 use Rattle.interval_row.specs.Spans.{AreFilled}
-use Rattle.interval_row.specs.Walks.{after_walk, walked, AreUpTo, GivesNone}
+use Rattle.interval_row.specs.Walks.{after_walk, walked, AreUpTo}
 use Rattle.interval_row.specs.declared.walk_back.Walk.{Walk}
 use Rattle.interval_row.proofs.CutTimes.{ends_before-ended, ends_before-inside, ends_before-later}
 use Rattle.interval_row.proofs.LiftedSpans.{lift_of-set, lift_of-there, lifted_in-same, AreAtMost-covered, AreAtMost-more, AreCovered-set}
-use Rattle.interval_row.proofs.PageWalks.{ends_before-walks, follows-walk, in-page, meets, AreWithin}
+use Rattle.interval_row.proofs.PageWalks.{ends_before-walks, follows-walk, in-page, meets, AreWithin, GivesNone}
 use Rattle.interval_row.proofs.WalkBack.{IsWithin}
 use Rattle.interval_row.proofs.WalkPages.{ends_before-past, ends_before-short}
 
