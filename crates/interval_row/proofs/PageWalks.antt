@@ -14,7 +14,7 @@ use Rattle.interval_row.specs.Changes.{ends_before}
 use Rattle.interval_row.specs.Lifts.{raised_at, AreAtMost}
 use Rattle.interval_row.specs.Marks.{count_at, mark_index, AreTimed}
 use Rattle.interval_row.specs.Spans.{with_work_at, AreFilled}
-use Rattle.interval_row.specs.Walks.{after_walk, walked, AreInPages, AreUpTo, IsPageOf}
+use Rattle.interval_row.specs.Walks.{after_walk, walked, AreInPages, HaveAtMost, IsPageOf}
 use Rattle.interval_row.specs.declared.walk_back.Walk.{Walk}
 use Rattle.interval_row.proofs.CutTimes.{ends_before-ended, ends_before-later, ends_before-page, ends_before-start, AreInLap, IsInLap}
 use Rattle.interval_row.proofs.Cycles.{last_end-some}
@@ -199,28 +199,28 @@ AreAtMost-later time start page high (s ∷ ss) is follow all after =
     let late : (page + 1) * 64 ≤ s.end = omega (arith, follow.0, follow.1, after) in
     (λ own. absurd (after-page time s.end page late all.0.near is.low own), AreAtMost-later time s.end page high ss is follow.4 all.1 late)
 
-below-from : (time start page n : ℕ) (high : ℤ) (rows : List Span) → IsPageIn time page → FollowOn start rows → AllByRecursion (IsInLap time) rows → ends_before ((page + 1) * 64) rows ≡ n → AreUpTo high (take n rows) → AreAtMost (page % 512) high rows
+below-from : (time start page n : ℕ) (high : ℤ) (rows : List Span) → IsPageIn time page → FollowOn start rows → AllByRecursion (IsInLap time) rows → ends_before ((page + 1) * 64) rows ≡ n → HaveAtMost high (take n rows) → AreAtMost (page % 512) high rows
 below-from time start page n high [] is follow all count up = tt
 below-from time start page n high (s ∷ ss) is follow all count up =
     let y = (page + 1) * 64 in
     elim (cases_lt s.end y) [
       | inl here ↦
           let more : n ≡ suc (ends_before y ss) = sym count ∙ ends_before-ended y s ss here in
-          let ups : AreUpTo high (take (suc (ends_before y ss)) (s ∷ ss)) = rw more at up in
+          let ups : HaveAtMost high (take (suc (ends_before y ss)) (s ∷ ss)) = rw more at up in
           (λ own. ups.0, below-from time s.end page (ends_before y ss) high ss is follow.4 all.1 refl ups.1)
       | inr late ↦
           (λ own. absurd (after-page time s.end page late all.0.near is.low own), AreAtMost-later time s.end page high ss is follow.4 all.1 late)
     ]
 
-pub AreAtMost-AreUpTo : (time start page n : ℕ) (high : ℤ) (rows : List Span) → IsPageIn time page → FollowOn start rows → AllByRecursion (IsInLap time) rows → ends_before ((page + 1) * 64) rows ≡ ends_before (page * 64) rows + n → AreUpTo high (take n (drop (ends_before (page * 64) rows) rows)) → AreAtMost (page % 512) high rows
-AreAtMost-AreUpTo time start page n high [] is follow all count up = tt
-AreAtMost-AreUpTo time start page n high (s ∷ ss) is follow all count up =
+pub AreAtMost-HaveAtMost : (time start page n : ℕ) (high : ℤ) (rows : List Span) → IsPageIn time page → FollowOn start rows → AllByRecursion (IsInLap time) rows → ends_before ((page + 1) * 64) rows ≡ ends_before (page * 64) rows + n → HaveAtMost high (take n (drop (ends_before (page * 64) rows) rows)) → AreAtMost (page % 512) high rows
+AreAtMost-HaveAtMost time start page n high [] is follow all count up = tt
+AreAtMost-HaveAtMost time start page n high (s ∷ ss) is follow all count up =
     elim (cases_lt s.end (page * 64)) [
       | inl early ↦
           let low : ends_before (page * 64) (s ∷ ss) ≡ suc (ends_before (page * 64) ss) = ends_before-ended (page * 64) s ss early in
           let high_of : ends_before ((page + 1) * 64) (s ∷ ss) ≡ suc (ends_before ((page + 1) * 64) ss) = ends_before-ended ((page + 1) * 64) s ss (omega (arith, early)) in
-          let rest : AreUpTo high (take n (drop (ends_before (page * 64) ss) ss)) = rw low at up in
-          (λ own. absurd (before-page time s.end page all.0.late early is.high own), AreAtMost-AreUpTo time s.end page n high ss is follow.4 all.1 (omega (arith, count, low, high_of)) rest)
+          let rest : HaveAtMost high (take n (drop (ends_before (page * 64) ss) ss)) = rw low at up in
+          (λ own. absurd (before-page time s.end page all.0.late early is.high own), AreAtMost-HaveAtMost time s.end page n high ss is follow.4 all.1 (omega (arith, count, low, high_of)) rest)
       | inr reached ↦
           let low : ends_before (page * 64) (s ∷ ss) ≡ 0 = ends_before-later (page * 64) s ss reached ∙ ends_before-start s.end (page * 64) ss follow.4 reached in
           below-from time start page n high (s ∷ ss) is follow all (omega (arith, count, low)) (rw low at up)

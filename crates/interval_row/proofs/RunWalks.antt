@@ -20,7 +20,7 @@ use Rattle.interval_row.specs.Changes.{ends_before}
 use Rattle.interval_row.specs.Lifts.{lift_of, lifted, lifted_by, lifted_in, AreCovered}
 use Rattle.interval_row.specs.Marks.{mark_index}
 use Rattle.interval_row.specs.Spans.{AreFilled}
-use Rattle.interval_row.specs.Walks.{after_walk, walked, AreUpTo}
+use Rattle.interval_row.specs.Walks.{after_walk, walked, HaveAtMost}
 use Rattle.interval_row.specs.declared.walk_back.Walk.{Walk}
 use Rattle.interval_row.proofs.CutTimes.{ends_before-ended, ends_before-inside, ends_before-later}
 use Rattle.interval_row.proofs.LiftedSpans.{lift_of-set, lift_of-there, lifted_in-same, AreAtMost-covered, AreAtMost-more, AreCovered-set}
@@ -157,7 +157,7 @@ first-of-run more k n first rows low few at =
     ap (λ xs. slice_get xs k) (each_between-is (lifted_by more) k n rows (omega (arith, low)) few) ∙ first-each more k n first rows low at
 
 -- a bound on the capacities of a run once it is raised
-up-each : (lifts : List Lift) (more high : ℤ) (k d n : ℕ) (rows : List Span) → k + d ≡ n → n ≤ length rows → ((i : ℕ) (s : Span) → k ≤ i → i < n → slice_get rows i ≡ Some s → int_wrap w64 ((lifted_in lifts s).spare +ℤ more) ≤ℤ high) → AreUpTo high (take d (drop k (raised_run lifts more k n rows)))
+up-each : (lifts : List Lift) (more high : ℤ) (k d n : ℕ) (rows : List Span) → k + d ≡ n → n ≤ length rows → ((i : ℕ) (s : Span) → k ≤ i → i < n → slice_get rows i ≡ Some s → int_wrap w64 ((lifted_in lifts s).spare +ℤ more) ≤ℤ high) → HaveAtMost high (take d (drop k (raised_run lifts more k n rows)))
 up-each lifts more high zero zero n rows sum few up = tt
 up-each lifts more high zero (suc d) zero rows sum few up = absurd (omega (arith, sum))
 up-each lifts more high (suc k) d zero rows sum few up = absurd (omega (arith, sum))
@@ -168,9 +168,9 @@ up-each lifts more high (suc k) d (suc n) (s ∷ ss) sum few up =
     up-each lifts more high k d n ss (omega (arith, sum)) (omega (arith, few)) (λ i t l h is. up (suc i) t (omega (arith, l)) (omega (arith, h)) is)
 
 -- so it is one on the rows with the run raised
-pub AreUpTo-run : (lifts : List Lift) (more high : ℤ) (k n : ℕ) (rows : List Span) → k ≤ n → n ≤ length rows → ((i : ℕ) (s : Span) → k ≤ i → i < n → slice_get rows i ≡ Some s → int_wrap w64 ((lifted_in lifts s).spare +ℤ more) ≤ℤ high) → AreUpTo high (take (n - k) (drop k (lifted lifts (map_between (lifted_by more) k n rows))))
-AreUpTo-run lifts more high k n rows low few up =
-    subst (λ xs. AreUpTo high (take (n - k) (drop k (lifted lifts xs)))) (sym (each_between-is (lifted_by more) k n rows low few)) (up-each lifts more high k (n - k) n rows (omega (arith, low)) few up)
+pub HaveAtMost-run : (lifts : List Lift) (more high : ℤ) (k n : ℕ) (rows : List Span) → k ≤ n → n ≤ length rows → ((i : ℕ) (s : Span) → k ≤ i → i < n → slice_get rows i ≡ Some s → int_wrap w64 ((lifted_in lifts s).spare +ℤ more) ≤ℤ high) → HaveAtMost high (take (n - k) (drop k (lifted lifts (map_between (lifted_by more) k n rows))))
+HaveAtMost-run lifts more high k n rows low few up =
+    subst (λ xs. HaveAtMost high (take (n - k) (drop k (lifted lifts xs)))) (sym (each_between-is (lifted_by more) k n rows low few)) (up-each lifts more high k (n - k) n rows (omega (arith, low)) few up)
 
 -- spans follow on where they do with their capacities lifted
 pub FollowOn-lifted : (lifts : List Lift) (start : ℕ) (spans : List Span) → FollowOn start (lifted lifts spans) → FollowOn start spans
@@ -277,9 +277,9 @@ module _ (lifts : List Lift) (page : ℕ) (lift : Lift) (raise : Raise) (k n : �
   pub IsRun-follows : (first : Span) → slice_get rows k ≡ Some first → AreFilled (walked raise.more n (lifted lifts rows)) → FollowsRun lifts raise.more k n first rows
   IsRun-follows first at are = FollowsRun-AreFilled lifts raise.more k n first rows is.before IsRun-within at run-none are
 
-  pub IsRun-up : (high : ℤ) → ((i : ℕ) (s : Span) → k ≤ i → i < n → slice_get rows i ≡ Some s → spare_after raise s ≤ℤ high) → AreUpTo high (take (n - k) (drop k (lifted lifts (map_between (lifted_by raise.more) k n rows))))
+  pub IsRun-up : (high : ℤ) → ((i : ℕ) (s : Span) → k ≤ i → i < n → slice_get rows i ≡ Some s → spare_after raise s ≤ℤ high) → HaveAtMost high (take (n - k) (drop k (lifted lifts (map_between (lifted_by raise.more) k n rows))))
   IsRun-up high up =
-      AreUpTo-run lifts raise.more high k n rows (omega (arith, is.before)) IsRun-within (λ i s low top at. subst (λ x. int_wrap w64 (x +ℤ raise.more) ≤ℤ high) (sym (IsRun-spare i s low top at)) (up i s low top at))
+      HaveAtMost-run lifts raise.more high k n rows (omega (arith, is.before)) IsRun-within (λ i s low top at. subst (λ x. int_wrap w64 (x +ℤ raise.more) ≤ℤ high) (sym (IsRun-spare i s low top at)) (up i s low top at))
 
 -- walks to the same end leave as many of the kept spans before a time
 pub ends_before-runs : (y : ℕ) (lifts : List Lift) (walk from : Walk) (new rows : List Span) → after_walk walk (lifted lifts new) ≡ after_walk from (lifted lifts rows) → ends_before y new ≡ ends_before y rows
@@ -315,15 +315,15 @@ module _ (lifts : List Lift) (walk : Walk) (start : ℕ) (rows : List Span) (are
       sym (ends_before-inside (first_start rows) y walk.index rows come-to.0 follow come-to.1 (omega (arith, early, come-to.2)) late)
 
 -- a bound is one that is greater
-up-more : (low high : ℤ) (rows : List Span) → low ≤ℤ high → AreUpTo low rows → AreUpTo high rows
+up-more : (low high : ℤ) (rows : List Span) → low ≤ℤ high → HaveAtMost low rows → HaveAtMost high rows
 up-more low high [] l h = tt
 up-more low high (s ∷ ss) l h = (omega (arith, ints, l, h.0), up-more low high ss l h.1)
 
 -- a bound on some spans and on those after them is one on all
-up-join : (high : ℤ) (a b c : ℕ) (rows : List Span) → a + b ≡ c → AreUpTo high (take a rows) → AreUpTo high (take b (drop a rows)) → AreUpTo high (take c rows)
+up-join : (high : ℤ) (a b c : ℕ) (rows : List Span) → a + b ≡ c → HaveAtMost high (take a rows) → HaveAtMost high (take b (drop a rows)) → HaveAtMost high (take c rows)
 up-join high zero b c rows sum front rest =
     let same : b ≡ c = omega (arith, sum) in
-    subst (λ n. AreUpTo high (take n rows)) same rest
+    subst (λ n. HaveAtMost high (take n rows)) same rest
 up-join high (suc a) b zero rows sum front rest = absurd (omega (arith, sum))
 up-join high (suc a) b (suc c) [] sum front rest = tt
 up-join high (suc a) b (suc c) (s ∷ ss) sum front rest = (front.0, up-join high a b c ss (omega (arith, sum)) front.1 rest)
@@ -342,13 +342,13 @@ pub take-fewer : (j k : ℕ) (new rows : List Span) → take k new ≡ take k ro
 take-fewer j k new rows same l = sym (take-take j k new l) ∙ ap (take j) same ∙ take-take j k rows l
 
 -- the greater of the bounds on a run and on the spans after it is one on all of them
-pub AreUpTo-runs : (lifts : List Lift) (low high top : ℤ) (j k n : ℕ) (new rows : List Span) → j ≤ k → k ≤ n → low ≤ℤ top → high ≤ℤ top → drop k new ≡ drop k rows → AreUpTo high (take (k - j) (drop j (lifted lifts new))) → AreUpTo low (take (n - k) (drop k (lifted lifts rows))) → AreUpTo top (take (n - j) (drop j (lifted lifts new)))
-AreUpTo-runs lifts low high top j k n new rows l m under over same run rest =
+pub HaveAtMost-runs : (lifts : List Lift) (low high top : ℤ) (j k n : ℕ) (new rows : List Span) → j ≤ k → k ≤ n → low ≤ℤ top → high ≤ℤ top → drop k new ≡ drop k rows → HaveAtMost high (take (k - j) (drop j (lifted lifts new))) → HaveAtMost low (take (n - k) (drop k (lifted lifts rows))) → HaveAtMost top (take (n - j) (drop j (lifted lifts new)))
+HaveAtMost-runs lifts low high top j k n new rows l m under over same run rest =
     let after : drop k (lifted lifts rows) ≡ drop (k - j) (drop j (lifted lifts new)) =
     drop-map (lifted_in lifts) k rows ∙ ap (lifted lifts) (sym same) ∙ sym (drop-map (lifted_in lifts) k new)
     ∙ sym (drop-join j (k - j) k (lifted lifts new) (omega (arith, l))) in
     up-join top (k - j) (n - k) (n - j) (drop j (lifted lifts new)) (omega (arith, l, m)) (up-more high top (take (k - j) (drop j (lifted lifts new))) over run)
-    (subst (λ xs. AreUpTo top (take (n - k) xs)) after (up-more low top (take (n - k) (drop k (lifted lifts rows))) under rest))
+    (subst (λ xs. HaveAtMost top (take (n - k) xs)) after (up-more low top (take (n - k) (drop k (lifted lifts rows))) under rest))
 
 -- what holds of spans by their places holds of those between two
 all-each : (P : Span → Type 0) (k d n : ℕ) (rows : List Span) → k + d ≡ n → ((i : ℕ) (s : Span) → k ≤ i → i < n → slice_get rows i ≡ Some s → P s) → AllByRecursion P (take d (drop k rows))
@@ -385,7 +385,7 @@ module _ (lifts : List Lift) (j : ℕ) (was : Lift) (at : slice_get lifts j ≡ 
   IsCovered s = (lifted_in (set lifts j lift) s).spare ≤ℤ (lift_of (set lifts j lift) s).high
 
   -- covers spans of its mark with no more capacity
-  covered-run : (high : ℤ) (k d : ℕ) (rows : List Span) → high ≤ℤ lift.high → AllByRecursion (λ (s : Span). mark_index s.end ≡ j) (take d (drop k rows)) → AreUpTo high (take d (drop k (lifted lifts rows))) → AllByRecursion IsCovered (take d (drop k rows))
+  covered-run : (high : ℤ) (k d : ℕ) (rows : List Span) → high ≤ℤ lift.high → AllByRecursion (λ (s : Span). mark_index s.end ≡ j) (take d (drop k rows)) → HaveAtMost high (take d (drop k (lifted lifts rows))) → AllByRecursion IsCovered (take d (drop k rows))
   covered-run high zero zero rows l own up = tt
   covered-run high zero (suc d) [] l own up = tt
   covered-run high zero (suc d) (s ∷ ss) l own up =
@@ -397,7 +397,7 @@ module _ (lifts : List Lift) (j : ℕ) (was : Lift) (at : slice_get lifts j ≡ 
   covered-run high (suc k) d (s ∷ ss) l own up = covered-run high k d ss l own up
 
   -- and the spans before and after them, which were covered
-  pub AreCovered-runs : (high : ℤ) (k n : ℕ) (new rows : List Span) → was.high ≤ℤ lift.high → high ≤ℤ lift.high → k ≤ n → AreCovered lifts rows → AllByRecursion (λ (s : Span). mark_index s.end ≡ j) (take (n - k) (drop k new)) → AreUpTo high (take (n - k) (drop k (lifted lifts new))) → take k new ≡ take k rows → drop n new ≡ drop n rows → AreCovered (set lifts j lift) new
+  pub AreCovered-runs : (high : ℤ) (k n : ℕ) (new rows : List Span) → was.high ≤ℤ lift.high → high ≤ℤ lift.high → k ≤ n → AreCovered lifts rows → AllByRecursion (λ (s : Span). mark_index s.end ≡ j) (take (n - k) (drop k new)) → HaveAtMost high (take (n - k) (drop k (lifted lifts new))) → take k new ≡ take k rows → drop n new ≡ drop n rows → AreCovered (set lifts j lift) new
   AreCovered-runs high k n new rows more over l all own up front rest =
       let below = AreAtMost-more j was.high lift.high more (lifted lifts rows) (AreAtMost-covered lifts j was at rows all) in
       let still : AllByRecursion IsCovered rows = AreCovered-set lifts j was at lift same rows below all in

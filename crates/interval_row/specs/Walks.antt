@@ -34,5 +34,5 @@ pub record IsPageOf (spans : List Span) (page : ℕ) : Type 0 where
   pub last : page < page_of (first_start spans) + LAP
 
 -- no capacity of the spans is above this
-abbrev pub AreUpTo : ℤ → List Span → Type 0
-AreUpTo high spans = AllByRecursion (λ (s : Span). s.spare ≤ℤ high) spans
+abbrev pub HaveAtMost : ℤ → List Span → Type 0
+HaveAtMost high spans = AllByRecursion (λ (s : Span). s.spare ≤ℤ high) spans
