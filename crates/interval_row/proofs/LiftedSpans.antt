@@ -13,8 +13,9 @@ use Rattle.spare_capacity.specs.Lending.{raised}
 use Rattle.node_chain.specs.declared.marks.Lift.{Lift}
 use Rattle.node_chain.specs.Laps.{blank_lift}
 use Rattle.node_chain.specs.Passes.{lift_raised}
-use Rattle.interval_row.specs.Lifts.{lift_of, lifted, lifted_by, lifted_in, lowered_by, raised_at, raised_in, AreAtMost, AreCovered, MayRaise}
+use Rattle.interval_row.specs.Lifts.{lift_of, lifted, lifted_by, lifted_in, lowered_by, raised_at, raised_in, AreAtMost, AreCovered}
 use Rattle.interval_row.specs.Marks.{count_at, mark_index}
+use Rattle.interval_row.proofs.PageWalks.{MayRaise}
 use Rattle.interval_row.proofs.Stores.{map-insert}
 
 -- the capacity that is put is the one that is read

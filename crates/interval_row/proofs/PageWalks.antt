@@ -1,5 +1,5 @@
 -- What a walk back leaves of spans, and pages of which all spans follow at once.
-use Rattle.std.proofs.Common.{◌≡◌, ℕ, zero, suc, ◌+◌, ◌-◌, ◌*◌, ◌/◌, ◌%◌, ◌<◌, ◌≤◌, ◌^◌, ℤ, pos, ◌+ℤ◌, ◌≤ℤ◌, cond, eqb, ltb, List, [], ◌∷◌, length, take, drop, Some, inl, inr, refl, sym, subst, ◌∙◌, ap, arith}
+use Rattle.std.proofs.Common.{◌≡◌, ℕ, zero, suc, ◌+◌, ◌-◌, ◌*◌, ◌/◌, ◌%◌, ◌<◌, ◌≤◌, ◌^◌, ℤ, pos, ◌+ℤ◌, ◌≤ℤ◌, cond, eqb, ltb, List, [], ◌∷◌, length, take, drop, Some, inl, inr, FitsSigned, w64, refl, sym, subst, ◌∙◌, ap, arith}
 use Rattle.std.specs.Prelude.{slice_get}
 use Rattle.std.specs.List.{AllByRecursion}
 use Rattle.std.proofs.lemmas.Bool.{cases_lt, eq-eqb, ne_eqb}
@@ -11,10 +11,10 @@ use Rattle.spare_capacity.specs.Lending.{carry, raised, repaid}
 use Rattle.spare_capacity.specs.Recurrence.{filled, FollowOn, first_start, last_end}
 use Rattle.spare_capacity.proofs.Free.{rest-filled}
 use Rattle.interval_row.specs.Changes.{ends_before}
-use Rattle.interval_row.specs.Lifts.{raised_at, AreAtMost, MayRaise}
+use Rattle.interval_row.specs.Lifts.{raised_at, AreAtMost}
 use Rattle.interval_row.specs.Marks.{count_at, mark_index, AreTimed}
 use Rattle.interval_row.specs.Spans.{with_work_at, AreFilled}
-use Rattle.interval_row.specs.Walks.{after_walk, walked, AreInPages, AreUpTo, PagesGiveNone, IsPageOf}
+use Rattle.interval_row.specs.Walks.{after_walk, walked, AreInPages, HaveAtMost, IsPageOf}
 use Rattle.interval_row.specs.declared.walk_back.Walk.{Walk}
 use Rattle.interval_row.proofs.CutTimes.{ends_before-ended, ends_before-later, ends_before-page, ends_before-start, AreInLap, IsInLap}
 use Rattle.interval_row.proofs.Cycles.{last_end-some}
@@ -52,13 +52,6 @@ last_end-walked start more zero rows = refl
 last_end-walked start more (suc k) [] = refl
 last_end-walked start more (suc k) (s ∷ ss) = last_end-walked s.end more k ss
 
--- no span ends before a time that the first reaches
-pub ends_before-reached : (start y : ℕ) (rows : List Span) (s : Span) → FollowOn start rows → slice_get rows 0 ≡ Some s → y ≤ s.end → ends_before y rows ≡ 0
-ends_before-reached start y [] s follow at reached = refl
-ends_before-reached start y (r ∷ rs) s follow at reached =
-    let late : y ≤ r.end = omega (arith, reached, ap (λ (t : Span). t.end) (same_Some r s at)) in
-    ends_before-later y r rs late ∙ ends_before-start r.end y rs follow.4 late
-
 -- a span ends where the one after it starts
 pub meets : (start k : ℕ) (rows : List Span) (s t : Span) → FollowOn start rows → slice_get rows k ≡ Some s → slice_get rows (suc k) ≡ Some t → s.end ≡ t.start
 meets start k [] s t follow at next = absurd (omega (arith, slice_get_within [] k s at))
@@ -79,8 +72,17 @@ before-page time end page late early high same = omega (arith, late, early, high
 after-page : (time end page : ℕ) → (page + 1) * 64 ≤ end → end < (time / 64 + 512) * 64 → time / 64 ≤ page → mark_index end ≡ page % 512 → ⊥
 after-page time end page after near low same = omega (arith, after, near, low, same)
 
-in-page : (end page : ℕ) → page * 64 ≤ end → end < (page + 1) * 64 → mark_index end ≡ page % 512
+-- an end between the borders of a page has its mark
+pub in-page : (end page : ℕ) → page * 64 ≤ end → end < (page + 1) * 64 → mark_index end ≡ page % 512
 in-page end page low high = omega (arith, low, high)
+
+-- a span has no capacity that it could give, before and after so much more
+abbrev pub GivesNone : ℤ → Span → Type 0
+GivesNone more s = (s.spare ≤ℤ pos 0) × ((s.spare +ℤ more) ≤ℤ pos 0)
+
+-- nor has any that ends in the pages of the mark at an index
+abbrev pub PagesGiveNone : ℕ → ℤ → List Span → Type 0
+PagesGiveNone j more spans = AllByRecursion (λ (s : Span). mark_index s.end ≡ j → GivesNone more s) spans
 
 -- a bound below 0, before and after, is one on what spans give
 pub PagesGiveNone-AreAtMost : (j : ℕ) (high more : ℤ) (rows : List Span) → high ≤ℤ pos 0 → (high +ℤ more) ≤ℤ pos 0 → AreAtMost j high rows → PagesGiveNone j more rows
@@ -163,6 +165,10 @@ PassesPage-PagesGiveNone time start page more (s ∷ ss) is follow all none =
           record { carry = rw low (sym all_of.carry); spans = rw low (sym all_of.spans) }
     ]
 
+-- each span that ends in the pages of the mark at an index can have so much more capacity
+abbrev pub MayRaise : ℕ → ℤ → List Span → Type 0
+MayRaise j more spans = AllByRecursion (λ (s : Span). mark_index s.end ≡ j → FitsSigned w64 (s.spare +ℤ more)) spans
+
 -- the spans of a mark can be raised where what they become has capacities within bounds
 MayRaise-raised_at : (j : ℕ) (more : ℤ) (rows : List Span) → AllByRecursion (λ (s : Span). IsWithin s.spare) (raised_at j more rows) → MayRaise j more rows
 MayRaise-raised_at j more [] all = tt
@@ -193,28 +199,28 @@ AreAtMost-later time start page high (s ∷ ss) is follow all after =
     let late : (page + 1) * 64 ≤ s.end = omega (arith, follow.0, follow.1, after) in
     (λ own. absurd (after-page time s.end page late all.0.near is.low own), AreAtMost-later time s.end page high ss is follow.4 all.1 late)
 
-below-from : (time start page n : ℕ) (high : ℤ) (rows : List Span) → IsPageIn time page → FollowOn start rows → AllByRecursion (IsInLap time) rows → ends_before ((page + 1) * 64) rows ≡ n → AreUpTo high (take n rows) → AreAtMost (page % 512) high rows
+below-from : (time start page n : ℕ) (high : ℤ) (rows : List Span) → IsPageIn time page → FollowOn start rows → AllByRecursion (IsInLap time) rows → ends_before ((page + 1) * 64) rows ≡ n → HaveAtMost high (take n rows) → AreAtMost (page % 512) high rows
 below-from time start page n high [] is follow all count up = tt
 below-from time start page n high (s ∷ ss) is follow all count up =
     let y = (page + 1) * 64 in
     elim (cases_lt s.end y) [
       | inl here ↦
           let more : n ≡ suc (ends_before y ss) = sym count ∙ ends_before-ended y s ss here in
-          let ups : AreUpTo high (take (suc (ends_before y ss)) (s ∷ ss)) = rw more at up in
+          let ups : HaveAtMost high (take (suc (ends_before y ss)) (s ∷ ss)) = rw more at up in
           (λ own. ups.0, below-from time s.end page (ends_before y ss) high ss is follow.4 all.1 refl ups.1)
       | inr late ↦
           (λ own. absurd (after-page time s.end page late all.0.near is.low own), AreAtMost-later time s.end page high ss is follow.4 all.1 late)
     ]
 
-pub AreAtMost-AreUpTo : (time start page n : ℕ) (high : ℤ) (rows : List Span) → IsPageIn time page → FollowOn start rows → AllByRecursion (IsInLap time) rows → ends_before ((page + 1) * 64) rows ≡ ends_before (page * 64) rows + n → AreUpTo high (take n (drop (ends_before (page * 64) rows) rows)) → AreAtMost (page % 512) high rows
-AreAtMost-AreUpTo time start page n high [] is follow all count up = tt
-AreAtMost-AreUpTo time start page n high (s ∷ ss) is follow all count up =
+pub AreAtMost-HaveAtMost : (time start page n : ℕ) (high : ℤ) (rows : List Span) → IsPageIn time page → FollowOn start rows → AllByRecursion (IsInLap time) rows → ends_before ((page + 1) * 64) rows ≡ ends_before (page * 64) rows + n → HaveAtMost high (take n (drop (ends_before (page * 64) rows) rows)) → AreAtMost (page % 512) high rows
+AreAtMost-HaveAtMost time start page n high [] is follow all count up = tt
+AreAtMost-HaveAtMost time start page n high (s ∷ ss) is follow all count up =
     elim (cases_lt s.end (page * 64)) [
       | inl early ↦
           let low : ends_before (page * 64) (s ∷ ss) ≡ suc (ends_before (page * 64) ss) = ends_before-ended (page * 64) s ss early in
           let high_of : ends_before ((page + 1) * 64) (s ∷ ss) ≡ suc (ends_before ((page + 1) * 64) ss) = ends_before-ended ((page + 1) * 64) s ss (omega (arith, early)) in
-          let rest : AreUpTo high (take n (drop (ends_before (page * 64) ss) ss)) = rw low at up in
-          (λ own. absurd (before-page time s.end page all.0.late early is.high own), AreAtMost-AreUpTo time s.end page n high ss is follow.4 all.1 (omega (arith, count, low, high_of)) rest)
+          let rest : HaveAtMost high (take n (drop (ends_before (page * 64) ss) ss)) = rw low at up in
+          (λ own. absurd (before-page time s.end page all.0.late early is.high own), AreAtMost-HaveAtMost time s.end page n high ss is follow.4 all.1 (omega (arith, count, low, high_of)) rest)
       | inr reached ↦
           let low : ends_before (page * 64) (s ∷ ss) ≡ 0 = ends_before-later (page * 64) s ss reached ∙ ends_before-start s.end (page * 64) ss follow.4 reached in
           below-from time start page n high (s ∷ ss) is follow all (omega (arith, count, low)) (rw low at up)
@@ -250,7 +256,7 @@ count_at-page page walk rows marks mark pages at told =
     omega (arith, ends_before-page (first_start rows) page rows at.lap at.is.low at.is.high, pages.counts (page % 512) mark told, count_at-walked (page % 512) walk.more walk.index rows)
 
 -- all capacities are within bounds
-AreWithin : (start : ℕ) (rows : List Span) → FollowOn start rows → rows ≡ filled rows → length rows ≤ 2 ^ 20 → AllByRecursion (λ (s : Span). IsWithin s.spare) rows
+pub AreWithin : (start : ℕ) (rows : List Span) → FollowOn start rows → rows ≡ filled rows → length rows ≤ 2 ^ 20 → AllByRecursion (λ (s : Span). IsWithin s.spare) rows
 AreWithin start [] follow e few = tt
 AreWithin start (s ∷ ss) follow e few =
     (IsWithin-spare start (s ∷ ss) 0 follow e few (omega arith), AreWithin s.end ss follow.4 (rest-filled s ss e) (omega (arith, few)))

@@ -12,12 +12,12 @@ use Rattle.node_chain.specs.Laps.{blank_lift, blank_mark}
 use Rattle.node_chain.specs.Passes.{lift_passed, lift_raised, lifts_passed, spans_ending}
 use Rattle.spare_capacity.specs.Recurrence.{first_start}
 use Rattle.interval_row.specs.Changes.{ends_before}
-use Rattle.interval_row.specs.Lifts.{lifted, AreAtMost, AreCovered, MayRaise}
+use Rattle.interval_row.specs.Lifts.{lifted, AreAtMost, AreCovered}
 use Rattle.interval_row.specs.Marks.{count_at, mark_index, page_of}
 use Rattle.interval_row.specs.Walks.{after_walk, walked, AreInPages, IsPageOf}
 use Rattle.interval_row.specs.declared.walk_back.Walk.{Walk}
 use Rattle.interval_row.proofs.LiftedSpans.{lifted-raised, AreAtMost-covered, AreCovered-raised}
-use Rattle.interval_row.proofs.PageWalks.{count_at-page, count_at-walked, AreAtPage-walk, PagesGiveNone-AreAtMost, PassesTo, PassesTo-PagesGiveNone}
+use Rattle.interval_row.proofs.PageWalks.{count_at-page, count_at-walked, AreAtPage-walk, MayRaise, PagesGiveNone-AreAtMost, PassesTo, PassesTo-PagesGiveNone}
 
 -- a bound of spans can rise as they can, up to 0, where there is one
 FitsSigned-bound : (j : ℕ) (high more : ℤ) (rows : List Span) → 1 ≤ count_at j rows → AreAtMost j high rows → MayRaise j more rows → (high +ℤ more) ≤ℤ pos 0 → FitsSigned w64 (high +ℤ more)

@@ -1,18 +1,17 @@
 -- Runs of spans that follow at once in a walk back, each but the first with nothing to give.
-use Rattle.std.proofs.Common.{◌≡◌, ℕ, zero, suc, ◌+◌, ◌-◌, ◌*◌, ◌%◌, ◌<◌, ◌≤◌, ◌^◌, ℤ, pos, ◌+ℤ◌, ◌≤ℤ◌, T, leb, ltb, true, List, [], ◌∷◌, ◌++◌, length, get_or, map, set, take, drop, slice_get, Some, IfSome, FitsSigned, w64, int_le, inl, inr, refl, sym, subst, ◌∙◌, ap, arith}
+use Rattle.std.proofs.Common.{◌≡◌, ℕ, zero, suc, ◌+◌, ◌-◌, ◌*◌, ◌%◌, ◌<◌, ◌≤◌, ℤ, pos, ◌+ℤ◌, ◌≤ℤ◌, T, leb, ltb, true, List, [], ◌∷◌, ◌++◌, length, get_or, map, set, take, drop, slice_get, Some, IfSome, FitsSigned, w64, int_le, inl, inr, refl, sym, subst, ◌∙◌, ap, arith}
 use Rattle.std.specs.Int.{int_wrap}
 use Rattle.std.specs.Int.Signed.{le_z_yes}
 use Rattle.std.specs.List.{AllByRecursion}
 use Rattle.std.proofs.lemmas.Bool.{and_parts, cases_lt, leb-true}
 use Rattle.std.proofs.lemmas.Int.{ints, clamps, int_wrap_fits, int_wrap-add_left}
-use Rattle.std.proofs.Math.Seq.{drop-nil}
-use Rattle.std.proofs.lemmas.List.{drop-map, take-take}
+use Rattle.std.proofs.lemmas.List.{drop-drop, drop-map, take-take}
+use Rattle.std.proofs.lemmas.List.Elements.{All-drop, All-from_recursion, All-take, recursion_from_All}
 use Rattle.std.proofs.lemmas.List.Sums.{count_by-le-length}
 use Rattle.std.proofs.lemmas.Option.{same_Some, slice_get-get_or, slice_get_within}
 use Rattle.slot_core.specs.declared.jobs.Span.{Span}
 use Rattle.spare_capacity.specs.Lending.{carry, raised, repaid}
-use Rattle.spare_capacity.specs.Recurrence.{filled, first_start, FollowOn}
-use Rattle.spare_capacity.proofs.Free.{rest-filled}
+use Rattle.spare_capacity.specs.Recurrence.{first_start, FollowOn}
 use Rattle.spare_capacity.proofs.Steps.{no_row}
 use Rattle.node_chain.specs.declared.marks.Lift.{Lift}
 use Rattle.node_chain.specs.declared.raises.Raise.{Raise}
@@ -21,12 +20,13 @@ use Rattle.interval_row.specs.Changes.{ends_before}
 use Rattle.interval_row.specs.Lifts.{lift_of, lifted, lifted_by, lifted_in, AreCovered}
 use Rattle.interval_row.specs.Marks.{mark_index}
 use Rattle.interval_row.specs.Spans.{AreFilled}
-use Rattle.interval_row.specs.Walks.{after_walk, walked, AreUpTo, GivesNone}
+use Rattle.interval_row.specs.Walks.{after_walk, walked, HaveAtMost}
 use Rattle.interval_row.specs.declared.walk_back.Walk.{Walk}
-use Rattle.interval_row.proofs.CutTimes.{ends_before-ended, ends_before-inside, ends_before-later, ends_before-start, rises-at, start-at}
+use Rattle.interval_row.proofs.CutTimes.{ends_before-ended, ends_before-inside, ends_before-later}
 use Rattle.interval_row.proofs.LiftedSpans.{lift_of-set, lift_of-there, lifted_in-same, AreAtMost-covered, AreAtMost-more, AreCovered-set}
-use Rattle.interval_row.proofs.PageWalks.{ends_before-walks, follows-walk, meets}
-use Rattle.interval_row.proofs.WalkBack.{IsWithin, IsWithin-spare}
+use Rattle.interval_row.proofs.PageWalks.{ends_before-walks, follows-walk, in-page, meets, AreWithin, GivesNone}
+use Rattle.interval_row.proofs.WalkBack.{IsWithin}
+use Rattle.interval_row.proofs.WalkPages.{ends_before-past, ends_before-short}
 
 -- a lift of what is kept and one of its page add up, in either order
 twice : (lifts : List Lift) (more : ℤ) (s : Span) → (lifted_in lifts (lifted_by more s)).spare ≡ int_wrap w64 ((lifted_in lifts s).spare +ℤ more)
@@ -62,12 +62,6 @@ in_parts f (suc k) d (suc n) (s ∷ ss) sum few = ap (λ ts. s ∷ ts) (in_parts
 -- so it is the map between these places
 each_between-is : (f : Span → Span) (k n : ℕ) (spans : List Span) → k ≤ n → n ≤ length spans → map_between f k n spans ≡ each_between f k n spans
 each_between-is f k n spans low few = in_parts f k (n - k) n spans (omega (arith, low)) few
-
--- all capacities of the recurrence are within bounds
-AreWithin : (start : ℕ) (rows : List Span) → FollowOn start rows → rows ≡ filled rows → length rows ≤ 2 ^ 20 → AllByRecursion (λ (s : Span). IsWithin s.spare) rows
-AreWithin start [] follow e few = tt
-AreWithin start (s ∷ ss) follow e few =
-    (IsWithin-spare start (s ∷ ss) 0 follow e few (omega arith), AreWithin s.end ss follow.4 (rest-filled s ss e) (omega (arith, few)))
 
 -- spans that all have nothing to give pass on what they are repaid
 record PassWhole (lifts : List Lift) (more : ℤ) (n : ℕ) (rows : List Span) : Type 0 where
@@ -163,7 +157,7 @@ first-of-run more k n first rows low few at =
     ap (λ xs. slice_get xs k) (each_between-is (lifted_by more) k n rows (omega (arith, low)) few) ∙ first-each more k n first rows low at
 
 -- a bound on the capacities of a run once it is raised
-up-each : (lifts : List Lift) (more high : ℤ) (k d n : ℕ) (rows : List Span) → k + d ≡ n → n ≤ length rows → ((i : ℕ) (s : Span) → k ≤ i → i < n → slice_get rows i ≡ Some s → int_wrap w64 ((lifted_in lifts s).spare +ℤ more) ≤ℤ high) → AreUpTo high (take d (drop k (raised_run lifts more k n rows)))
+up-each : (lifts : List Lift) (more high : ℤ) (k d n : ℕ) (rows : List Span) → k + d ≡ n → n ≤ length rows → ((i : ℕ) (s : Span) → k ≤ i → i < n → slice_get rows i ≡ Some s → int_wrap w64 ((lifted_in lifts s).spare +ℤ more) ≤ℤ high) → HaveAtMost high (take d (drop k (raised_run lifts more k n rows)))
 up-each lifts more high zero zero n rows sum few up = tt
 up-each lifts more high zero (suc d) zero rows sum few up = absurd (omega (arith, sum))
 up-each lifts more high (suc k) d zero rows sum few up = absurd (omega (arith, sum))
@@ -174,9 +168,9 @@ up-each lifts more high (suc k) d (suc n) (s ∷ ss) sum few up =
     up-each lifts more high k d n ss (omega (arith, sum)) (omega (arith, few)) (λ i t l h is. up (suc i) t (omega (arith, l)) (omega (arith, h)) is)
 
 -- so it is one on the rows with the run raised
-pub AreUpTo-run : (lifts : List Lift) (more high : ℤ) (k n : ℕ) (rows : List Span) → k ≤ n → n ≤ length rows → ((i : ℕ) (s : Span) → k ≤ i → i < n → slice_get rows i ≡ Some s → int_wrap w64 ((lifted_in lifts s).spare +ℤ more) ≤ℤ high) → AreUpTo high (take (n - k) (drop k (lifted lifts (map_between (lifted_by more) k n rows))))
-AreUpTo-run lifts more high k n rows low few up =
-    subst (λ xs. AreUpTo high (take (n - k) (drop k (lifted lifts xs)))) (sym (each_between-is (lifted_by more) k n rows low few)) (up-each lifts more high k (n - k) n rows (omega (arith, low)) few up)
+pub HaveAtMost-run : (lifts : List Lift) (more high : ℤ) (k n : ℕ) (rows : List Span) → k ≤ n → n ≤ length rows → ((i : ℕ) (s : Span) → k ≤ i → i < n → slice_get rows i ≡ Some s → int_wrap w64 ((lifted_in lifts s).spare +ℤ more) ≤ℤ high) → HaveAtMost high (take (n - k) (drop k (lifted lifts (map_between (lifted_by more) k n rows))))
+HaveAtMost-run lifts more high k n rows low few up =
+    subst (λ xs. HaveAtMost high (take (n - k) (drop k (lifted lifts xs)))) (sym (each_between-is (lifted_by more) k n rows low few)) (up-each lifts more high k (n - k) n rows (omega (arith, low)) few up)
 
 -- spans follow on where they do with their capacities lifted
 pub FollowOn-lifted : (lifts : List Lift) (start : ℕ) (spans : List Span) → FollowOn start (lifted lifts spans) → FollowOn start spans
@@ -205,39 +199,19 @@ ends_before-lifted lifts y (s ∷ ss) =
     ]
 
 -- a span with no fewer before it than end before a time ends then or later
-pub ends-late : (start y i : ℕ) (rows : List Span) (s : Span) → FollowOn start rows → slice_get rows i ≡ Some s → ends_before y rows ≤ i → y ≤ s.end
-ends-late start y i [] s follow at low = absurd (omega (arith, slice_get_within [] i s at))
-ends-late start y zero (r ∷ rs) s follow at low =
-    elim (cases_lt r.end y) [
-      | inl early ↦ absurd (omega (arith, low, ends_before-ended y r rs early))
-      | inr late ↦ omega (arith, late, ap (λ (t : Span). t.end) (same_Some r s at))
-    ]
-ends-late start y (suc i) (r ∷ rs) s follow at low =
-    elim (cases_lt r.end y) [
-      | inl early ↦ ends-late r.end y i rs s follow.4 at (omega (arith, low, ends_before-ended y r rs early))
-      | inr late ↦ omega (arith, late, start-at r.end i rs s follow.4 at, rises-at r.end i rs s follow.4 at)
+ends-late : (start y i : ℕ) (rows : List Span) (s : Span) → FollowOn start rows → slice_get rows i ≡ Some s → ends_before y rows ≤ i → y ≤ s.end
+ends-late start y i rows s follow at low =
+    elim (cases_lt s.end y) [
+      | inl early ↦ absurd (omega (arith, low, ends_before-past start y i rows s follow at early))
+      | inr late ↦ late
     ]
 
 -- and one with fewer before it, before
-pub ends-early : (start y i : ℕ) (rows : List Span) (s : Span) → FollowOn start rows → slice_get rows i ≡ Some s → i < ends_before y rows → s.end < y
-ends-early start y i [] s follow at low = absurd (omega (arith, slice_get_within [] i s at))
-ends-early start y zero (r ∷ rs) s follow at low =
-    elim (cases_lt r.end y) [
-      | inl early ↦ omega (arith, early, ap (λ (t : Span). t.end) (same_Some r s at))
-      | inr late ↦ absurd (omega (arith, low, ends_before-later y r rs late, ends_before-start r.end y rs follow.4 late))
-    ]
-ends-early start y (suc i) (r ∷ rs) s follow at low =
-    elim (cases_lt r.end y) [
-      | inl early ↦ ends-early r.end y i rs s follow.4 at (omega (arith, low, ends_before-ended y r rs early))
-      | inr late ↦ absurd (omega (arith, low, ends_before-later y r rs late, ends_before-start r.end y rs follow.4 late))
-    ]
-
--- so no more end before a time than stand before a span that ends then or later
-pub ends_before-at : (start y i : ℕ) (rows : List Span) (s : Span) → FollowOn start rows → slice_get rows i ≡ Some s → y ≤ s.end → ends_before y rows ≤ i
-ends_before-at start y i rows s follow at late =
-    elim (cases_lt i (ends_before y rows)) [
-      | inl low ↦ absurd (omega (arith, late, ends-early start y i rows s follow at low))
-      | inr high ↦ high
+ends-early : (start y i : ℕ) (rows : List Span) (s : Span) → FollowOn start rows → slice_get rows i ≡ Some s → i < ends_before y rows → s.end < y
+ends-early start y i rows s follow at low =
+    elim (cases_lt s.end y) [
+      | inl early ↦ early
+      | inr late ↦ absurd (omega (arith, low, ends_before-short start y i rows s follow at late))
     ]
 
 -- spans that are raised back in a page, from one that passes it on to another
@@ -252,10 +226,6 @@ pub record IsRun (lifts : List Lift) (page : ℕ) (lift : Lift) (raise : Raise) 
   pub after : (raise.limit +ℤ raise.more) ≤ℤ pos 0
   pub before : k < n
   pub passed : (i : ℕ) (s : Span) → k < i → i < n → slice_get rows i ≡ Some s → passes_on raise s ≡ true
-
--- an end between the borders of a page has its mark
-in-page : (end page : ℕ) → page * 64 ≤ end → end < (page + 1) * 64 → mark_index end ≡ page % 512
-in-page end page low high = omega (arith, low, high)
 
 -- a span that passes on what it is repaid starts at the border or later
 passed-start : (raise : Raise) (s : Span) → passes_on raise s ≡ true → raise.border ≤ s.start
@@ -301,15 +271,15 @@ module _ (lifts : List Lift) (page : ℕ) (lift : Lift) (raise : Raise) (k n : �
   IsRun-reached =
       let s = get_or rows k no_row in
       let at : slice_get rows k ≡ Some s = slice_get-get_or rows k no_row (omega (arith, is.before, IsRun-within)) in
-      ends_before-at (first_start rows) (page * 64) k rows s is.follow at (run-late k s (omega arith) is.before at)
+      ends_before-short (first_start rows) (page * 64) k rows s is.follow at (run-late k s (omega arith) is.before at)
 
   -- those of the run follow
   pub IsRun-follows : (first : Span) → slice_get rows k ≡ Some first → AreFilled (walked raise.more n (lifted lifts rows)) → FollowsRun lifts raise.more k n first rows
   IsRun-follows first at are = FollowsRun-AreFilled lifts raise.more k n first rows is.before IsRun-within at run-none are
 
-  pub IsRun-up : (high : ℤ) → ((i : ℕ) (s : Span) → k ≤ i → i < n → slice_get rows i ≡ Some s → spare_after raise s ≤ℤ high) → AreUpTo high (take (n - k) (drop k (lifted lifts (map_between (lifted_by raise.more) k n rows))))
+  pub IsRun-up : (high : ℤ) → ((i : ℕ) (s : Span) → k ≤ i → i < n → slice_get rows i ≡ Some s → spare_after raise s ≤ℤ high) → HaveAtMost high (take (n - k) (drop k (lifted lifts (map_between (lifted_by raise.more) k n rows))))
   IsRun-up high up =
-      AreUpTo-run lifts raise.more high k n rows (omega (arith, is.before)) IsRun-within (λ i s low top at. subst (λ x. int_wrap w64 (x +ℤ raise.more) ≤ℤ high) (sym (IsRun-spare i s low top at)) (up i s low top at))
+      HaveAtMost-run lifts raise.more high k n rows (omega (arith, is.before)) IsRun-within (λ i s low top at. subst (λ x. int_wrap w64 (x +ℤ raise.more) ≤ℤ high) (sym (IsRun-spare i s low top at)) (up i s low top at))
 
 -- walks to the same end leave as many of the kept spans before a time
 pub ends_before-runs : (y : ℕ) (lifts : List Lift) (walk from : Walk) (new rows : List Span) → after_walk walk (lifted lifts new) ≡ after_walk from (lifted lifts rows) → ends_before y new ≡ ends_before y rows
@@ -335,7 +305,7 @@ module _ (lifts : List Lift) (walk : Walk) (start : ℕ) (rows : List Span) (are
       let after : slice_get rows (suc k) ≡ Some come-to.0 = ap (slice_get rows) next ∙ come-to.1 in
       let follow = follows-lifted lifts walk rows are in
       let ends = meets (first_start rows) k rows s come-to.0 follow at after in
-      omega (arith, some, ends_before-at (first_start rows) y k rows s follow at (omega (arith, late, ends, come-to.2)))
+      omega (arith, some, ends_before-short (first_start rows) y k rows s follow at (omega (arith, late, ends, come-to.2)))
 
   -- where it is earlier, all spans that end before y are those before it
   pub come-before : (y : ℕ) → ends_before y rows ≤ walk.index → start < y → walk.index ≡ ends_before y rows
@@ -345,27 +315,22 @@ module _ (lifts : List Lift) (walk : Walk) (start : ℕ) (rows : List Span) (are
       sym (ends_before-inside (first_start rows) y walk.index rows come-to.0 follow come-to.1 (omega (arith, early, come-to.2)) late)
 
 -- a bound is one that is greater
-up-more : (low high : ℤ) (rows : List Span) → low ≤ℤ high → AreUpTo low rows → AreUpTo high rows
+up-more : (low high : ℤ) (rows : List Span) → low ≤ℤ high → HaveAtMost low rows → HaveAtMost high rows
 up-more low high [] l h = tt
 up-more low high (s ∷ ss) l h = (omega (arith, ints, l, h.0), up-more low high ss l h.1)
 
 -- a bound on some spans and on those after them is one on all
-up-join : (high : ℤ) (a b c : ℕ) (rows : List Span) → a + b ≡ c → AreUpTo high (take a rows) → AreUpTo high (take b (drop a rows)) → AreUpTo high (take c rows)
+up-join : (high : ℤ) (a b c : ℕ) (rows : List Span) → a + b ≡ c → HaveAtMost high (take a rows) → HaveAtMost high (take b (drop a rows)) → HaveAtMost high (take c rows)
 up-join high zero b c rows sum front rest =
     let same : b ≡ c = omega (arith, sum) in
-    subst (λ n. AreUpTo high (take n rows)) same rest
+    subst (λ n. HaveAtMost high (take n rows)) same rest
 up-join high (suc a) b zero rows sum front rest = absurd (omega (arith, sum))
 up-join high (suc a) b (suc c) [] sum front rest = tt
 up-join high (suc a) b (suc c) (s ∷ ss) sum front rest = (front.0, up-join high a b c ss (omega (arith, sum)) front.1 rest)
 
 -- a rest of a rest
 drop-join : (k a n : ℕ) (rows : List Span) → k + a ≡ n → drop a (drop k rows) ≡ drop n rows
-drop-join zero a n rows sum =
-    let same : a ≡ n = omega (arith, sum) in
-    ap (λ m. drop m rows) same
-drop-join (suc k) a zero rows sum = absurd (omega (arith, sum))
-drop-join (suc k) a (suc n) [] sum = drop-nil a
-drop-join (suc k) a (suc n) (s ∷ ss) sum = drop-join k a n ss (omega (arith, sum))
+drop-join k a n rows sum = drop-drop a k rows ∙ ap (λ m. drop m rows) sum
 
 -- lists that are the same from a place on are so from a later one on
 pub drop-further : (k n : ℕ) (new rows : List Span) → drop k new ≡ drop k rows → k ≤ n → drop n new ≡ drop n rows
@@ -377,13 +342,13 @@ pub take-fewer : (j k : ℕ) (new rows : List Span) → take k new ≡ take k ro
 take-fewer j k new rows same l = sym (take-take j k new l) ∙ ap (take j) same ∙ take-take j k rows l
 
 -- the greater of the bounds on a run and on the spans after it is one on all of them
-pub AreUpTo-runs : (lifts : List Lift) (low high top : ℤ) (j k n : ℕ) (new rows : List Span) → j ≤ k → k ≤ n → low ≤ℤ top → high ≤ℤ top → drop k new ≡ drop k rows → AreUpTo high (take (k - j) (drop j (lifted lifts new))) → AreUpTo low (take (n - k) (drop k (lifted lifts rows))) → AreUpTo top (take (n - j) (drop j (lifted lifts new)))
-AreUpTo-runs lifts low high top j k n new rows l m under over same run rest =
+pub HaveAtMost-runs : (lifts : List Lift) (low high top : ℤ) (j k n : ℕ) (new rows : List Span) → j ≤ k → k ≤ n → low ≤ℤ top → high ≤ℤ top → drop k new ≡ drop k rows → HaveAtMost high (take (k - j) (drop j (lifted lifts new))) → HaveAtMost low (take (n - k) (drop k (lifted lifts rows))) → HaveAtMost top (take (n - j) (drop j (lifted lifts new)))
+HaveAtMost-runs lifts low high top j k n new rows l m under over same run rest =
     let after : drop k (lifted lifts rows) ≡ drop (k - j) (drop j (lifted lifts new)) =
     drop-map (lifted_in lifts) k rows ∙ ap (lifted lifts) (sym same) ∙ sym (drop-map (lifted_in lifts) k new)
     ∙ sym (drop-join j (k - j) k (lifted lifts new) (omega (arith, l))) in
     up-join top (k - j) (n - k) (n - j) (drop j (lifted lifts new)) (omega (arith, l, m)) (up-more high top (take (k - j) (drop j (lifted lifts new))) over run)
-    (subst (λ xs. AreUpTo top (take (n - k) xs)) after (up-more low top (take (n - k) (drop k (lifted lifts rows))) under rest))
+    (subst (λ xs. HaveAtMost top (take (n - k) xs)) after (up-more low top (take (n - k) (drop k (lifted lifts rows))) under rest))
 
 -- what holds of spans by their places holds of those between two
 all-each : (P : Span → Type 0) (k d n : ℕ) (rows : List Span) → k + d ≡ n → ((i : ℕ) (s : Span) → k ≤ i → i < n → slice_get rows i ≡ Some s → P s) → AllByRecursion P (take d (drop k rows))
@@ -408,18 +373,6 @@ all-join P zero (suc d) (suc n) (s ∷ ss) sum front run rest = (run.0, all-join
 all-join P (suc k) d zero (s ∷ ss) sum front run rest = absurd (omega (arith, sum))
 all-join P (suc k) d (suc n) (s ∷ ss) sum front run rest = (front.0, all-join P k d n ss (omega (arith, sum)) front.1 run rest)
 
--- what holds of all holds of the first of them
-all-take : (P : Span → Type 0) (k : ℕ) (rows : List Span) → AllByRecursion P rows → AllByRecursion P (take k rows)
-all-take P zero rows all = tt
-all-take P (suc k) [] all = tt
-all-take P (suc k) (s ∷ ss) all = (all.0, all-take P k ss all.1)
-
--- and of the rest
-all-drop : (P : Span → Type 0) (k : ℕ) (rows : List Span) → AllByRecursion P rows → AllByRecursion P (drop k rows)
-all-drop P zero rows all = all
-all-drop P (suc k) [] all = tt
-all-drop P (suc k) (s ∷ ss) all = all-drop P k ss all.1
-
 -- spans with all before them that end before a page, and before those that end later, end in it
 in-pages : (start page k n : ℕ) (rows : List Span) → FollowOn start rows → k ≤ n → ends_before (page * 64) rows ≤ k → n ≤ ends_before ((page + 1) * 64) rows → AllByRecursion (λ (s : Span). mark_index s.end ≡ page % 512) (take (n - k) (drop k rows))
 in-pages start page k n rows follow l low high =
@@ -432,7 +385,7 @@ module _ (lifts : List Lift) (j : ℕ) (was : Lift) (at : slice_get lifts j ≡ 
   IsCovered s = (lifted_in (set lifts j lift) s).spare ≤ℤ (lift_of (set lifts j lift) s).high
 
   -- covers spans of its mark with no more capacity
-  covered-run : (high : ℤ) (k d : ℕ) (rows : List Span) → high ≤ℤ lift.high → AllByRecursion (λ (s : Span). mark_index s.end ≡ j) (take d (drop k rows)) → AreUpTo high (take d (drop k (lifted lifts rows))) → AllByRecursion IsCovered (take d (drop k rows))
+  covered-run : (high : ℤ) (k d : ℕ) (rows : List Span) → high ≤ℤ lift.high → AllByRecursion (λ (s : Span). mark_index s.end ≡ j) (take d (drop k rows)) → HaveAtMost high (take d (drop k (lifted lifts rows))) → AllByRecursion IsCovered (take d (drop k rows))
   covered-run high zero zero rows l own up = tt
   covered-run high zero (suc d) [] l own up = tt
   covered-run high zero (suc d) (s ∷ ss) l own up =
@@ -444,12 +397,15 @@ module _ (lifts : List Lift) (j : ℕ) (was : Lift) (at : slice_get lifts j ≡ 
   covered-run high (suc k) d (s ∷ ss) l own up = covered-run high k d ss l own up
 
   -- and the spans before and after them, which were covered
-  pub AreCovered-runs : (high : ℤ) (k n : ℕ) (new rows : List Span) → was.high ≤ℤ lift.high → high ≤ℤ lift.high → k ≤ n → AreCovered lifts rows → AllByRecursion (λ (s : Span). mark_index s.end ≡ j) (take (n - k) (drop k new)) → AreUpTo high (take (n - k) (drop k (lifted lifts new))) → take k new ≡ take k rows → drop n new ≡ drop n rows → AreCovered (set lifts j lift) new
+  pub AreCovered-runs : (high : ℤ) (k n : ℕ) (new rows : List Span) → was.high ≤ℤ lift.high → high ≤ℤ lift.high → k ≤ n → AreCovered lifts rows → AllByRecursion (λ (s : Span). mark_index s.end ≡ j) (take (n - k) (drop k new)) → HaveAtMost high (take (n - k) (drop k (lifted lifts new))) → take k new ≡ take k rows → drop n new ≡ drop n rows → AreCovered (set lifts j lift) new
   AreCovered-runs high k n new rows more over l all own up front rest =
       let below = AreAtMost-more j was.high lift.high more (lifted lifts rows) (AreAtMost-covered lifts j was at rows all) in
       let still : AllByRecursion IsCovered rows = AreCovered-set lifts j was at lift same rows below all in
-      all-join IsCovered k (n - k) n new (omega (arith, l)) (subst (AllByRecursion IsCovered) (sym front) (all-take IsCovered k rows still)) (covered-run high k (n - k) new over own up)
-      (subst (AllByRecursion IsCovered) (sym rest) (all-drop IsCovered n rows still))
+      let each = All-from_recursion IsCovered rows still in
+      let first = recursion_from_All IsCovered (take k rows) (All-take IsCovered k rows each) in
+      let last = recursion_from_All IsCovered (drop n rows) (All-drop IsCovered n rows each) in
+      all-join IsCovered k (n - k) n new (omega (arith, l)) (subst (AllByRecursion IsCovered) (sym front) first) (covered-run high k (n - k) new over own up)
+      (subst (AllByRecursion IsCovered) (sym rest) last)
 
 -- a lifted span starts where it does
 pub start-lifted : (lifts : List Lift) (start k : ℕ) (rows : List Span) → IfSome (slice_get rows k) (λ (s : Span). s.start ≡ start) → IfSome (slice_get (lifted lifts rows) k) (λ (s : Span). s.start ≡ start)

@@ -11,14 +11,14 @@ use Rattle.interval_row.specs.Changes.{ends_before}
 use Rattle.interval_row.specs.Lifts.{AreAtMost}
 use Rattle.interval_row.specs.Marks.{page_of}
 use Rattle.interval_row.specs.Spans.{AreFilled}
-use Rattle.interval_row.specs.Walks.{after_walk, AreInPages, AreUpTo, IsPageOf}
+use Rattle.interval_row.specs.Walks.{after_walk, AreInPages, HaveAtMost, IsPageOf}
 use Rattle.interval_row.specs.declared.walk_back.Walk.{Walk}
-use Rattle.interval_row.proofs.CutTimes.{ends_before-ended, ends_before-inside, ends_before-later, rises-at, start-at}
-use Rattle.interval_row.proofs.PageWalks.{ends_before-reached, ends_before-walks, follows-walk, meets, AreAtMost-AreUpTo, AreAtPage-walk}
+use Rattle.interval_row.proofs.CutTimes.{ends_before-ended, ends_before-inside, ends_before-later, ends_before-start, rises-at, start-at}
+use Rattle.interval_row.proofs.PageWalks.{ends_before-walks, follows-walk, meets, AreAtMost-HaveAtMost, AreAtPage-walk}
 use Rattle.interval_row.proofs.WalkBack.{length-walked}
 
 -- all spans up to one that ends before a time do
-ends_before-past : (start y k : ℕ) (rows : List Span) (s : Span) → FollowOn start rows → slice_get rows k ≡ Some s → s.end < y → k < ends_before y rows
+pub ends_before-past : (start y k : ℕ) (rows : List Span) (s : Span) → FollowOn start rows → slice_get rows k ≡ Some s → s.end < y → k < ends_before y rows
 ends_before-past start y k [] s follow at early = absurd (omega (arith, slice_get_within [] k s at))
 ends_before-past start y zero (r ∷ rs) s follow at early =
     omega (arith, ends_before-ended y r rs (omega (arith, early, ap (λ (t : Span). t.end) (same_Some r s at))))
@@ -27,9 +27,11 @@ ends_before-past start y (suc k) (r ∷ rs) s follow at early =
     omega (arith, ends_before-ended y r rs first, ends_before-past r.end y k rs s follow.4 at early)
 
 -- and no more do than stand before one that reaches it
-ends_before-short : (start y k : ℕ) (rows : List Span) (s : Span) → FollowOn start rows → slice_get rows k ≡ Some s → y ≤ s.end → ends_before y rows ≤ k
+pub ends_before-short : (start y k : ℕ) (rows : List Span) (s : Span) → FollowOn start rows → slice_get rows k ≡ Some s → y ≤ s.end → ends_before y rows ≤ k
 ends_before-short start y k [] s follow at late = absurd (omega (arith, slice_get_within [] k s at))
-ends_before-short start y zero (r ∷ rs) s follow at late = omega (arith, ends_before-reached start y (r ∷ rs) s follow at late)
+ends_before-short start y zero (r ∷ rs) s follow at late =
+    let reached : y ≤ r.end = omega (arith, late, ap (λ (t : Span). t.end) (same_Some r s at)) in
+    omega (arith, ends_before-later y r rs reached, ends_before-start r.end y rs follow.4 reached)
 ends_before-short start y (suc k) (r ∷ rs) s follow at late =
     let rest = ends_before-short r.end y k rs s follow.4 at late in
     elim (cases_lt r.end y) [
@@ -73,7 +75,7 @@ pub ends_before-front : (walk : Walk) (page : ℕ) (rows : List Span) → AreFil
 ends_before-front walk page rows are none within reached =
     let t = get_or rows walk.index no_row in
     let at : slice_get rows 0 ≡ Some t = ap (slice_get rows) (sym none) ∙ slice_get-get_or rows walk.index no_row within in
-    none ∙ sym (ends_before-reached (first_start rows) (page * 64) rows t (follows-walk walk rows are) at reached)
+    omega (arith, none, ends_before-short (first_start rows) (page * 64) 0 rows t (follows-walk walk rows are) at reached)
 
 -- and where the last that has starts before it
 pub ends_before-across : (walk : Walk) (page : ℕ) (rows : List Span) → AreFilled (after_walk walk rows) → walk.index < length rows → (get_or rows walk.index no_row).start < page * 64 → page * 64 ≤ (get_or rows walk.index no_row).end → walk.index ≡ ends_before (page * 64) rows
@@ -82,13 +84,13 @@ ends_before-across walk page rows are within low reached =
     sym (ends_before-inside (first_start rows) (page * 64) walk.index rows (get_or rows walk.index no_row) (follows-walk walk rows are) at low reached)
 
 -- a bound on all spans of a page that have followed
-pub AreAtMost-followed : (walk from : Walk) (page : ℕ) (high : ℤ) (new rows : List Span) (marks : List Mark) → AreInPages (after_walk from rows) marks → IsPageOf (after_walk from rows) page → from.index ≡ ends_before ((page + 1) * 64) rows → after_walk walk new ≡ after_walk from rows → walk.index < from.index → walk.index ≡ ends_before (page * 64) new → AreUpTo high (take (from.index - walk.index) (drop walk.index new)) → AreAtMost (page % 512) high new
+pub AreAtMost-followed : (walk from : Walk) (page : ℕ) (high : ℤ) (new rows : List Span) (marks : List Mark) → AreInPages (after_walk from rows) marks → IsPageOf (after_walk from rows) page → from.index ≡ ends_before ((page + 1) * 64) rows → after_walk walk new ≡ after_walk from rows → walk.index < from.index → walk.index ≡ ends_before (page * 64) new → HaveAtMost high (take (from.index - walk.index) (drop walk.index new)) → AreAtMost (page % 512) high new
 AreAtMost-followed walk from page high new rows marks pages is place same before here up =
     let at = AreAtPage-walk walk page new marks (subst (λ xs. AreInPages xs marks) (sym same) pages) (subst (λ xs. IsPageOf xs page) (sym same) is) in
     let low = ends_before (page * 64) new in
     let count : ends_before ((page + 1) * 64) new ≡ low + (from.index - low) = omega (arith, ends_before-walks ((page + 1) * 64) walk from new rows same, place, before, here) in
-    let ups : AreUpTo high (take (from.index - low) (drop low new)) = rw here at up in
-    AreAtMost-AreUpTo (first_start new) (first_start new) page (from.index - low) high new at.is at.follow at.lap count ups
+    let ups : HaveAtMost high (take (from.index - low) (drop low new)) = rw here at up in
+    AreAtMost-HaveAtMost (first_start new) (first_start new) page (from.index - low) high new at.is at.follow at.lap count ups
 
 -- what a span tells of the page in which it ends, and from where it starts
 pub EndsInPage-rest : (walk : Walk) (page from : ℕ) (rows : List Span) → AreFilled (after_walk walk rows) → 0 < walk.index → walk.index < length rows → IfSome (slice_get rows walk.index) (λ s. (s.start ≡ from) × (page_of s.end ≡ page)) → page ≤ from / 64 → EndsInPage walk page rows

@@ -6,9 +6,10 @@ use Rattle.spare_capacity.specs.Recurrence.{filled}
 use Rattle.spare_capacity.specs.Examples.{span}
 use Rattle.node_chain.specs.Laps.{blank_lift}
 use Rattle.node_chain.specs.Passes.{lift_raised}
-use Rattle.interval_row.specs.Changes.{after_pass, cut, with_less, with_more}
+use Rattle.interval_row.specs.Changes.{after_pass, cut, ends_before, with_less, with_more}
 use Rattle.interval_row.specs.Lifts.{lifted, lifted_by, lowered_by, raised_at}
 use Rattle.interval_row.specs.Marks.{first_mark, count_at, mark_index, passed, with_change, with_cut, with_end, without_end, works_at, works_in_page}
+use Rattle.interval_row.specs.Spans.{place_of}
 use Rattle.interval_row.specs.Tables.{works}
 use Rattle.interval_row.specs.Walks.{after_walk}
 use Rattle.interval_row.specs.declared.spans.Change.TheVariants.{More}
@@ -27,6 +28,18 @@ borrowing =
 -- of which the first three have ten slots of work
 pub works_of_three : works (take 3 borrowing) ≡ 10
 works_of_three = refl
+
+-- two end before 14, where the third does
+pub ends_before_14 : ends_before 14 borrowing ≡ 2
+ends_before_14 = refl
+
+-- these are at the front, before the place of 14
+pub place_of_14 : place_of 14 borrowing ≡ 2
+place_of_14 = refl
+
+-- none ends before 4, where the first does
+pub ends_before_4 : ends_before 4 borrowing ≡ 0
+ends_before_4 = refl
 
 -- after 2 became the end of a span
 abbrev pub cut_at_2 : List Span

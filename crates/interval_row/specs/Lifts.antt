@@ -1,5 +1,5 @@
 -- Capacities told and changed for all spans that end in the pages of a mark at once.
-use Rattle.std.specs.Prelude.{◌≡◌, ℕ, ℤ, ◌+ℤ◌, ◌-ℤ◌, ◌≤ℤ◌, ◌==◌, List, map, get_or, if◌then◌else◌, FitsSigned}
+use Rattle.std.specs.Prelude.{◌≡◌, ℕ, ℤ, ◌-ℤ◌, ◌≤ℤ◌, ◌==◌, List, map, get_or, if◌then◌else◌}
 use Rattle.std.specs.Int.{w64, int_wrap}
 use Rattle.std.specs.List.{AllByRecursion}
 use Rattle.slot_core.specs.declared.jobs.Span.{Span}
@@ -13,11 +13,6 @@ use Rattle.interval_row.specs.Marks.{mark_index}
 abbrev pub AreAtMost : ℕ → ℤ → List Span → Type 0
 AreAtMost j high spans =
     AllByRecursion (λ (s : Span). mark_index s.end ≡ j → s.spare ≤ℤ high) spans
-
--- each span that ends in these pages can have so much more capacity
-abbrev pub MayRaise : ℕ → ℤ → List Span → Type 0
-MayRaise j more spans =
-    AllByRecursion (λ (s : Span). mark_index s.end ≡ j → FitsSigned w64 (s.spare +ℤ more)) spans
 
 -- a span, with so much more capacity where it ends in these pages
 abbrev pub raised_in : ℕ → ℤ → Span → Span

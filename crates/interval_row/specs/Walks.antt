@@ -1,5 +1,5 @@
 -- How a change of a capacity is followed back through the spans before it.
-use Rattle.std.specs.Prelude.{◌≡◌, ℕ, ℤ, ◌+◌, ◌*◌, ◌<◌, ◌≤◌, pos, ◌+ℤ◌, ◌≤ℤ◌, List, ◌++◌, length, Some, drop, slice_get, take}
+use Rattle.std.specs.Prelude.{◌≡◌, ℕ, ℤ, ◌+◌, ◌*◌, ◌<◌, ◌≤◌, ◌≤ℤ◌, List, ◌++◌, length, Some, drop, slice_get, take}
 use Rattle.std.specs.List.{AllByRecursion}
 use Rattle.slot_core.specs.declared.jobs.Span.{Span}
 use Rattle.spare_capacity.specs.Lending.{moved}
@@ -8,7 +8,7 @@ use Rattle.node_chain.specs.declared.marks.Mark.{Mark}
 use Rattle.node_chain.specs.declared.marks.TheConstants.{LAP}
 use Rattle.interval_row.specs.declared.marks.TheConstants.{PAGE}
 use Rattle.interval_row.specs.declared.walk_back.Walk.{Walk}
-use Rattle.interval_row.specs.Marks.{count_at, mark_index, page_of}
+use Rattle.interval_row.specs.Marks.{count_at, page_of}
 use Rattle.interval_row.specs.Spans.{AreFilled}
 
 -- the spans, where the first k of them follow what the last of these is repaid, as it goes back
@@ -34,14 +34,5 @@ pub record IsPageOf (spans : List Span) (page : ℕ) : Type 0 where
   pub last : page < page_of (first_start spans) + LAP
 
 -- no capacity of the spans is above this
-abbrev pub AreUpTo : ℤ → List Span → Type 0
-AreUpTo high spans = AllByRecursion (λ (s : Span). s.spare ≤ℤ high) spans
-
--- a span has no capacity that it could give, before and after so much more
-abbrev pub GivesNone : ℤ → Span → Type 0
-GivesNone more s = (s.spare ≤ℤ pos 0) × ((s.spare +ℤ more) ≤ℤ pos 0)
-
--- so does each that ends in the pages of the mark at an index
-abbrev pub PagesGiveNone : ℕ → ℤ → List Span → Type 0
-PagesGiveNone j more spans =
-    AllByRecursion (λ (s : Span). mark_index s.end ≡ j → GivesNone more s) spans
+abbrev pub HaveAtMost : ℤ → List Span → Type 0
+HaveAtMost high spans = AllByRecursion (λ (s : Span). s.spare ≤ℤ high) spans

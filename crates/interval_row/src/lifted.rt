@@ -9,7 +9,7 @@ ghost use Rattle.interval_row.specs.Changes.{ends_before};
 ghost use Rattle.interval_row.specs.Lifts.{lifted, lifted_by, lowered_by, AreCovered};
 ghost use Rattle.interval_row.specs.Marks.{mark_index, page_of};
 ghost use Rattle.interval_row.specs.Spans.{AreFilled};
-ghost use Rattle.interval_row.specs.Walks.{after_walk, AreInPages, AreUpTo};
+ghost use Rattle.interval_row.specs.Walks.{after_walk, AreInPages, HaveAtMost};
 
 use crate::marks::{PAGE, index_of_page, mark_index};
 use crate::shelf::Shelf;
@@ -226,7 +226,7 @@ fn follow_run<S: Shelf, L: Ledger>(
     ensures reached { ends_before (page * PAGE) (S.spans shelf.old) ≤ result.walk.index }
     ensures start { IfSome (slice_get (S.spans shelf.new) result.walk.index)
         (λ s. s.start ≡ result.start) }
-    ensures high { AreUpTo result.high (take
+    ensures high { HaveAtMost result.high (take
         (from.index - result.walk.index)
         (drop result.walk.index (lifted (S.laps shelf.old).lifts (S.spans shelf.new)))) }
     ensures front { take result.walk.index (S.spans shelf.new)
@@ -281,7 +281,7 @@ fn follow_back<S: Shelf, L: Ledger>(
     ensures reached { ends_before (page * PAGE) (S.spans shelf.old) ≤ result.walk.index }
     ensures start { IfSome (slice_get (S.spans shelf.new) result.walk.index)
         (λ s. s.start ≡ result.start) }
-    ensures high { AreUpTo result.high (take
+    ensures high { HaveAtMost result.high (take
         (from.index - result.walk.index)
         (drop result.walk.index (lifted (S.laps shelf.old).lifts (S.spans shelf.new)))) }
     ensures front { take result.walk.index (S.spans shelf.new)

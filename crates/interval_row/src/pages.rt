@@ -159,8 +159,8 @@ pub(crate) fn skip<S: Store>(
     skip_pages(store, times, front, span, until, asked).front
 }
 
-/// The front, and the span after it.
-fn with_span(front: Front, span: Span) -> Front
+/// The front with the span after it: one span more, and its work.
+fn past_span(front: Front, span: Span) -> Front
     requires count { front.count + 1 < 2 ^ 32 }
     requires works { front.works + span.work < 2 ^ 64 }
     ensures { result ≡ record { count = front.count + 1; works = front.works + span.work } }
@@ -194,7 +194,7 @@ fn onward<S: Store>(store: &S, times: Times, front: Front, span: Span, asked: u6
         return passed;
     }
     PageFront {
-        front: with_span(front, span),
+        front: past_span(front, span),
         ..passed
     }
 }

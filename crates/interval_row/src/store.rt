@@ -12,7 +12,7 @@ ghost use Rattle.interval_row.specs.Changes.{ends_before};
 ghost use Rattle.interval_row.specs.Lifts.{AreAtMost};
 ghost use Rattle.interval_row.specs.Marks.{page_of};
 ghost use Rattle.interval_row.specs.Spans.{AreFilled};
-ghost use Rattle.interval_row.specs.Walks.{after_walk, AreInPages, AreUpTo};
+ghost use Rattle.interval_row.specs.Walks.{after_walk, AreInPages, HaveAtMost};
 
 use crate::walk_back::{Followed, PageWalk, Walk};
 use node_chain::{Found, Mark, Search};
@@ -106,7 +106,7 @@ pub trait Store: Drop {
         ensures reached { ends_before (page * PAGE) (spans self.old) ≤ result.walk.index }
         ensures start { IfSome (slice_get (spans self.new) result.walk.index)
             (λ s. s.start ≡ result.start) }
-        ensures high { AreUpTo result.high
+        ensures high { HaveAtMost result.high
             (take (from.index - result.walk.index) (drop result.walk.index (spans self.new))) }
         ensures room { room self.new ≡ room self.old }
         ensures marks { marks self.new ≡ marks self.old }

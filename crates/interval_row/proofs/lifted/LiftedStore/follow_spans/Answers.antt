@@ -9,7 +9,7 @@ use Rattle.interval_row.specs.Lifts.{lifted}
 use Rattle.interval_row.specs.Marks.{mark_index}
 use Rattle.interval_row.specs.Spans.{AreFilled}
 use Rattle.interval_row.specs.Stores.{StoreParts}
-use Rattle.interval_row.specs.Walks.{after_walk, AreUpTo}
+use Rattle.interval_row.specs.Walks.{after_walk, HaveAtMost}
 use Rattle.interval_row.proofs.LiftedSpans.{lifted-same}
 use Rattle.interval_row.proofs.RunWalks.{ends_before-lifted, ends_before-runs, in-walk, start-lifted, AreCovered-runs}
 use Rattle.interval_row.proofs.lifted.LiftedStore.follow_spans.Given.{Over}
@@ -88,4 +88,4 @@ pub returns-clause-high : goal.returns-clause-high
 returns-clause-high g c =
     let w = (goal.at.returns-clause-high g c).After-set_lift in
     let followed = c.follow_back-followed.result in
-    subst (λ xs. AreUpTo followed.high (take (c.args.from.index - followed.walk.index) (drop followed.walk.index xs))) (sym (now g w)) c.follow_back-followed.ensures.high
+    subst (λ xs. HaveAtMost followed.high (take (c.args.from.index - followed.walk.index) (drop followed.walk.index xs))) (sym (now g w)) c.follow_back-followed.ensures.high
