@@ -145,8 +145,8 @@ impl<S: Shelf> Store for Lifted<S> {
     }
 }
 
-/// Pages follow in a walk back as `pass_pages` says, down to the page `low`, where their lifts stand
-/// side by side.
+/// Pages follow in a walk back as `pass_pages` says, down to the page `low`, where their lifts
+/// stand side by side.
 #[inline(always)]
 fn pass_run<S: Shelf>(shelf: &mut S, low: u64, from: PageWalk) -> PageWalk
     requires pages { AreInPages

@@ -159,9 +159,9 @@ pub trait Store: Drop {
         ensures room { room self.new ≡ room self.old }
         ensures marks { marks self.new ≡ marks self.old };
 
-    /// Pages follow in a walk back, the last first, without a step: those in which no span ends, and
-    /// such as are known to have no capacity, before and after. It ends at a page in which a span
-    /// ends, or at the first page.
+    /// Pages follow in a walk back, the last first, without a step: those in which no span ends,
+    /// and such as are known to have no capacity, before and after. It ends at a page in which a
+    /// span ends, or at the first page.
     fn pass_pages(&mut self, first_page: u64, from: PageWalk) -> PageWalk
         requires pages { AreInPages (after_walk from.walk (spans self.old)) (marks self.old) }
         requires first { first_page

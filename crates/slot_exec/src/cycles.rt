@@ -91,8 +91,8 @@ pub(crate) fn pass<T: SpareTable, L: Ledger>(
     false
 }
 
-/// Whether a cycle ends at this time: just then two cycles are left of the spans, which end with the
-/// third one from that of the slot before. So a slot that ends none divides nothing here.
+/// Whether a cycle ends at this time: just then two cycles are left of the spans, which end with
+/// the third one from that of the slot before. So a slot that ends none divides nothing here.
 #[inline(always)]
 fn ends_cycle(time: u64, end: u64, cycle: u64) -> bool
     requires later { 1 ≤ time }

@@ -290,8 +290,8 @@ impl SpareCell {
     }
 }
 
-/// The texts of extents, each in the cell of the last byte of its end: so they stay where time passes
-/// and spans go. And those of spare capacities, each in the cell of its own last byte.
+/// The texts of extents, each in the cell of the last byte of its end: so they stay where time
+/// passes and spans go. And those of spare capacities, each in the cell of its own last byte.
 #[derive(Drop)]
 pub(crate) struct Cells {
     extents: [ExtentCell; EXTENT_COUNT],
@@ -350,7 +350,7 @@ impl SpanWriter for Cells {
         }
     }
 
-    /// The text of its extent is not kept: the next line shows it with another start, or not at all.
+    /// The text of its extent is not kept: the next line shows it with another start or not at all.
     #[inline(always)]
     fn push_first(&mut self, line: &mut Line, span: &Span) {
         push_number(line, span.start);
