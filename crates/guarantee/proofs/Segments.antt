@@ -1,10 +1,11 @@
 -- The search in a stretch in which the same work is due.
-use Rattle.std.proofs.Common.{◌≡◌, ℕ, ◌+◌, ◌-◌, ◌^◌, ◌<◌, ◌≤◌, pos, ◌+ℤ◌, ◌≤ℤ◌, ◌<ℤ◌, max, true, false, List, [], take, Option, Some, None, refl, sym, ap, ◌∙◌, inl, inr, arith}
+use Rattle.std.proofs.Common.{◌≡◌, ℕ, ◌+◌, ◌-◌, ◌^◌, ◌<◌, ◌≤◌, pos, ◌+ℤ◌, ◌≤ℤ◌, ◌<ℤ◌, max, true, false, List, [], length, take, Option, Some, None, refl, sym, ap, ◌∙◌, inl, inr, arith}
 use Rattle.std.specs.Prelude.{find, nat_lt, slice_get, Err, IfOk, MatchOption, Ok, Result}
 use Rattle.std.specs.Option.{option_map, option_or}
 use Rattle.std.specs.List.{range_with_len}
 use Rattle.std.proofs.lemmas.Bool.{cases_lt, lt-ltb, le-ltb, ltb-false}
 use Rattle.std.proofs.lemmas.Int.{ints}
+use Rattle.std.proofs.lemmas.List.{take_all}
 use Rattle.slot_core.specs.declared.jobs.Evidence.{Evidence}
 use Rattle.slot_core.specs.declared.jobs.Span.{Span}
 use Rattle.slot_core.specs.Feasibility.Sporadics.{sporadic_demand}
@@ -12,12 +13,13 @@ use Rattle.slot_facts.proofs.Sets.Faults.{option_map-None}
 use Rattle.spare_capacity.specs.Recurrence.{filled, last_end, FollowOn}
 use Rattle.spare_capacity.specs.Laws.{work_until}
 use Rattle.interval_row.specs.Tables.{works}
+use Rattle.interval_row.proofs.ShortTimes.{end-at, work_until-all, work_until-at}
 use Rattle.sporadic_reserve.specs.Reserves.{demand_limit, Reserved, IsNextRise}
 use Rattle.guarantee.specs.Offers.{evidence_at, first_short, is_short, need_until}
 use Rattle.guarantee.specs.declared.search.Level.{Level}
 use Rattle.guarantee.specs.declared.search.Ask.{Ask}
 use Rattle.guarantee.specs.Stretches.{exceeds, evidence_of, IsLevelFrom, Leaves, LeavesAll, LeavesBetween, MostBetween, MostFrom}
-use Rattle.guarantee.proofs.Places.{least-at, Stands-at, work_until-all, work_until-inside}
+use Rattle.guarantee.proofs.Places.{least-at}
 use Rattle.guarantee.proofs.Searches.{fails-from_none, find-here, find-none, find-skip, search-parts, search-same}
 
 -- the sporadic demand
@@ -226,8 +228,8 @@ pub Looks-inside : (spans : List Span) (t slots now needed first i : ℕ) (s : S
 Looks-inside spans t slots now needed first i s follow at time due low =
     record {
       time = time;
-      within = omega (arith, (Stands-at t i spans s follow at).within);
-      due = λ x from to. omega (arith, work_until-inside t i spans s x follow at (omega arith) to);
+      within = omega (arith, end-at t i spans s follow at);
+      due = λ x from to. omega (arith, work_until-at t i x spans s follow at (omega arith) to);
     }
 
 -- and at the last end
@@ -236,7 +238,7 @@ Looks-end spans t slots now needed first until follow time due low all =
     record {
       time = time;
       within = omega arith;
-      due = λ x from to. omega (arith, work_until-all t spans x follow (omega arith));
+      due = λ x from to. omega (arith, work_until-all t x spans follow (omega arith), ap works (take_all (length spans) spans (omega arith)));
     }
 
 -- where a span covers what is needed and may come, no time from its end on is short
