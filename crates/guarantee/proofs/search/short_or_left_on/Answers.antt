@@ -8,8 +8,8 @@ use Rattle.guarantee.specs.Offers.{evidence_at, first_short, need_until}
 use Rattle.guarantee.specs.Stretches.{NeedsNone}
 use Rattle.guarantee.proofs.Segments.{covered, covered-leaves, leaves-end, IsLevelFrom-later, Leaves-all, Leaves-join, Leaves-part, LeavesAll-later, Looks-end, Looks-inside, Looks-found, Looks-last, Looks-later, Looks-leaves, Looks-most, most-end}
 use Rattle.guarantee.proofs.Tables.{last-ends, last-works, later-after, IsSeen-place}
-use Rattle.guarantee.proofs.search.first_short_on.Goals as goal
-use Rattle.guarantee.proofs.search.first_short_on.Goals.{else-most-eq0-via-then-most-eq0+else-not-covers, else-most-eq0-via-else-most-eq0}
+use Rattle.guarantee.proofs.search.short_or_left_on.Goals as goal
+use Rattle.guarantee.proofs.search.short_or_left_on.Goals.{else-most-eq0-via-then-most-eq0+else-not-covers, else-most-eq0-via-else-most-eq0}
 
 pub untried-tried-requires : goal.untried-tried-requires
 untried-tried-requires g c =
