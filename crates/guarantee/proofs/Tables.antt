@@ -2,7 +2,7 @@
 use Rattle.std.proofs.Common.{◌≡◌, ℕ, suc, ◌+◌, ◌^◌, ◌<◌, ◌≤◌, pos, ◌≤ℤ◌, List, [], ◌∷◌, length, take, Option, Some, None, max, refl, sym, ap, ◌∙◌, subst, inl, inr, arith}
 use Rattle.std.specs.Prelude.{slice_get, IfSome, MatchOption}
 use Rattle.std.proofs.lemmas.Bool.{cases_lt}
-use Rattle.std.proofs.lemmas.List.{take_all}
+use Rattle.std.proofs.lemmas.List.{length-map, take_all}
 use Rattle.std.proofs.lemmas.Option.{slice_get_within}
 use Rattle.slot_core.specs.declared.jobs.Span.{Span}
 use Rattle.spare_capacity.specs.Laws.{work_until}
@@ -19,8 +19,7 @@ use Rattle.guarantee.proofs.Places.{spare-small, start-before, Stands, Stands-at
 
 -- there are as many spans as pairs
 pub length-spans_of_pairs : (pairs : List (Spot × Span)) → length (spans_of_pairs pairs) ≡ length pairs
-length-spans_of_pairs [] = refl
-length-spans_of_pairs (p ∷ pairs) = ap suc (length-spans_of_pairs pairs)
+length-spans_of_pairs pairs = length-map pairs (λ (p : Spot × Span). p.1)
 
 -- what is known of a place in a table
 pub record IsSeen (t : ℕ) (spans : List Span) (place : SpanPlace) : Type 0 where
@@ -31,8 +30,8 @@ pub record IsSeen (t : ℕ) (spans : List Span) (place : SpanPlace) : Type 0 whe
   pub stands : Stands t spans place.span
   pub short : place.span.spare ≤ℤ pos (2 ^ 40)
 
-pub IsSeen-place : (t limit : ℕ) (pairs : List (Spot × Span)) (place : SpanPlace) → IsTable t pairs limit → IsPlace pairs place → IsSeen t (spans_of_pairs pairs) place
-IsSeen-place t limit pairs place table is =
+pub IsSeen-place : {t limit : ℕ} {pairs : List (Spot × Span)} {place : SpanPlace} → IsTable t pairs limit → IsPlace pairs place → IsSeen t (spans_of_pairs pairs) place
+IsSeen-place {t = t} {pairs = pairs} {place = place} table is =
     let few : place.index ≤ 2 ^ 20 = omega (arith, is.within, table.few, table.small) in
     record {
       at = is.span;
@@ -44,9 +43,9 @@ IsSeen-place t limit pairs place table is =
     }
 
 -- it ends from the time on, and no later than the last end
-pub place-end : (t limit : ℕ) (pairs : List (Spot × Span)) (place : SpanPlace) → IsTable t pairs limit → IsPlace pairs place → (t ≤ place.span.end) × (place.span.end ≤ last_end t (spans_of_pairs pairs))
-place-end t limit pairs place table is =
-    let stands = (IsSeen-place t limit pairs place table is).stands in
+pub place-end : {t limit : ℕ} {pairs : List (Spot × Span)} {place : SpanPlace} → IsTable t pairs limit → IsPlace pairs place → (t ≤ place.span.end) × (place.span.end ≤ last_end t (spans_of_pairs pairs))
+place-end table is =
+    let stands = (IsSeen-place table is).stands in
     (omega (arith, stands.after, stands.rising), stands.within)
 
 -- what is due by a time in a table is small

@@ -13,42 +13,22 @@ use Rattle.guarantee.proofs.search.short_or_left_on.Goals.{else-most-eq0-via-the
 
 pub untried-tried-requires : goal.untried-tried-requires
 untried-tried-requires g c =
-    let a = c.args in
-    let t = g.T.SpareTable.time a.table.now in
-    let seen = IsSeen-place t (g.T.SpareTable.limit a.table.now) (g.T.SpareTable.pairs a.table.now) a.place c.requires.table c.requires.place in
+    let seen = IsSeen-place c.requires.table c.requires.place in
     omega (arith, seen.stands.after, seen.stands.rising, seen.stands.within, c.requires.now, c.last_end-last.ensures)
 
 pub short_between-requires-clause-from : goal.short_between-requires-clause-from
 short_between-requires-clause-from g c =
-    let a = c.args in
-    let t = g.T.SpareTable.time a.table.now in
-    let pairs = g.T.SpareTable.pairs a.table.now in
-    let table = c.requires.table in
-    let inv = c.loop-evidence.invariant in
-    let place = c.loop-evidence.place in
-    let seen = IsSeen-place t (g.T.SpareTable.limit a.table.now) pairs place table inv.place in
+    let seen = IsSeen-place c.requires.table c.loop-evidence.invariant.place in
     omega (arith, seen.stands.after, c.requires.now, c.max-first.ensures)
 
 pub short_between-requires-clause-near : goal.short_between-requires-clause-near
 short_between-requires-clause-near g c =
-    let a = c.args in
-    let t = g.T.SpareTable.time a.table.now in
-    let pairs = g.T.SpareTable.pairs a.table.now in
-    let table = c.requires.table in
-    let inv = c.loop-evidence.invariant in
-    let place = c.loop-evidence.place in
-    let seen = IsSeen-place t (g.T.SpareTable.limit a.table.now) pairs place table inv.place in
+    let seen = IsSeen-place c.requires.table c.loop-evidence.invariant.place in
     omega (arith, seen.stands.within, c.requires.near)
 
 pub short_between-requires-clause-few : goal.short_between-requires-clause-few
 short_between-requires-clause-few g c =
-    let a = c.args in
-    let t = g.T.SpareTable.time a.table.now in
-    let pairs = g.T.SpareTable.pairs a.table.now in
-    let table = c.requires.table in
-    let inv = c.loop-evidence.invariant in
-    let place = c.loop-evidence.place in
-    let seen = IsSeen-place t (g.T.SpareTable.limit a.table.now) pairs place table inv.place in
+    let seen = IsSeen-place c.requires.table c.loop-evidence.invariant.place in
     omega (arith, seen.small, c.requires.few)
 
 pub returns-in-Some-clause-first : goal.returns-in-Some-clause-first
@@ -59,7 +39,7 @@ returns-in-Some-clause-first g c =
     let table = c.requires.table in
     let inv = c.loop-evidence.invariant in
     let place = c.loop-evidence.place in
-    let seen = IsSeen-place t (g.T.SpareTable.limit a.table.now) pairs place table inv.place in
+    let seen = IsSeen-place table inv.place in
     let spans = spans_of_pairs pairs in
     let needed = a.ask.slots + place.due in
     let due : needed ≡ a.ask.slots + works (take place.index spans) = omega (arith, seen.due) in
@@ -71,123 +51,60 @@ returns-in-Some-clause-first g c =
 
 pub overflow_add-due : goal.overflow_add-due
 overflow_add-due g c =
-    let a = c.args in
-    let t = g.T.SpareTable.time a.table.now in
-    let pairs = g.T.SpareTable.pairs a.table.now in
-    let table = c.requires.table in
-    let inv = c.loop-evidence.invariant in
-    let place = c.loop-evidence.place in
-    let seen = IsSeen-place t (g.T.SpareTable.limit a.table.now) pairs place table inv.place in
+    let seen = IsSeen-place c.requires.table c.loop-evidence.invariant.place in
     omega (arith, seen.small, c.requires.few)
 
 pub overflow_add-due-in-loop-evidence : goal.overflow_add-due-in-loop-evidence
 overflow_add-due-in-loop-evidence g c =
-    let a = c.args in
-    let t = g.T.SpareTable.time a.table.now in
-    let pairs = g.T.SpareTable.pairs a.table.now in
-    let table = c.requires.table in
     let inv = c.loop-evidence.invariant in
-    let place = c.loop-evidence.place in
-    let seen = IsSeen-place t (g.T.SpareTable.limit a.table.now) pairs place table inv.place in
+    let seen = IsSeen-place c.requires.table inv.place in
     omega (arith, seen.small, c.requires.few, c.demand-most.ensures.small, inv.small, c.short_between.ensures.least)
 
 pub overflow_add-due-in-loop-evidence-2 : goal.overflow_add-due-in-loop-evidence-2
 overflow_add-due-in-loop-evidence-2 g c =
-    let a = c.args in
-    let t = g.T.SpareTable.time a.table.now in
-    let pairs = g.T.SpareTable.pairs a.table.now in
-    let table = c.requires.table in
     let inv = c.loop-evidence.invariant in
-    let place = c.loop-evidence.place in
-    let seen = IsSeen-place t (g.T.SpareTable.limit a.table.now) pairs place table inv.place in
+    let seen = IsSeen-place c.requires.table inv.place in
     omega (arith, seen.small, c.requires.few, c.demand-most.ensures.small, inv.small, c.short_between.ensures.least)
 
 pub covers-requires-clause-after : goal.covers-requires-clause-after
 covers-requires-clause-after g c =
-    let a = c.args in
-    let t = g.T.SpareTable.time a.table.now in
-    let pairs = g.T.SpareTable.pairs a.table.now in
-    let table = c.requires.table in
-    let inv = c.loop-evidence.invariant in
-    let place = c.loop-evidence.place in
-    let seen = IsSeen-place t (g.T.SpareTable.limit a.table.now) pairs place table inv.place in
+    let seen = IsSeen-place c.requires.table c.loop-evidence.invariant.place in
     omega (arith, seen.stands.after, c.requires.now)
 
 pub covers-requires-clause-near : goal.covers-requires-clause-near
 covers-requires-clause-near g c =
-    let a = c.args in
-    let t = g.T.SpareTable.time a.table.now in
-    let pairs = g.T.SpareTable.pairs a.table.now in
-    let table = c.requires.table in
-    let inv = c.loop-evidence.invariant in
-    let place = c.loop-evidence.place in
-    let seen = IsSeen-place t (g.T.SpareTable.limit a.table.now) pairs place table inv.place in
+    let seen = IsSeen-place c.requires.table c.loop-evidence.invariant.place in
     omega (arith, seen.stands.rising, seen.stands.within, c.requires.near)
 
 pub covers-requires-clause-few : goal.covers-requires-clause-few
 covers-requires-clause-few g c =
-    let a = c.args in
-    let t = g.T.SpareTable.time a.table.now in
-    let pairs = g.T.SpareTable.pairs a.table.now in
-    let table = c.requires.table in
     let inv = c.loop-evidence.invariant in
-    let place = c.loop-evidence.place in
-    let seen = IsSeen-place t (g.T.SpareTable.limit a.table.now) pairs place table inv.place in
+    let seen = IsSeen-place c.requires.table inv.place in
     omega (arith, seen.small, c.requires.few, c.demand-most.ensures.small, inv.small, c.short_between.ensures.least)
 
 pub covers-requires-clause-short : goal.covers-requires-clause-short
 covers-requires-clause-short g c =
-    let a = c.args in
-    let t = g.T.SpareTable.time a.table.now in
-    let pairs = g.T.SpareTable.pairs a.table.now in
-    let table = c.requires.table in
-    let inv = c.loop-evidence.invariant in
-    let place = c.loop-evidence.place in
-    let seen = IsSeen-place t (g.T.SpareTable.limit a.table.now) pairs place table inv.place in
+    let seen = IsSeen-place c.requires.table c.loop-evidence.invariant.place in
     seen.short
 
 pub covers-requires-then-most-eq0-clause-after : goal.covers-requires-then-most-eq0-clause-after
 covers-requires-then-most-eq0-clause-after g c =
-    let a = c.args in
-    let t = g.T.SpareTable.time a.table.now in
-    let pairs = g.T.SpareTable.pairs a.table.now in
-    let table = c.requires.table in
-    let inv = c.loop-evidence.invariant in
-    let place = c.loop-evidence.place in
-    let seen = IsSeen-place t (g.T.SpareTable.limit a.table.now) pairs place table inv.place in
+    let seen = IsSeen-place c.requires.table c.loop-evidence.invariant.place in
     omega (arith, seen.stands.after, c.requires.now)
 
 pub covers-requires-then-most-eq0-clause-near : goal.covers-requires-then-most-eq0-clause-near
 covers-requires-then-most-eq0-clause-near g c =
-    let a = c.args in
-    let t = g.T.SpareTable.time a.table.now in
-    let pairs = g.T.SpareTable.pairs a.table.now in
-    let table = c.requires.table in
-    let inv = c.loop-evidence.invariant in
-    let place = c.loop-evidence.place in
-    let seen = IsSeen-place t (g.T.SpareTable.limit a.table.now) pairs place table inv.place in
+    let seen = IsSeen-place c.requires.table c.loop-evidence.invariant.place in
     omega (arith, seen.stands.rising, seen.stands.within, c.requires.near)
 
 pub covers-requires-then-most-eq0-clause-few : goal.covers-requires-then-most-eq0-clause-few
 covers-requires-then-most-eq0-clause-few g c =
-    let a = c.args in
-    let t = g.T.SpareTable.time a.table.now in
-    let pairs = g.T.SpareTable.pairs a.table.now in
-    let table = c.requires.table in
-    let inv = c.loop-evidence.invariant in
-    let place = c.loop-evidence.place in
-    let seen = IsSeen-place t (g.T.SpareTable.limit a.table.now) pairs place table inv.place in
+    let seen = IsSeen-place c.requires.table c.loop-evidence.invariant.place in
     omega (arith, seen.small, c.requires.few)
 
 pub covers-requires-then-most-eq0-clause-short : goal.covers-requires-then-most-eq0-clause-short
 covers-requires-then-most-eq0-clause-short g c =
-    let a = c.args in
-    let t = g.T.SpareTable.time a.table.now in
-    let pairs = g.T.SpareTable.pairs a.table.now in
-    let table = c.requires.table in
-    let inv = c.loop-evidence.invariant in
-    let place = c.loop-evidence.place in
-    let seen = IsSeen-place t (g.T.SpareTable.limit a.table.now) pairs place table inv.place in
+    let seen = IsSeen-place c.requires.table c.loop-evidence.invariant.place in
     seen.short
 
 pub returns-then-covers-clause-first : goal.returns-then-covers-clause-first
@@ -198,7 +115,7 @@ returns-then-covers-clause-first g c =
     let table = c.requires.table in
     let inv = c.loop-evidence.invariant in
     let place = c.loop-evidence.place in
-    let seen = IsSeen-place t (g.T.SpareTable.limit a.table.now) pairs place table inv.place in
+    let seen = IsSeen-place table inv.place in
     let spans = spans_of_pairs pairs in
     let needed = a.ask.slots + place.due in
     let due : needed ≡ a.ask.slots + works (take place.index spans) = omega (arith, seen.due) in
@@ -218,7 +135,7 @@ returns-then-covers-clause-left g c =
     let table = c.requires.table in
     let inv = c.loop-evidence.invariant in
     let place = c.loop-evidence.place in
-    let seen = IsSeen-place t (g.T.SpareTable.limit a.table.now) pairs place table inv.place in
+    let seen = IsSeen-place table inv.place in
     let spans = spans_of_pairs pairs in
     let needed = a.ask.slots + place.due in
     let due : needed ≡ a.ask.slots + works (take place.index spans) = omega (arith, seen.due) in
@@ -240,7 +157,7 @@ returns-then-covers-clause-greatest g c =
     let table = c.requires.table in
     let inv = c.loop-evidence.invariant in
     let place = c.loop-evidence.place in
-    let seen = IsSeen-place t (g.T.SpareTable.limit a.table.now) pairs place table inv.place in
+    let seen = IsSeen-place table inv.place in
     let spans = spans_of_pairs pairs in
     let needed = a.ask.slots + place.due in
     let due : needed ≡ a.ask.slots + works (take place.index spans) = omega (arith, seen.due) in
@@ -259,7 +176,7 @@ returns-then-not-covers-clause-first g c =
     let table = c.requires.table in
     let inv = c.loop-evidence.invariant in
     let place = c.loop-evidence.place in
-    let seen = IsSeen-place t (g.T.SpareTable.limit a.table.now) pairs place table inv.place in
+    let seen = IsSeen-place table inv.place in
     let spans = spans_of_pairs pairs in
     let needed = a.ask.slots + place.due in
     let due : needed ≡ a.ask.slots + works (take place.index spans) = omega (arith, seen.due) in
@@ -282,7 +199,7 @@ loop-evidence-preserved g c =
     let table = c.requires.table in
     let inv = c.loop-evidence.invariant in
     let place = c.loop-evidence.place in
-    let seen = IsSeen-place t (g.T.SpareTable.limit a.table.now) pairs place table inv.place in
+    let seen = IsSeen-place table inv.place in
     let spans = spans_of_pairs pairs in
     let needed = a.ask.slots + place.due in
     let due : needed ≡ a.ask.slots + works (take place.index spans) = omega (arith, seen.due) in
@@ -311,7 +228,7 @@ loop-evidence-preserved g c =
     let next = c.in-Some-onward.next in
     let is = c.in-Some-onward.ensures in
     let after = later-after t pairs place next table.consecutive inv.place is.place is.last in
-    let there = IsSeen-place t (g.T.SpareTable.limit a.table.now) pairs next table is.place in
+    let there = IsSeen-place table is.place in
     let end : place.span.end ≡ max c.max-first.result place.span.end = omega (arith, inv.reached, seen.stands.rising, c.max-first.ensures) in
     let here : next.span.start ≡ max a.from next.span.start = omega (arith, inv.reached, after) in
     let passed = Leaves-join need t a.ask.slots left a.from place.span.end next.span.start so_far (Leaves-all need t a.ask.slots left place.span.end next.span.start is.left) in
@@ -336,46 +253,24 @@ loop-evidence-preserved g c =
 
 pub overflow_add-all : goal.overflow_add-all
 overflow_add-all g c =
-    let a = c.args in
-    let t = g.T.SpareTable.time a.table.now in
-    let pairs = g.T.SpareTable.pairs a.table.now in
-    let table = c.requires.table in
-    let inv = c.loop-evidence.invariant in
-    let place = c.loop-evidence.place in
-    let seen = IsSeen-place t (g.T.SpareTable.limit a.table.now) pairs place table inv.place in
+    let seen = IsSeen-place c.requires.table c.loop-evidence.invariant.place in
     omega (arith, seen.small, seen.stands.work)
 
 pub left_between-requires-clause-from : goal.left_between-requires-clause-from
 left_between-requires-clause-from g c =
-    let a = c.args in
-    let t = g.T.SpareTable.time a.table.now in
-    let pairs = g.T.SpareTable.pairs a.table.now in
-    let table = c.requires.table in
-    let inv = c.loop-evidence.invariant in
-    let place = c.loop-evidence.place in
-    let seen = IsSeen-place t (g.T.SpareTable.limit a.table.now) pairs place table inv.place in
+    let seen = IsSeen-place c.requires.table c.loop-evidence.invariant.place in
     omega (arith, seen.stands.after, seen.stands.rising, seen.stands.within, c.requires.now, c.last_end-last.ensures, c.max.ensures)
 
 pub left_between-requires-clause-few : goal.left_between-requires-clause-few
 left_between-requires-clause-few g c =
-    let a = c.args in
-    let t = g.T.SpareTable.time a.table.now in
-    let pairs = g.T.SpareTable.pairs a.table.now in
-    let table = c.requires.table in
-    let inv = c.loop-evidence.invariant in
-    let place = c.loop-evidence.place in
-    let seen = IsSeen-place t (g.T.SpareTable.limit a.table.now) pairs place table inv.place in
+    let seen = IsSeen-place c.requires.table c.loop-evidence.invariant.place in
     omega (arith, seen.small, seen.stands.work, c.requires.few)
 
 pub left_between-requires-clause-level : goal.left_between-requires-clause-level
 left_between-requires-clause-level g c =
     let a = c.args in
-    let t = g.T.SpareTable.time a.table.now in
-    let pairs = g.T.SpareTable.pairs a.table.now in
-    let table = c.requires.table in
-    let inv = c.loop-evidence.invariant in
     let place = c.loop-evidence.place in
-    let seen = IsSeen-place t (g.T.SpareTable.limit a.table.now) pairs place table inv.place in
+    let seen = IsSeen-place c.requires.table c.loop-evidence.invariant.place in
     IsLevelFrom-later a.reserve.now a.ask.arrivals (max c.max-first.result place.span.end) c.max.result _ (omega (arith, seen.stands.rising, seen.stands.within, c.last_end-last.ensures, c.max.ensures, c.max-first.ensures)) c.short_between.ensures.level
 
 pub returns-in_default-onward-clause-first : goal.returns-in_default-onward-clause-first
@@ -386,7 +281,7 @@ returns-in_default-onward-clause-first g c =
     let table = c.requires.table in
     let inv = c.loop-evidence.invariant in
     let place = c.loop-evidence.place in
-    let seen = IsSeen-place t (g.T.SpareTable.limit a.table.now) pairs place table inv.place in
+    let seen = IsSeen-place table inv.place in
     let spans = spans_of_pairs pairs in
     let needed = a.ask.slots + place.due in
     let due : needed ≡ a.ask.slots + works (take place.index spans) = omega (arith, seen.due) in
@@ -414,7 +309,7 @@ returns-in_default-onward-clause-left g c =
     let table = c.requires.table in
     let inv = c.loop-evidence.invariant in
     let place = c.loop-evidence.place in
-    let seen = IsSeen-place t (g.T.SpareTable.limit a.table.now) pairs place table inv.place in
+    let seen = IsSeen-place table inv.place in
     let spans = spans_of_pairs pairs in
     let needed = a.ask.slots + place.due in
     let due : needed ≡ a.ask.slots + works (take place.index spans) = omega (arith, seen.due) in
@@ -460,7 +355,7 @@ returns-in_default-onward-clause-greatest g c =
     let table = c.requires.table in
     let inv = c.loop-evidence.invariant in
     let place = c.loop-evidence.place in
-    let seen = IsSeen-place t (g.T.SpareTable.limit a.table.now) pairs place table inv.place in
+    let seen = IsSeen-place table inv.place in
     let spans = spans_of_pairs pairs in
     let needed = a.ask.slots + place.due in
     let due : needed ≡ a.ask.slots + works (take place.index spans) = omega (arith, seen.due) in
