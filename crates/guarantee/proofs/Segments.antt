@@ -190,6 +190,14 @@ Looks-leaves spans reserve ask t due left first until looks leaves =
           omega (arith, looks.time);
     }
 
+-- so is what is left before and where it looks
+pub Looks-leaves-on : (spans : List Span) (reserve : Reserved) (ask : Ask) (t due old left from start first until : ℕ) → Looks spans t ask.slots ask.now (ask.slots + due) first until → first ≡ max from start → left ≤ old → Leaves (need_until spans reserve ask.arrivals) t ask.slots old from (max from start) → LeavesBetween reserve ask due left first until → Leaves (need_until spans reserve ask.arrivals) t ask.slots left from until
+Looks-leaves-on spans reserve ask t due old left from start first until looks here fewer before leaves =
+    let need : ℕ → ℕ = need_until spans reserve ask.arrivals in
+    Leaves-join need t ask.slots left from first until
+    (Leaves-part need t ask.slots old left from (max from start) from first fewer (omega arith) (omega (arith, here)) before)
+    (Looks-leaves spans reserve ask t due left first until looks leaves)
+
 -- and no more is left of the spans than where it looks
 pub Looks-most : (spans : List Span) (reserve : Reserved) (ask : Ask) (t due most old left from first until : ℕ) → Looks spans t ask.slots ask.now (ask.slots + due) first until → from ≤ first → MostFrom spans reserve t ask.arrivals ask.slots most old from → MostBetween reserve ask due old left first until → MostFrom spans reserve t ask.arrivals ask.slots most left from
 Looks-most spans reserve ask t due most old left from first until looks low before between =

@@ -16,6 +16,7 @@ use Rattle.interval_row.proofs.ShortTimes.{last-at, next-at, order-at, works-nex
 use Rattle.guarantee.specs.declared.walk.SpanPlace.{SpanPlace}
 use Rattle.guarantee.specs.Places.{IsPlace, MayPass}
 use Rattle.guarantee.proofs.Places.{spare-small, start-before, Stands, Stands-at, work_until-small}
+use Rattle.guarantee.proofs.Segments.{Looks, Looks-end, Looks-inside}
 
 -- there are as many spans as pairs
 pub length-spans_of_pairs : (pairs : List (Spot × Span)) → length (spans_of_pairs pairs) ≡ length pairs
@@ -81,6 +82,16 @@ last-works pairs place is last =
     let all : length spans ≤ place.index + 1 = omega (arith, length-spans_of_pairs pairs) in
     let whole : works (take (place.index + 1) spans) ≡ works spans = ap works (take_all (place.index + 1) spans all) in
     omega (arith, is.due, works-next place.index spans place.span is.span)
+
+-- the search looks at the times of the span at a place
+pub Looks-place : {t limit : ℕ} {pairs : List (Spot × Span)} {place : SpanPlace} (slots now first : ℕ) → IsTable t pairs limit → IsPlace pairs place → now ≡ t → place.span.start ≤ first → Looks (spans_of_pairs pairs) t slots now (slots + place.due) first place.span.end
+Looks-place {t = t} {pairs = pairs} {place = place} slots now first table is time low =
+    Looks-inside (spans_of_pairs pairs) t slots now (slots + place.due) first place.index place.span table.consecutive is.span time (omega (arith, is.due)) low
+
+-- and at the last end, where the place is the last
+pub Looks-over : {t limit : ℕ} {pairs : List (Spot × Span)} {place : SpanPlace} (slots now first until : ℕ) → IsTable t pairs limit → IsPlace pairs place → place.index + 1 ≡ length pairs → now ≡ t → last_end t (spans_of_pairs pairs) ≤ first → until ≡ last_end t (spans_of_pairs pairs) + 1 → Looks (spans_of_pairs pairs) t slots now (slots + (place.due + place.span.work)) first until
+Looks-over {t = t} {pairs = pairs} {place = place} slots now first until table is last time low all =
+    Looks-end (spans_of_pairs pairs) t slots now (slots + (place.due + place.span.work)) first until table.consecutive time (omega (arith, last-works pairs place is last)) low all
 
 -- a place of a later index starts no earlier than this one ends
 pub later-after : (t : ℕ) (pairs : List (Spot × Span)) (place later : SpanPlace) → FollowOn t (spans_of_pairs pairs) → IsPlace pairs place → IsPlace pairs later → place.index < later.index → place.span.end ≤ later.span.start

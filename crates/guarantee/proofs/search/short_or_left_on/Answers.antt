@@ -6,8 +6,8 @@ use Rattle.spare_capacity.specs.Recurrence.{last_end}
 use Rattle.interval_row.specs.Tables.{spans_of_pairs, works}
 use Rattle.guarantee.specs.Offers.{evidence_at, first_short, need_until}
 use Rattle.guarantee.specs.Stretches.{NeedsNone}
-use Rattle.guarantee.proofs.Segments.{covered, covered-leaves, leaves-end, IsLevelFrom-later, Leaves-all, Leaves-join, Leaves-part, LeavesAll-later, Looks-end, Looks-inside, Looks-found, Looks-last, Looks-later, Looks-leaves, Looks-most, most-end}
-use Rattle.guarantee.proofs.Tables.{last-ends, last-works, later-after, IsSeen-place}
+use Rattle.guarantee.proofs.Segments.{covered, covered-leaves, leaves-end, IsLevelFrom-later, Leaves-all, Leaves-join, Leaves-part, LeavesAll-later, Looks-found, Looks-last, Looks-later, Looks-leaves-on, Looks-most, most-end}
+use Rattle.guarantee.proofs.Tables.{last-ends, later-after, IsSeen-place, Looks-over, Looks-place}
 use Rattle.guarantee.proofs.search.short_or_left_on.Goals as goal
 use Rattle.guarantee.proofs.search.short_or_left_on.Goals.{else-most-eq0-via-then-most-eq0+else-not-covers, else-most-eq0-via-else-most-eq0}
 
@@ -39,12 +39,9 @@ returns-in-Some-clause-first g c =
     let table = c.requires.table in
     let inv = c.loop-evidence.invariant in
     let place = c.loop-evidence.place in
-    let seen = IsSeen-place table inv.place in
     let spans = spans_of_pairs pairs in
     let needed = a.ask.slots + place.due in
-    let due : needed ≡ a.ask.slots + works (take place.index spans) = omega (arith, seen.due) in
-    let low : place.span.start ≤ c.max-first.result = omega (arith, c.max-first.ensures) in
-    let looks = Looks-inside spans t a.ask.slots a.ask.now needed c.max-first.result place.index place.span table.consecutive seen.at c.requires.now due low in
+    let looks = Looks-place a.ask.slots a.ask.now c.max-first.result table inv.place c.requires.now (omega (arith, c.max-first.ensures)) in
     let same = inv.same ∙ ap (first_short spans a.reserve.now t a.ask.arrivals a.ask.slots) (sym c.max-first.ensures) in
     Looks-found spans a.reserve.now t a.ask.arrivals a.ask.slots a.ask.now needed c.max-first.result place.span.end c.in-Some.evidence looks c.in-Some.ensures.short
     ∙ sym (ap (option_map (evidence_at spans a.reserve.now t a.ask.arrivals a.ask.slots)) same)
@@ -119,8 +116,7 @@ returns-then-covers-clause-first g c =
     let spans = spans_of_pairs pairs in
     let needed = a.ask.slots + place.due in
     let due : needed ≡ a.ask.slots + works (take place.index spans) = omega (arith, seen.due) in
-    let low : place.span.start ≤ c.max-first.result = omega (arith, c.max-first.ensures) in
-    let looks = Looks-inside spans t a.ask.slots a.ask.now needed c.max-first.result place.index place.span table.consecutive seen.at c.requires.now due low in
+    let looks = Looks-place a.ask.slots a.ask.now c.max-first.result table inv.place c.requires.now (omega (arith, c.max-first.ensures)) in
     let same = inv.same ∙ ap (first_short spans a.reserve.now t a.ask.arrivals a.ask.slots) (sym c.max-first.ensures) in
     let told = sym c.in_default.is ∙ c.short_between.ensures.short in
     let onward = Looks-later spans a.reserve.now t a.ask.arrivals a.ask.slots a.ask.now needed c.max-first.result place.span.end (max c.max-first.result place.span.end) looks refl told in
@@ -139,13 +135,10 @@ returns-then-covers-clause-left g c =
     let spans = spans_of_pairs pairs in
     let needed = a.ask.slots + place.due in
     let due : needed ≡ a.ask.slots + works (take place.index spans) = omega (arith, seen.due) in
-    let low : place.span.start ≤ c.max-first.result = omega (arith, c.max-first.ensures) in
-    let looks = Looks-inside spans t a.ask.slots a.ask.now needed c.max-first.result place.index place.span table.consecutive seen.at c.requires.now due low in
+    let looks = Looks-place a.ask.slots a.ask.now c.max-first.result table inv.place c.requires.now (omega (arith, c.max-first.ensures)) in
     let need : ℕ → ℕ = need_until spans a.reserve.now a.ask.arrivals in
     let left = c.short_between.new.tried.left in
-    let before = Leaves-part need t a.ask.slots c.loop-evidence.tried.left left a.from (max a.from place.span.start) a.from c.max-first.result c.short_between.ensures.least (omega arith) (omega (arith, c.max-first.ensures)) inv.left in
-    let inside = Looks-leaves spans a.reserve.now a.ask t place.due left c.max-first.result place.span.end looks (c.short_between.ensures.left c.in_default.is) in
-    let so_far = Leaves-join need t a.ask.slots left a.from c.max-first.result place.span.end before inside in
+    let so_far = Looks-leaves-on spans a.reserve.now a.ask t place.due c.loop-evidence.tried.left left a.from place.span.start c.max-first.result place.span.end looks c.max-first.ensures c.short_between.ensures.least inv.left (c.short_between.ensures.left c.in_default.is) in
     let rest = covered-leaves spans a.reserve.now t a.ask.arrivals a.ask.slots a.ask.now needed c.demand-most.result left place.index place.span table.consecutive table.filled seen.at c.requires.now due (λ z most. c.demand-most.ensures.most z (omega (arith, most, c.last_end-last.ensures))) (c.covers.ensures.0 c.if-covers.true) in
     Leaves-join need t a.ask.slots left a.from place.span.end (last_end t spans + 1) so_far rest
 
@@ -157,12 +150,8 @@ returns-then-covers-clause-greatest g c =
     let table = c.requires.table in
     let inv = c.loop-evidence.invariant in
     let place = c.loop-evidence.place in
-    let seen = IsSeen-place table inv.place in
     let spans = spans_of_pairs pairs in
-    let needed = a.ask.slots + place.due in
-    let due : needed ≡ a.ask.slots + works (take place.index spans) = omega (arith, seen.due) in
-    let low : place.span.start ≤ c.max-first.result = omega (arith, c.max-first.ensures) in
-    let looks = Looks-inside spans t a.ask.slots a.ask.now needed c.max-first.result place.index place.span table.consecutive seen.at c.requires.now due low in
+    let looks = Looks-place a.ask.slots a.ask.now c.max-first.result table inv.place c.requires.now (omega (arith, c.max-first.ensures)) in
     let start : a.from ≤ c.max-first.result = omega (arith, c.max-first.ensures) in
     let most = min a.told (last_end t spans - t - a.ask.slots) in
     let greatest = Looks-most spans a.reserve.now a.ask t place.due most c.loop-evidence.tried.left c.short_between.new.tried.left a.from c.max-first.result place.span.end looks start inv.greatest (c.short_between.ensures.greatest c.in_default.is) in
@@ -179,9 +168,7 @@ returns-then-not-covers-clause-first g c =
     let seen = IsSeen-place table inv.place in
     let spans = spans_of_pairs pairs in
     let needed = a.ask.slots + place.due in
-    let due : needed ≡ a.ask.slots + works (take place.index spans) = omega (arith, seen.due) in
-    let low : place.span.start ≤ c.max-first.result = omega (arith, c.max-first.ensures) in
-    let looks = Looks-inside spans t a.ask.slots a.ask.now needed c.max-first.result place.index place.span table.consecutive seen.at c.requires.now due low in
+    let looks = Looks-place a.ask.slots a.ask.now c.max-first.result table inv.place c.requires.now (omega (arith, c.max-first.ensures)) in
     let same = inv.same ∙ ap (first_short spans a.reserve.now t a.ask.arrivals a.ask.slots) (sym c.max-first.ensures) in
     let told = sym c.in_default.is ∙ c.short_between.ensures.short in
     let end : place.span.end ≡ max c.max-first.result place.span.end = omega (arith, inv.reached, seen.stands.rising, c.max-first.ensures) in
@@ -202,16 +189,12 @@ loop-evidence-preserved g c =
     let seen = IsSeen-place table inv.place in
     let spans = spans_of_pairs pairs in
     let needed = a.ask.slots + place.due in
-    let due : needed ≡ a.ask.slots + works (take place.index spans) = omega (arith, seen.due) in
-    let low : place.span.start ≤ c.max-first.result = omega (arith, c.max-first.ensures) in
-    let looks = Looks-inside spans t a.ask.slots a.ask.now needed c.max-first.result place.index place.span table.consecutive seen.at c.requires.now due low in
+    let looks = Looks-place a.ask.slots a.ask.now c.max-first.result table inv.place c.requires.now (omega (arith, c.max-first.ensures)) in
     let same = inv.same ∙ ap (first_short spans a.reserve.now t a.ask.arrivals a.ask.slots) (sym c.max-first.ensures) in
     let told = sym c.in_default.is ∙ c.short_between.ensures.short in
     let need : ℕ → ℕ = need_until spans a.reserve.now a.ask.arrivals in
     let left = c.short_between.new.tried.left in
-    let before = Leaves-part need t a.ask.slots c.loop-evidence.tried.left left a.from (max a.from place.span.start) a.from c.max-first.result c.short_between.ensures.least (omega arith) (omega (arith, c.max-first.ensures)) inv.left in
-    let inside = Looks-leaves spans a.reserve.now a.ask t place.due left c.max-first.result place.span.end looks (c.short_between.ensures.left c.in_default.is) in
-    let so_far = Leaves-join need t a.ask.slots left a.from c.max-first.result place.span.end before inside in
+    let so_far = Looks-leaves-on spans a.reserve.now a.ask t place.due c.loop-evidence.tried.left left a.from place.span.start c.max-first.result place.span.end looks c.max-first.ensures c.short_between.ensures.least inv.left (c.short_between.ensures.left c.in_default.is) in
     let start : a.from ≤ c.max-first.result = omega (arith, c.max-first.ensures) in
     let most = min a.told (last_end t spans - t - a.ask.slots) in
     let greatest = Looks-most spans a.reserve.now a.ask t place.due most c.loop-evidence.tried.left c.short_between.new.tried.left a.from c.max-first.result place.span.end looks start inv.greatest (c.short_between.ensures.greatest c.in_default.is) in
@@ -284,18 +267,15 @@ returns-in_default-onward-clause-first g c =
     let seen = IsSeen-place table inv.place in
     let spans = spans_of_pairs pairs in
     let needed = a.ask.slots + place.due in
-    let due : needed ≡ a.ask.slots + works (take place.index spans) = omega (arith, seen.due) in
-    let low : place.span.start ≤ c.max-first.result = omega (arith, c.max-first.ensures) in
-    let looks = Looks-inside spans t a.ask.slots a.ask.now needed c.max-first.result place.index place.span table.consecutive seen.at c.requires.now due low in
+    let looks = Looks-place a.ask.slots a.ask.now c.max-first.result table inv.place c.requires.now (omega (arith, c.max-first.ensures)) in
     let same = inv.same ∙ ap (first_short spans a.reserve.now t a.ask.arrivals a.ask.slots) (sym c.max-first.ensures) in
     let told = sym c.in_default.is ∙ c.short_between.ensures.short in
     let over = c.in_default-onward.ensures.last in
     let end = last-ends t pairs place inv.place over in
     let first : c.max.result ≡ max c.max-first.result place.span.end = omega (arith, c.max.ensures, c.max-first.ensures, c.last_end-last.ensures, seen.stands.rising) in
     let all = place.due + place.span.work in
-    let works_all : a.ask.slots + all ≡ a.ask.slots + works spans = omega (arith, last-works pairs place inv.place over) in
     let until : c.last_end-last.result + 1 ≡ last_end t spans + 1 = omega (arith, c.last_end-last.ensures) in
-    let whole = Looks-end spans t a.ask.slots a.ask.now (a.ask.slots + all) c.max.result (c.last_end-last.result + 1) table.consecutive c.requires.now works_all (omega (arith, c.max.ensures, c.last_end-last.ensures)) until in
+    let whole = Looks-over a.ask.slots a.ask.now c.max.result (c.last_end-last.result + 1) table inv.place over c.requires.now (omega (arith, c.max.ensures, c.last_end-last.ensures)) until in
     let onward = Looks-later spans a.reserve.now t a.ask.arrivals a.ask.slots a.ask.now needed c.max-first.result place.span.end c.max.result looks first told in
     c.left_between.ensures.short
     ∙ Looks-last spans a.reserve.now t a.ask.arrivals a.ask.slots a.ask.now (a.ask.slots + all) c.max.result (c.last_end-last.result + 1) whole until
@@ -311,22 +291,16 @@ returns-in_default-onward-clause-left g c =
     let place = c.loop-evidence.place in
     let seen = IsSeen-place table inv.place in
     let spans = spans_of_pairs pairs in
-    let needed = a.ask.slots + place.due in
-    let due : needed ≡ a.ask.slots + works (take place.index spans) = omega (arith, seen.due) in
-    let low : place.span.start ≤ c.max-first.result = omega (arith, c.max-first.ensures) in
-    let looks = Looks-inside spans t a.ask.slots a.ask.now needed c.max-first.result place.index place.span table.consecutive seen.at c.requires.now due low in
+    let looks = Looks-place a.ask.slots a.ask.now c.max-first.result table inv.place c.requires.now (omega (arith, c.max-first.ensures)) in
     let need : ℕ → ℕ = need_until spans a.reserve.now a.ask.arrivals in
     let left = c.short_between.new.tried.left in
-    let before = Leaves-part need t a.ask.slots c.loop-evidence.tried.left left a.from (max a.from place.span.start) a.from c.max-first.result c.short_between.ensures.least (omega arith) (omega (arith, c.max-first.ensures)) inv.left in
-    let inside = Looks-leaves spans a.reserve.now a.ask t place.due left c.max-first.result place.span.end looks (c.short_between.ensures.left c.in_default.is) in
-    let so_far = Leaves-join need t a.ask.slots left a.from c.max-first.result place.span.end before inside in
+    let so_far = Looks-leaves-on spans a.reserve.now a.ask t place.due c.loop-evidence.tried.left left a.from place.span.start c.max-first.result place.span.end looks c.max-first.ensures c.short_between.ensures.least inv.left (c.short_between.ensures.left c.in_default.is) in
     let over = c.in_default-onward.ensures.last in
     let end = last-ends t pairs place inv.place over in
     let first : c.max.result ≡ max c.max-first.result place.span.end = omega (arith, c.max.ensures, c.max-first.ensures, c.last_end-last.ensures, seen.stands.rising) in
     let all = place.due + place.span.work in
-    let works_all : a.ask.slots + all ≡ a.ask.slots + works spans = omega (arith, last-works pairs place inv.place over) in
     let until : c.last_end-last.result + 1 ≡ last_end t spans + 1 = omega (arith, c.last_end-last.ensures) in
-    let whole = Looks-end spans t a.ask.slots a.ask.now (a.ask.slots + all) c.max.result (c.last_end-last.result + 1) table.consecutive c.requires.now works_all (omega (arith, c.max.ensures, c.last_end-last.ensures)) until in
+    let whole = Looks-over a.ask.slots a.ask.now c.max.result (c.last_end-last.result + 1) table inv.place over c.requires.now (omega (arith, c.max.ensures, c.last_end-last.ensures)) until in
     let up_to = Leaves-part need t a.ask.slots left left a.from place.span.end a.from c.max.result (omega arith) (omega arith) (omega (arith, end, inv.reached, c.max.ensures, c.last_end-last.ensures)) so_far in
     leaves-end spans a.reserve.now a.ask t all left a.from c.max.result (c.last_end-last.result + 1) c.left_between.result whole until up_to c.left_between.ensures.left c.left_between.ensures.least
 
@@ -355,19 +329,14 @@ returns-in_default-onward-clause-greatest g c =
     let table = c.requires.table in
     let inv = c.loop-evidence.invariant in
     let place = c.loop-evidence.place in
-    let seen = IsSeen-place table inv.place in
     let spans = spans_of_pairs pairs in
-    let needed = a.ask.slots + place.due in
-    let due : needed ≡ a.ask.slots + works (take place.index spans) = omega (arith, seen.due) in
-    let low : place.span.start ≤ c.max-first.result = omega (arith, c.max-first.ensures) in
-    let looks = Looks-inside spans t a.ask.slots a.ask.now needed c.max-first.result place.index place.span table.consecutive seen.at c.requires.now due low in
+    let looks = Looks-place a.ask.slots a.ask.now c.max-first.result table inv.place c.requires.now (omega (arith, c.max-first.ensures)) in
     let start : a.from ≤ c.max-first.result = omega (arith, c.max-first.ensures) in
     let most = min a.told (last_end t spans - t - a.ask.slots) in
     let greatest = Looks-most spans a.reserve.now a.ask t place.due most c.loop-evidence.tried.left c.short_between.new.tried.left a.from c.max-first.result place.span.end looks start inv.greatest (c.short_between.ensures.greatest c.in_default.is) in
     let over = c.in_default-onward.ensures.last in
     let end = last-ends t pairs place inv.place over in
     let all = place.due + place.span.work in
-    let works_all : a.ask.slots + all ≡ a.ask.slots + works spans = omega (arith, last-works pairs place inv.place over) in
     let until : c.last_end-last.result + 1 ≡ last_end t spans + 1 = omega (arith, c.last_end-last.ensures) in
-    let whole = Looks-end spans t a.ask.slots a.ask.now (a.ask.slots + all) c.max.result (c.last_end-last.result + 1) table.consecutive c.requires.now works_all (omega (arith, c.max.ensures, c.last_end-last.ensures)) until in
+    let whole = Looks-over a.ask.slots a.ask.now c.max.result (c.last_end-last.result + 1) table inv.place over c.requires.now (omega (arith, c.max.ensures, c.last_end-last.ensures)) until in
     most-end spans a.reserve.now a.ask t all most c.short_between.new.tried.left a.from c.max.result (c.last_end-last.result + 1) c.left_between.result whole (omega (arith, c.max.ensures)) greatest c.left_between.ensures.greatest
