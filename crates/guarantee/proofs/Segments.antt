@@ -167,12 +167,19 @@ Looks-found spans reserve t r slots now needed first until evidence looks told =
     ]
 
 -- where it finds none, the search goes on from a later time
-pub Looks-later : (spans : List Span) (reserve : Reserved) (t r slots now needed first until later : ℕ) → Looks spans t slots now needed first until → later ≡ max first until → None ≡ option_map (evidence_of reserve now r needed) (found_from reserve now r needed first until) → first_short spans reserve t r slots first ≡ first_short spans reserve t r slots later
+Looks-later : (spans : List Span) (reserve : Reserved) (t r slots now needed first until later : ℕ) → Looks spans t slots now needed first until → later ≡ max first until → None ≡ option_map (evidence_of reserve now r needed) (found_from reserve now r needed first until) → first_short spans reserve t r slots first ≡ first_short spans reserve t r slots later
 Looks-later spans reserve t r slots now needed first until later looks is told =
     let none = rw looks.time at told in
     let q = exceeds reserve t r needed in
     let fails = fails-from_none q first (until - first) (option_map-None (evidence_of reserve t r needed) (find q (range_with_len first (until - first))) (sym none)) in
     find-skip (is_short spans reserve t r slots) first later (last_end t spans + 1) (omega arith) (λ x low high. short-exceeds spans reserve t r slots needed x (looks.due x low (omega arith)) ∙ fails x low (omega arith))
+
+-- and gives the same there as from a time that gives the same here
+pub Looks-later-on : (spans : List Span) (reserve : Reserved) (t r slots now needed from start first until later : ℕ) → Looks spans t slots now needed first until → first_short spans reserve t r slots from ≡ first_short spans reserve t r slots (max from start) → first ≡ max from start → later ≡ max first until → None ≡ option_map (evidence_of reserve now r needed) (found_from reserve now r needed first until) → first_short spans reserve t r slots from ≡ first_short spans reserve t r slots later
+Looks-later-on spans reserve t r slots now needed from start first until later looks same here is told =
+    same
+    ∙ ap (first_short spans reserve t r slots) (sym here)
+    ∙ Looks-later spans reserve t r slots now needed first until later looks is told
 
 -- where it looks up to the last end, what it finds is the answer
 pub Looks-last : (spans : List Span) (reserve : Reserved) (t r slots now needed first until : ℕ) → Looks spans t slots now needed first until → until ≡ last_end t spans + 1 → option_map (evidence_of reserve now r needed) (found_from reserve now r needed first until) ≡ option_map (evidence_at spans reserve t r slots) (first_short spans reserve t r slots first)
@@ -181,7 +188,7 @@ Looks-last spans reserve t r slots now needed first until looks all =
     sym (search-same (is_short spans reserve t r slots) (exceeds reserve t r needed) (evidence_at spans reserve t r slots) (evidence_of reserve t r needed) first (last_end t spans + 1 - first) (λ x low high. short-exceeds spans reserve t r slots needed x (looks.due x low (omega arith))) (λ x low high. evidence-same spans reserve t r slots needed x (looks.due x low (omega arith)))))
 
 -- what is left where it looks is left of the spans
-pub Looks-leaves : (spans : List Span) (reserve : Reserved) (ask : Ask) (t due left first until : ℕ) → Looks spans t ask.slots ask.now (ask.slots + due) first until → LeavesBetween reserve ask due left first until → Leaves (need_until spans reserve ask.arrivals) t ask.slots left first until
+Looks-leaves : (spans : List Span) (reserve : Reserved) (ask : Ask) (t due left first until : ℕ) → Looks spans t ask.slots ask.now (ask.slots + due) first until → LeavesBetween reserve ask due left first until → Leaves (need_until spans reserve ask.arrivals) t ask.slots left first until
 Looks-leaves spans reserve ask t due left first until looks leaves =
     record {
       at = λ x low high some.

@@ -6,7 +6,7 @@ use Rattle.spare_capacity.specs.Recurrence.{last_end}
 use Rattle.interval_row.specs.Tables.{spans_of_pairs, works}
 use Rattle.guarantee.specs.Offers.{evidence_at, first_short, need_until}
 use Rattle.guarantee.specs.Stretches.{NeedsNone}
-use Rattle.guarantee.proofs.Segments.{covered, covered-leaves, leaves-end, IsLevelFrom-later, Leaves-all, Leaves-join, Leaves-part, LeavesAll-later, Looks-found, Looks-last, Looks-later, Looks-leaves-on, Looks-most, most-end}
+use Rattle.guarantee.proofs.Segments.{covered, covered-leaves, leaves-end, IsLevelFrom-later, Leaves-all, Leaves-join, Leaves-part, LeavesAll-later, Looks-found, Looks-last, Looks-later-on, Looks-leaves-on, Looks-most, most-end}
 use Rattle.guarantee.proofs.Tables.{last-ends, later-after, IsSeen-place, Looks-over, Looks-place}
 use Rattle.guarantee.proofs.search.short_or_left_on.Goals as goal
 use Rattle.guarantee.proofs.search.short_or_left_on.Goals.{else-most-eq0-via-then-most-eq0+else-not-covers, else-most-eq0-via-else-most-eq0}
@@ -117,11 +117,10 @@ returns-then-covers-clause-first g c =
     let needed = a.ask.slots + place.due in
     let due : needed ≡ a.ask.slots + works (take place.index spans) = omega (arith, seen.due) in
     let looks = Looks-place a.ask.slots a.ask.now c.max-first.result table inv.place c.requires.now (omega (arith, c.max-first.ensures)) in
-    let same = inv.same ∙ ap (first_short spans a.reserve.now t a.ask.arrivals a.ask.slots) (sym c.max-first.ensures) in
     let told = sym c.in_default.is ∙ c.short_between.ensures.short in
-    let onward = Looks-later spans a.reserve.now t a.ask.arrivals a.ask.slots a.ask.now needed c.max-first.result place.span.end (max c.max-first.result place.span.end) looks refl told in
+    let onward = Looks-later-on spans a.reserve.now t a.ask.arrivals a.ask.slots a.ask.now needed a.from place.span.start c.max-first.result place.span.end (max c.max-first.result place.span.end) looks inv.same c.max-first.ensures refl told in
     let none = covered spans a.reserve.now t a.ask.arrivals a.ask.slots a.ask.now needed (max c.max-first.result place.span.end) c.demand-most.result c.short_between.new.tried.left place.index place.span table.consecutive table.filled seen.at c.requires.now due (omega arith) (λ z most. c.demand-most.ensures.most z (omega (arith, most, c.last_end-last.ensures))) (c.covers.ensures.0 c.if-covers.true) in
-    sym (ap (option_map (evidence_at spans a.reserve.now t a.ask.arrivals a.ask.slots)) (same ∙ onward ∙ none))
+    sym (ap (option_map (evidence_at spans a.reserve.now t a.ask.arrivals a.ask.slots)) (onward ∙ none))
 
 pub returns-then-covers-clause-left : goal.returns-then-covers-clause-left
 returns-then-covers-clause-left g c =
@@ -169,14 +168,13 @@ returns-then-not-covers-clause-first g c =
     let spans = spans_of_pairs pairs in
     let needed = a.ask.slots + place.due in
     let looks = Looks-place a.ask.slots a.ask.now c.max-first.result table inv.place c.requires.now (omega (arith, c.max-first.ensures)) in
-    let same = inv.same ∙ ap (first_short spans a.reserve.now t a.ask.arrivals a.ask.slots) (sym c.max-first.ensures) in
     let told = sym c.in_default.is ∙ c.short_between.ensures.short in
     let end : place.span.end ≡ max c.max-first.result place.span.end = omega (arith, inv.reached, seen.stands.rising, c.max-first.ensures) in
-    let onward = Looks-later spans a.reserve.now t a.ask.arrivals a.ask.slots a.ask.now needed c.max-first.result place.span.end place.span.end looks end told in
+    let onward = Looks-later-on spans a.reserve.now t a.ask.arrivals a.ask.slots a.ask.now needed a.from place.span.start c.max-first.result place.span.end place.span.end looks inv.same c.max-first.ensures end told in
     let quiet : NeedsNone a.reserve.now a.ask.arrivals (last_end t spans) = λ z most.
     omega (arith, c.demand-most.ensures.most z (omega (arith, most, c.last_end-last.ensures)), c.if-most-eq0.true) in
     c.first_short_start.ensures.first a.reserve.now quiet
-    ∙ sym (ap (option_map (evidence_at spans a.reserve.now t a.ask.arrivals a.ask.slots)) (same ∙ onward))
+    ∙ sym (ap (option_map (evidence_at spans a.reserve.now t a.ask.arrivals a.ask.slots)) onward)
 
 pub loop-evidence-preserved : goal.loop-evidence-preserved
 loop-evidence-preserved g c =
@@ -190,7 +188,6 @@ loop-evidence-preserved g c =
     let spans = spans_of_pairs pairs in
     let needed = a.ask.slots + place.due in
     let looks = Looks-place a.ask.slots a.ask.now c.max-first.result table inv.place c.requires.now (omega (arith, c.max-first.ensures)) in
-    let same = inv.same ∙ ap (first_short spans a.reserve.now t a.ask.arrivals a.ask.slots) (sym c.max-first.ensures) in
     let told = sym c.in_default.is ∙ c.short_between.ensures.short in
     let need : ℕ → ℕ = need_until spans a.reserve.now a.ask.arrivals in
     let left = c.short_between.new.tried.left in
@@ -220,8 +217,7 @@ loop-evidence-preserved g c =
       passed = omega (arith, inv.passed, is.last);
       reached = omega (arith, there.stands.rising, inv.reached, after);
       same =
-          same
-          ∙ Looks-later spans a.reserve.now t a.ask.arrivals a.ask.slots a.ask.now needed c.max-first.result place.span.end place.span.end looks end told
+          Looks-later-on spans a.reserve.now t a.ask.arrivals a.ask.slots a.ask.now needed a.from place.span.start c.max-first.result place.span.end place.span.end looks inv.same c.max-first.ensures end told
           ∙ LeavesAll-later spans a.reserve.now t a.ask.arrivals a.ask.slots left place.span.end next.span.start after is.left
           ∙ ap (first_short spans a.reserve.now t a.ask.arrivals a.ask.slots) here;
       level = IsLevelFrom-later a.reserve.now a.ask.arrivals (max c.max-first.result place.span.end) (max a.from next.span.start) _ (omega (arith, after, c.max-first.ensures, seen.stands.rising)) c.short_between.ensures.level;
@@ -268,7 +264,6 @@ returns-in_default-onward-clause-first g c =
     let spans = spans_of_pairs pairs in
     let needed = a.ask.slots + place.due in
     let looks = Looks-place a.ask.slots a.ask.now c.max-first.result table inv.place c.requires.now (omega (arith, c.max-first.ensures)) in
-    let same = inv.same ∙ ap (first_short spans a.reserve.now t a.ask.arrivals a.ask.slots) (sym c.max-first.ensures) in
     let told = sym c.in_default.is ∙ c.short_between.ensures.short in
     let over = c.in_default-onward.ensures.last in
     let end = last-ends t pairs place inv.place over in
@@ -276,10 +271,10 @@ returns-in_default-onward-clause-first g c =
     let all = place.due + place.span.work in
     let until : c.last_end-last.result + 1 ≡ last_end t spans + 1 = omega (arith, c.last_end-last.ensures) in
     let whole = Looks-over a.ask.slots a.ask.now c.max.result (c.last_end-last.result + 1) table inv.place over c.requires.now (omega (arith, c.max.ensures, c.last_end-last.ensures)) until in
-    let onward = Looks-later spans a.reserve.now t a.ask.arrivals a.ask.slots a.ask.now needed c.max-first.result place.span.end c.max.result looks first told in
+    let onward = Looks-later-on spans a.reserve.now t a.ask.arrivals a.ask.slots a.ask.now needed a.from place.span.start c.max-first.result place.span.end c.max.result looks inv.same c.max-first.ensures first told in
     c.left_between.ensures.short
     ∙ Looks-last spans a.reserve.now t a.ask.arrivals a.ask.slots a.ask.now (a.ask.slots + all) c.max.result (c.last_end-last.result + 1) whole until
-    ∙ sym (ap (option_map (evidence_at spans a.reserve.now t a.ask.arrivals a.ask.slots)) (same ∙ onward))
+    ∙ sym (ap (option_map (evidence_at spans a.reserve.now t a.ask.arrivals a.ask.slots)) onward)
 
 pub returns-in_default-onward-clause-left : goal.returns-in_default-onward-clause-left
 returns-in_default-onward-clause-left g c =
