@@ -1,5 +1,5 @@
 -- The search in a stretch in which the same work is due.
-use Rattle.std.proofs.Common.{◌≡◌, ℕ, ◌+◌, ◌-◌, ◌^◌, ◌<◌, ◌≤◌, pos, ◌+ℤ◌, ◌≤ℤ◌, ◌<ℤ◌, max, true, false, List, [], length, take, Option, Some, None, refl, sym, ap, ◌∙◌, inl, inr, arith}
+use Rattle.std.proofs.Common.{◌≡◌, ℕ, ◌+◌, ◌-◌, ◌<◌, ◌≤◌, pos, ◌+ℤ◌, ◌≤ℤ◌, ◌<ℤ◌, max, true, false, List, length, take, Option, Some, None, refl, sym, ap, ◌∙◌, inl, inr, arith}
 use Rattle.std.specs.Prelude.{find, nat_lt, slice_get, Err, IfOk, MatchOption, Ok, Result}
 use Rattle.std.specs.Option.{option_map, option_or}
 use Rattle.std.specs.List.{range_with_len}
@@ -14,7 +14,7 @@ use Rattle.spare_capacity.specs.Recurrence.{filled, last_end, FollowOn}
 use Rattle.spare_capacity.specs.Laws.{work_until}
 use Rattle.interval_row.specs.Tables.{works}
 use Rattle.interval_row.proofs.ShortTimes.{end-at, work_until-all, work_until-at}
-use Rattle.sporadic_reserve.specs.Reserves.{demand_limit, Reserved, IsNextRise}
+use Rattle.sporadic_reserve.specs.Reserves.{Reserved}
 use Rattle.guarantee.specs.Offers.{evidence_at, first_short, is_short, need_until}
 use Rattle.guarantee.specs.declared.search.Level.{Level}
 use Rattle.guarantee.specs.declared.search.Ask.{Ask}
@@ -113,24 +113,6 @@ IsLevelFrom-later reserve r from later level le is =
       flat = λ x low high. is.flat x (omega arith) high;
       small = is.small;
     }
-
--- up to the next rise the demand is level
-pub IsLevelFrom-rise : (reserve : Reserved) (r at : ℕ) (level : Level) (rise : Option ℕ) → level.demand ≡ demand reserve r at → level.demand ≤ demand_limit → MatchOption rise (reserve.sporadics ≡ []) (λ y. IsNextRise (λ z. demand reserve r z) at y) → MatchOption rise (level.until ≡ 2 ^ 64 - 1) (λ y. level.until ≡ y) → IsLevelFrom reserve r at level
-IsLevelFrom-rise reserve r at level None is few none ends =
-    let no_task : (x : ℕ) → demand reserve r x ≡ 0 = λ x. rw none refl in
-    record {
-      flat = λ x low high. no_task x ∙ sym (no_task at) ∙ sym is;
-      small = few;
-    }
-IsLevelFrom-rise reserve r at level (Some y) is few rise ends =
-    record {
-      flat = λ x low high. rise.stays x low (omega (arith, ends)) ∙ sym is;
-      small = few;
-    }
-
-pub after-rise : (reserve : Reserved) (r at until : ℕ) (rise : Option ℕ) → at < 2 ^ 41 → MatchOption rise (reserve.sporadics ≡ []) (λ y. IsNextRise (λ z. demand reserve r z) at y) → MatchOption rise (until ≡ 2 ^ 64 - 1) (λ y. until ≡ y) → at < until
-after-rise reserve r at until None near none ends = omega (arith, ends)
-after-rise reserve r at until (Some y) near rise ends = omega (arith, ends, rise.after)
 
 -- where this much is needed, the two tests and their evidence are one
 short-exceeds : (spans : List Span) (reserve : Reserved) (t r slots needed x : ℕ) → needed ≡ slots + work_until spans x → is_short spans reserve t r slots x ≡ exceeds reserve t r needed x

@@ -76,7 +76,7 @@ pub last-ends : (t : ℕ) (pairs : List (Spot × Span)) (place : SpanPlace) → 
 last-ends t pairs place is last =
     last-at t place.index (spans_of_pairs pairs) place.span is.span (omega (arith, length-spans_of_pairs pairs))
 
-pub last-works : (pairs : List (Spot × Span)) (place : SpanPlace) → IsPlace pairs place → place.index + 1 ≡ length pairs → place.due + place.span.work ≡ works (spans_of_pairs pairs)
+last-works : (pairs : List (Spot × Span)) (place : SpanPlace) → IsPlace pairs place → place.index + 1 ≡ length pairs → place.due + place.span.work ≡ works (spans_of_pairs pairs)
 last-works pairs place is last =
     let spans = spans_of_pairs pairs in
     let all : length spans ≤ place.index + 1 = omega (arith, length-spans_of_pairs pairs) in
