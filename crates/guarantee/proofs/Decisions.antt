@@ -57,7 +57,7 @@ not-found p (x ∷ xs) =
       | inr fails ↦ rw fails (not-found p xs)
     ]
 
-pub soft_fits-none : (spans : List Span) (reserve : Reserved) (t : ℕ) → soft_fits spans reserve t ≡ is_none (first_short spans reserve t (t + 1) 1 (t + 1))
+soft_fits-none : (spans : List Span) (reserve : Reserved) (t : ℕ) → soft_fits spans reserve t ≡ is_none (first_short spans reserve t (t + 1) 1 (t + 1))
 soft_fits-none spans reserve t =
     let same : last_end t spans - t ≡ last_end t spans + 1 - (t + 1) = omega arith in
     not-found (is_short spans reserve t (t + 1) 1) (range_with_len (t + 1) (last_end t spans - t))

@@ -1,10 +1,11 @@
 -- The search in a stretch in which the same work is due.
-use Rattle.std.proofs.Common.{◌≡◌, ℕ, ◌+◌, ◌-◌, ◌^◌, ◌<◌, ◌≤◌, pos, ◌+ℤ◌, ◌≤ℤ◌, ◌<ℤ◌, max, true, false, List, [], take, Option, Some, None, refl, sym, ap, ◌∙◌, inl, inr, arith}
+use Rattle.std.proofs.Common.{◌≡◌, ℕ, ◌+◌, ◌-◌, ◌<◌, ◌≤◌, pos, ◌+ℤ◌, ◌≤ℤ◌, ◌<ℤ◌, max, true, false, List, length, take, Option, Some, None, refl, sym, ap, ◌∙◌, inl, inr, arith}
 use Rattle.std.specs.Prelude.{find, nat_lt, slice_get, Err, IfOk, MatchOption, Ok, Result}
 use Rattle.std.specs.Option.{option_map, option_or}
 use Rattle.std.specs.List.{range_with_len}
 use Rattle.std.proofs.lemmas.Bool.{cases_lt, lt-ltb, le-ltb, ltb-false}
 use Rattle.std.proofs.lemmas.Int.{ints}
+use Rattle.std.proofs.lemmas.List.{take_all}
 use Rattle.slot_core.specs.declared.jobs.Evidence.{Evidence}
 use Rattle.slot_core.specs.declared.jobs.Span.{Span}
 use Rattle.slot_core.specs.Feasibility.Sporadics.{sporadic_demand}
@@ -12,12 +13,13 @@ use Rattle.slot_facts.proofs.Sets.Faults.{option_map-None}
 use Rattle.spare_capacity.specs.Recurrence.{filled, last_end, FollowOn}
 use Rattle.spare_capacity.specs.Laws.{work_until}
 use Rattle.interval_row.specs.Tables.{works}
-use Rattle.sporadic_reserve.specs.Reserves.{demand_limit, Reserved, IsNextRise}
+use Rattle.interval_row.proofs.ShortTimes.{end-at, work_until-all, work_until-at}
+use Rattle.sporadic_reserve.specs.Reserves.{Reserved}
 use Rattle.guarantee.specs.Offers.{evidence_at, first_short, is_short, need_until}
 use Rattle.guarantee.specs.declared.search.Level.{Level}
 use Rattle.guarantee.specs.declared.search.Ask.{Ask}
 use Rattle.guarantee.specs.Stretches.{exceeds, evidence_of, IsLevelFrom, Leaves, LeavesAll, LeavesBetween, MostBetween, MostFrom}
-use Rattle.guarantee.proofs.Places.{least-at, Stands-at, work_until-all, work_until-inside}
+use Rattle.guarantee.proofs.Places.{least-at}
 use Rattle.guarantee.proofs.Searches.{fails-from_none, find-here, find-none, find-skip, search-parts, search-same}
 
 -- the sporadic demand
@@ -112,24 +114,6 @@ IsLevelFrom-later reserve r from later level le is =
       small = is.small;
     }
 
--- up to the next rise the demand is level
-pub IsLevelFrom-rise : (reserve : Reserved) (r at : ℕ) (level : Level) (rise : Option ℕ) → level.demand ≡ demand reserve r at → level.demand ≤ demand_limit → MatchOption rise (reserve.sporadics ≡ []) (λ y. IsNextRise (λ z. demand reserve r z) at y) → MatchOption rise (level.until ≡ 2 ^ 64 - 1) (λ y. level.until ≡ y) → IsLevelFrom reserve r at level
-IsLevelFrom-rise reserve r at level None is few none ends =
-    let no_task : (x : ℕ) → demand reserve r x ≡ 0 = λ x. rw none refl in
-    record {
-      flat = λ x low high. no_task x ∙ sym (no_task at) ∙ sym is;
-      small = few;
-    }
-IsLevelFrom-rise reserve r at level (Some y) is few rise ends =
-    record {
-      flat = λ x low high. rise.stays x low (omega (arith, ends)) ∙ sym is;
-      small = few;
-    }
-
-pub after-rise : (reserve : Reserved) (r at until : ℕ) (rise : Option ℕ) → at < 2 ^ 41 → MatchOption rise (reserve.sporadics ≡ []) (λ y. IsNextRise (λ z. demand reserve r z) at y) → MatchOption rise (until ≡ 2 ^ 64 - 1) (λ y. until ≡ y) → at < until
-after-rise reserve r at until None near none ends = omega (arith, ends)
-after-rise reserve r at until (Some y) near rise ends = omega (arith, ends, rise.after)
-
 -- where this much is needed, the two tests and their evidence are one
 short-exceeds : (spans : List Span) (reserve : Reserved) (t r slots needed x : ℕ) → needed ≡ slots + work_until spans x → is_short spans reserve t r slots x ≡ exceeds reserve t r needed x
 short-exceeds spans reserve t r slots needed x is =
@@ -165,12 +149,19 @@ Looks-found spans reserve t r slots now needed first until evidence looks told =
     ]
 
 -- where it finds none, the search goes on from a later time
-pub Looks-later : (spans : List Span) (reserve : Reserved) (t r slots now needed first until later : ℕ) → Looks spans t slots now needed first until → later ≡ max first until → None ≡ option_map (evidence_of reserve now r needed) (found_from reserve now r needed first until) → first_short spans reserve t r slots first ≡ first_short spans reserve t r slots later
+Looks-later : (spans : List Span) (reserve : Reserved) (t r slots now needed first until later : ℕ) → Looks spans t slots now needed first until → later ≡ max first until → None ≡ option_map (evidence_of reserve now r needed) (found_from reserve now r needed first until) → first_short spans reserve t r slots first ≡ first_short spans reserve t r slots later
 Looks-later spans reserve t r slots now needed first until later looks is told =
     let none = rw looks.time at told in
     let q = exceeds reserve t r needed in
     let fails = fails-from_none q first (until - first) (option_map-None (evidence_of reserve t r needed) (find q (range_with_len first (until - first))) (sym none)) in
     find-skip (is_short spans reserve t r slots) first later (last_end t spans + 1) (omega arith) (λ x low high. short-exceeds spans reserve t r slots needed x (looks.due x low (omega arith)) ∙ fails x low (omega arith))
+
+-- and gives the same there as from a time that gives the same here
+pub Looks-later-on : (spans : List Span) (reserve : Reserved) (t r slots now needed from start first until later : ℕ) → Looks spans t slots now needed first until → first_short spans reserve t r slots from ≡ first_short spans reserve t r slots (max from start) → first ≡ max from start → later ≡ max first until → None ≡ option_map (evidence_of reserve now r needed) (found_from reserve now r needed first until) → first_short spans reserve t r slots from ≡ first_short spans reserve t r slots later
+Looks-later-on spans reserve t r slots now needed from start first until later looks same here is told =
+    same
+    ∙ ap (first_short spans reserve t r slots) (sym here)
+    ∙ Looks-later spans reserve t r slots now needed first until later looks is told
 
 -- where it looks up to the last end, what it finds is the answer
 pub Looks-last : (spans : List Span) (reserve : Reserved) (t r slots now needed first until : ℕ) → Looks spans t slots now needed first until → until ≡ last_end t spans + 1 → option_map (evidence_of reserve now r needed) (found_from reserve now r needed first until) ≡ option_map (evidence_at spans reserve t r slots) (first_short spans reserve t r slots first)
@@ -179,7 +170,7 @@ Looks-last spans reserve t r slots now needed first until looks all =
     sym (search-same (is_short spans reserve t r slots) (exceeds reserve t r needed) (evidence_at spans reserve t r slots) (evidence_of reserve t r needed) first (last_end t spans + 1 - first) (λ x low high. short-exceeds spans reserve t r slots needed x (looks.due x low (omega arith))) (λ x low high. evidence-same spans reserve t r slots needed x (looks.due x low (omega arith)))))
 
 -- what is left where it looks is left of the spans
-pub Looks-leaves : (spans : List Span) (reserve : Reserved) (ask : Ask) (t due left first until : ℕ) → Looks spans t ask.slots ask.now (ask.slots + due) first until → LeavesBetween reserve ask due left first until → Leaves (need_until spans reserve ask.arrivals) t ask.slots left first until
+Looks-leaves : (spans : List Span) (reserve : Reserved) (ask : Ask) (t due left first until : ℕ) → Looks spans t ask.slots ask.now (ask.slots + due) first until → LeavesBetween reserve ask due left first until → Leaves (need_until spans reserve ask.arrivals) t ask.slots left first until
 Looks-leaves spans reserve ask t due left first until looks leaves =
     record {
       at = λ x low high some.
@@ -187,6 +178,14 @@ Looks-leaves spans reserve ask t due left first until looks leaves =
           let most = leaves.at x low high (omega arith) in
           omega (arith, looks.time);
     }
+
+-- so is what is left before and where it looks
+pub Looks-leaves-on : (spans : List Span) (reserve : Reserved) (ask : Ask) (t due old left from start first until : ℕ) → Looks spans t ask.slots ask.now (ask.slots + due) first until → first ≡ max from start → left ≤ old → Leaves (need_until spans reserve ask.arrivals) t ask.slots old from (max from start) → LeavesBetween reserve ask due left first until → Leaves (need_until spans reserve ask.arrivals) t ask.slots left from until
+Looks-leaves-on spans reserve ask t due old left from start first until looks here fewer before leaves =
+    let need : ℕ → ℕ = need_until spans reserve ask.arrivals in
+    Leaves-join need t ask.slots left from first until
+    (Leaves-part need t ask.slots old left from (max from start) from first fewer (omega arith) (omega (arith, here)) before)
+    (Looks-leaves spans reserve ask t due left first until looks leaves)
 
 -- and no more is left of the spans than where it looks
 pub Looks-most : (spans : List Span) (reserve : Reserved) (ask : Ask) (t due most old left from first until : ℕ) → Looks spans t ask.slots ask.now (ask.slots + due) first until → from ≤ first → MostFrom spans reserve t ask.arrivals ask.slots most old from → MostBetween reserve ask due old left first until → MostFrom spans reserve t ask.arrivals ask.slots most left from
@@ -226,8 +225,8 @@ pub Looks-inside : (spans : List Span) (t slots now needed first i : ℕ) (s : S
 Looks-inside spans t slots now needed first i s follow at time due low =
     record {
       time = time;
-      within = omega (arith, (Stands-at t i spans s follow at).within);
-      due = λ x from to. omega (arith, work_until-inside t i spans s x follow at (omega arith) to);
+      within = omega (arith, end-at t i spans s follow at);
+      due = λ x from to. omega (arith, work_until-at t i x spans s follow at (omega arith) to);
     }
 
 -- and at the last end
@@ -236,7 +235,7 @@ Looks-end spans t slots now needed first until follow time due low all =
     record {
       time = time;
       within = omega arith;
-      due = λ x from to. omega (arith, work_until-all t spans x follow (omega arith));
+      due = λ x from to. omega (arith, work_until-all t x spans follow (omega arith), ap works (take_all (length spans) spans (omega arith)));
     }
 
 -- where a span covers what is needed and may come, no time from its end on is short

@@ -1,8 +1,8 @@
 -- Tables read span by span.
-use Rattle.std.proofs.Common.{◌≡◌, ℕ, suc, ◌+◌, ◌^◌, ◌<◌, ◌≤◌, pos, ◌≤ℤ◌, List, [], ◌∷◌, length, take, Option, Some, None, max, refl, sym, ap, ◌∙◌, subst, inl, inr, arith}
+use Rattle.std.proofs.Common.{◌≡◌, ℕ, suc, ◌+◌, ◌^◌, ◌<◌, ◌≤◌, pos, ◌≤ℤ◌, List, length, take, Option, Some, None, max, sym, ap, ◌∙◌, subst, inl, inr, arith}
 use Rattle.std.specs.Prelude.{slice_get, IfSome, MatchOption}
 use Rattle.std.proofs.lemmas.Bool.{cases_lt}
-use Rattle.std.proofs.lemmas.List.{take_all}
+use Rattle.std.proofs.lemmas.List.{length-map, take_all}
 use Rattle.std.proofs.lemmas.Option.{slice_get_within}
 use Rattle.slot_core.specs.declared.jobs.Span.{Span}
 use Rattle.spare_capacity.specs.Laws.{work_until}
@@ -11,14 +11,16 @@ use Rattle.interval_row.specs.declared.table.Front.{Front}
 use Rattle.interval_row.specs.declared.table.Spot.{Spot}
 use Rattle.interval_row.specs.Changes.{ends_before}
 use Rattle.interval_row.specs.Tables.{span_at, spans_of_pairs, spot_at, works, IsFront, IsTable}
+use Rattle.interval_row.proofs.CutTimes.{ends_before-within}
+use Rattle.interval_row.proofs.ShortTimes.{last-at, next-at, order-at, works-next, works-small}
 use Rattle.guarantee.specs.declared.walk.SpanPlace.{SpanPlace}
 use Rattle.guarantee.specs.Places.{IsPlace, MayPass}
-use Rattle.guarantee.proofs.Places.{end-after, end-before, ends_before-within, spare-small, start-at, start-before, Stands, Stands-at, works-more, works-small, work_until-small}
+use Rattle.guarantee.proofs.Places.{spare-small, start-before, Stands, Stands-at, work_until-small}
+use Rattle.guarantee.proofs.Segments.{Looks, Looks-end, Looks-inside}
 
 -- there are as many spans as pairs
 pub length-spans_of_pairs : (pairs : List (Spot × Span)) → length (spans_of_pairs pairs) ≡ length pairs
-length-spans_of_pairs [] = refl
-length-spans_of_pairs (p ∷ pairs) = ap suc (length-spans_of_pairs pairs)
+length-spans_of_pairs pairs = length-map pairs (λ (p : Spot × Span). p.1)
 
 -- what is known of a place in a table
 pub record IsSeen (t : ℕ) (spans : List Span) (place : SpanPlace) : Type 0 where
@@ -29,22 +31,22 @@ pub record IsSeen (t : ℕ) (spans : List Span) (place : SpanPlace) : Type 0 whe
   pub stands : Stands t spans place.span
   pub short : place.span.spare ≤ℤ pos (2 ^ 40)
 
-pub IsSeen-place : (t limit : ℕ) (pairs : List (Spot × Span)) (place : SpanPlace) → IsTable t pairs limit → IsPlace pairs place → IsSeen t (spans_of_pairs pairs) place
-IsSeen-place t limit pairs place table is =
+pub IsSeen-place : {t limit : ℕ} {pairs : List (Spot × Span)} {place : SpanPlace} → IsTable t pairs limit → IsPlace pairs place → IsSeen t (spans_of_pairs pairs) place
+IsSeen-place {t = t} {pairs = pairs} {place = place} table is =
     let few : place.index ≤ 2 ^ 20 = omega (arith, is.within, table.few, table.small) in
     record {
       at = is.span;
       due = is.due;
       few = few;
-      small = omega (arith, is.due, works-small t place.index (spans_of_pairs pairs) table.consecutive);
+      small = omega (arith, is.due, works-small t place.index (spans_of_pairs pairs) table.consecutive, length-spans_of_pairs pairs, table.few, table.small);
       stands = Stands-at t place.index (spans_of_pairs pairs) place.span table.consecutive is.span;
       short = spare-small t place.index (spans_of_pairs pairs) place.span table.consecutive table.filled is.span;
     }
 
 -- it ends from the time on, and no later than the last end
-pub place-end : (t limit : ℕ) (pairs : List (Spot × Span)) (place : SpanPlace) → IsTable t pairs limit → IsPlace pairs place → (t ≤ place.span.end) × (place.span.end ≤ last_end t (spans_of_pairs pairs))
-place-end t limit pairs place table is =
-    let stands = (IsSeen-place t limit pairs place table is).stands in
+pub place-end : {t limit : ℕ} {pairs : List (Spot × Span)} {place : SpanPlace} → IsTable t pairs limit → IsPlace pairs place → (t ≤ place.span.end) × (place.span.end ≤ last_end t (spans_of_pairs pairs))
+place-end table is =
+    let stands = (IsSeen-place table is).stands in
     (omega (arith, stands.after, stands.rising), stands.within)
 
 -- what is due by a time in a table is small
@@ -59,35 +61,42 @@ IsPlace-later pairs place at s is spot span =
       within = omega (arith, slice_get_within (spans_of_pairs pairs) (place.index + 1) s span, length-spans_of_pairs pairs);
       spot = spot;
       span = span;
-      due = omega (arith, is.due, works-more place.index (spans_of_pairs pairs) place.span is.span);
+      due = omega (arith, is.due, works-next place.index (spans_of_pairs pairs) place.span is.span);
     }
 
 -- it starts where the span before it ends
 pub later-start : (t : ℕ) (pairs : List (Spot × Span)) (place later : SpanPlace) → FollowOn t (spans_of_pairs pairs) → IsPlace pairs place → IsPlace pairs later → later.index ≡ place.index + 1 → later.span.start ≡ place.span.end
 later-start t pairs place later follow is next more =
     let spans = spans_of_pairs pairs in
-    start-at t later.index spans later.span follow next.span
-    ∙ ap (λ n. last_end t (take n spans)) more
-    ∙ end-after t place.index spans place.span is.span
+    let here : later.index ≡ suc place.index = omega arith in
+    next-at t place.index spans place.span later.span follow is.span (sym (ap (slice_get spans) here) ∙ next.span)
 
 -- the last span ends at the last end, and its work makes up all works
 pub last-ends : (t : ℕ) (pairs : List (Spot × Span)) (place : SpanPlace) → IsPlace pairs place → place.index + 1 ≡ length pairs → place.span.end ≡ last_end t (spans_of_pairs pairs)
 last-ends t pairs place is last =
-    let spans = spans_of_pairs pairs in
-    let all : length spans ≤ place.index + 1 = omega (arith, length-spans_of_pairs pairs) in
-    sym (end-after t place.index spans place.span is.span) ∙ ap (last_end t) (take_all (place.index + 1) spans all)
+    last-at t place.index (spans_of_pairs pairs) place.span is.span (omega (arith, length-spans_of_pairs pairs))
 
-pub last-works : (pairs : List (Spot × Span)) (place : SpanPlace) → IsPlace pairs place → place.index + 1 ≡ length pairs → place.due + place.span.work ≡ works (spans_of_pairs pairs)
+last-works : (pairs : List (Spot × Span)) (place : SpanPlace) → IsPlace pairs place → place.index + 1 ≡ length pairs → place.due + place.span.work ≡ works (spans_of_pairs pairs)
 last-works pairs place is last =
     let spans = spans_of_pairs pairs in
     let all : length spans ≤ place.index + 1 = omega (arith, length-spans_of_pairs pairs) in
     let whole : works (take (place.index + 1) spans) ≡ works spans = ap works (take_all (place.index + 1) spans all) in
-    omega (arith, is.due, works-more place.index spans place.span is.span)
+    omega (arith, is.due, works-next place.index spans place.span is.span)
+
+-- the search looks at the times of the span at a place
+pub Looks-place : {t limit : ℕ} {pairs : List (Spot × Span)} {place : SpanPlace} (slots now first : ℕ) → IsTable t pairs limit → IsPlace pairs place → now ≡ t → place.span.start ≤ first → Looks (spans_of_pairs pairs) t slots now (slots + place.due) first place.span.end
+Looks-place {t = t} {pairs = pairs} {place = place} slots now first table is time low =
+    Looks-inside (spans_of_pairs pairs) t slots now (slots + place.due) first place.index place.span table.consecutive is.span time (omega (arith, is.due)) low
+
+-- and at the last end, where the place is the last
+pub Looks-over : {t limit : ℕ} {pairs : List (Spot × Span)} {place : SpanPlace} (slots now first until : ℕ) → IsTable t pairs limit → IsPlace pairs place → place.index + 1 ≡ length pairs → now ≡ t → last_end t (spans_of_pairs pairs) ≤ first → until ≡ last_end t (spans_of_pairs pairs) + 1 → Looks (spans_of_pairs pairs) t slots now (slots + (place.due + place.span.work)) first until
+Looks-over {t = t} {pairs = pairs} {place = place} slots now first until table is last time low all =
+    Looks-end (spans_of_pairs pairs) t slots now (slots + (place.due + place.span.work)) first until table.consecutive time (omega (arith, last-works pairs place is last)) low all
 
 -- a place of a later index starts no earlier than this one ends
 pub later-after : (t : ℕ) (pairs : List (Spot × Span)) (place later : SpanPlace) → FollowOn t (spans_of_pairs pairs) → IsPlace pairs place → IsPlace pairs later → place.index < later.index → place.span.end ≤ later.span.start
 later-after t pairs place later follow is there more =
-    end-before t place.index later.index (spans_of_pairs pairs) place.span later.span follow more is.span there.span
+    order-at t place.index later.index (spans_of_pairs pairs) place.span later.span follow is.span there.span more
 
 -- no more spans than end before a time up to the last end are not all, and the next starts before it
 pub near-within : (t x count : ℕ) (pairs : List (Spot × Span)) → FollowOn t (spans_of_pairs pairs) → t < x → x ≤ last_end t (spans_of_pairs pairs) → count ≤ ends_before x (spans_of_pairs pairs) → count < length pairs

@@ -17,7 +17,7 @@ mod search;
 mod walk;
 
 use interval_row::SpareTable;
-use search::first_short;
+use search::short_or_left;
 use slot_core::{Evidence, Steps};
 use sporadic_reserve::Reserve;
 use std::sync::ledger::Ledger;
@@ -75,7 +75,7 @@ pub fn test<T: SpareTable, L: Ledger>(
         ≤ dl }
     ensures reads_once { steps.new ≤ steps.old + length (T.pairs table.now) }
 {
-    match first_short(table, reserve, table.time(), c, dl, 0, steps) {
+    match short_or_left(table, reserve, table.time(), c, dl, 0, steps) {
         Ok(_left) => Answer::Accept,
         Err(evidence) => Answer::Refuse(evidence),
     }
@@ -145,7 +145,7 @@ pub fn soft_room<T: SpareTable, L: Ledger>(
     ensures reads_once { steps.new ≤ steps.old + length (T.pairs table.now) }
 {
     let next = table.time() + 1;
-    match first_short(table, reserve, next, 1, next, u64::MAX, steps) {
+    match short_or_left(table, reserve, next, 1, next, u64::MAX, steps) {
         Ok(left) => SoftRoom::Free(left + 1),
         Err(evidence) => {
             let demand = reserve.demand(next, evidence.until);

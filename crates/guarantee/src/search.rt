@@ -53,7 +53,7 @@ struct Tried {
 /// at each time from `from` on by which something is needed; but no greater one than `told`, nor
 /// than the slots up to the last end without `slots`.
 #[inline(always)]
-pub(crate) fn first_short<T: SpareTable, L: Ledger>(
+pub(crate) fn short_or_left<T: SpareTable, L: Ledger>(
     table: &T,
     reserve: &Reserve,
     arrivals: u64,
@@ -95,7 +95,7 @@ pub(crate) fn first_short<T: SpareTable, L: Ledger>(
         slots: u64::from(slots),
     };
     let place = place_of(table, from, steps);
-    first_short_on(table, reserve, ask, from, told, place, steps)
+    short_or_left_on(table, reserve, ask, from, told, place, steps)
 }
 
 /// The same, from the place of the first span that ends at `from` or later.
@@ -106,7 +106,7 @@ pub(crate) fn first_short<T: SpareTable, L: Ledger>(
 /// the least that is left so far: no later time leaves less.
 /// Without sporadic tasks a span that does not cover what is due tells that a later time is short.
 #[inline(always)]
-fn first_short_on<T: SpareTable, L: Ledger>(
+fn short_or_left_on<T: SpareTable, L: Ledger>(
     table: &T,
     reserve: &Reserve,
     ask: Ask,

@@ -11,14 +11,12 @@ first_short-short-requires-clause-front g c =
 
 pub overflow_add-ask : goal.overflow_add-ask
 overflow_add-ask g c =
-    let a = c.args in
-    let (after, within) = place-end (g.T.SpareTable.time a.table.now) (g.T.SpareTable.limit a.table.now) (g.T.SpareTable.pairs a.table.now) a.place c.requires.table c.requires.place in
+    let (after, within) = place-end c.requires.table c.requires.place in
     omega (arith, after, within, c.requires.now, c.requires.near, c.requires.few)
 
 pub first_short-short-requires-clause-few : goal.first_short-short-requires-clause-few
 first_short-short-requires-clause-few g c =
-    let a = c.args in
-    let (after, within) = place-end (g.T.SpareTable.time a.table.now) (g.T.SpareTable.limit a.table.now) (g.T.SpareTable.pairs a.table.now) a.place c.requires.table c.requires.place in
+    let (after, within) = place-end c.requires.table c.requires.place in
     omega (arith, after, within, c.requires.now, c.requires.near, c.requires.few)
 
 pub overflow_add-result : goal.overflow_add-result
@@ -30,8 +28,7 @@ overflow_add-result g c =
 
 pub overflow_sub-result : goal.overflow_sub-result
 overflow_sub-result g c =
-    let a = c.args in
-    let (after, within) = place-end (g.T.SpareTable.time a.table.now) (g.T.SpareTable.limit a.table.now) (g.T.SpareTable.pairs a.table.now) a.place c.requires.table c.requires.place in
+    let (after, within) = place-end c.requires.table c.requires.place in
     omega (arith, after, c.first_short-short.ensures.from, c.requires.now)
 
 pub returns-clause-first : goal.returns-clause-first
@@ -41,7 +38,7 @@ returns-clause-first g c reserve quiet =
     let pairs = g.T.SpareTable.pairs a.table.now in
     let spans = spans_of_pairs pairs in
     let table = c.requires.table in
-    let seen = IsSeen-place t (g.T.SpareTable.limit a.table.now) pairs a.place table c.requires.place in
+    let seen = IsSeen-place table c.requires.place in
     let needed = a.ask.slots + a.place.due in
     let due : needed ≡ a.ask.slots + works (take a.place.index spans) = omega (arith, seen.due) in
     let short = c.first_short-short.result in

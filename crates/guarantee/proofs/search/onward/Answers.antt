@@ -29,6 +29,5 @@ returns-clause-left g c =
 
 pub has_long_spans-requires : goal.has_long_spans-requires
 has_long_spans-requires g c =
-    let a = c.args in
-    let (after, within) = place-end (g.T.SpareTable.time a.table.now) (g.T.SpareTable.limit a.table.now) (g.T.SpareTable.pairs a.table.now) a.place c.requires.table c.requires.place in
+    let (after, within) = place-end c.requires.table c.requires.place in
     omega (arith, after, within, c.requires.now)

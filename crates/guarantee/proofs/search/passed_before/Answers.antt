@@ -14,24 +14,20 @@ returns-clause-left g c later at =
 
 pub overflow_add-ask : goal.overflow_add-ask
 overflow_add-ask g c =
-    let a = c.args in
-    let (after, within) = place-end (g.T.SpareTable.time a.table.now) (g.T.SpareTable.limit a.table.now) (g.T.SpareTable.pairs a.table.now) a.place c.requires.table c.requires.place in
+    let (after, within) = place-end c.requires.table c.requires.place in
     omega (arith, after, within, c.requires.now, c.requires.near, c.requires.few, c.requires.small, c.demand-most.ensures.small)
 
 pub overflow_add-ask-2 : goal.overflow_add-ask-2
 overflow_add-ask-2 g c =
-    let a = c.args in
-    let (after, within) = place-end (g.T.SpareTable.time a.table.now) (g.T.SpareTable.limit a.table.now) (g.T.SpareTable.pairs a.table.now) a.place c.requires.table c.requires.place in
+    let (after, within) = place-end c.requires.table c.requires.place in
     omega (arith, after, within, c.requires.now, c.requires.near, c.requires.few, c.requires.small, c.demand-most.ensures.small)
 
 pub overflow_add-ask-3 : goal.overflow_add-ask-3
 overflow_add-ask-3 g c =
-    let a = c.args in
-    let (after, within) = place-end (g.T.SpareTable.time a.table.now) (g.T.SpareTable.limit a.table.now) (g.T.SpareTable.pairs a.table.now) a.place c.requires.table c.requires.place in
+    let (after, within) = place-end c.requires.table c.requires.place in
     omega (arith, after, within, c.requires.now, c.requires.near, c.requires.few, c.requires.small, c.demand-most.ensures.small)
 
 pub passed-requires-clause-few : goal.passed-requires-clause-few
 passed-requires-clause-few g c =
-    let a = c.args in
-    let (after, within) = place-end (g.T.SpareTable.time a.table.now) (g.T.SpareTable.limit a.table.now) (g.T.SpareTable.pairs a.table.now) a.place c.requires.table c.requires.place in
+    let (after, within) = place-end c.requires.table c.requires.place in
     omega (arith, after, within, c.requires.now, c.requires.near, c.requires.few, c.requires.small, c.demand-most.ensures.small)

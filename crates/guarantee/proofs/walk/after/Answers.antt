@@ -4,9 +4,7 @@ use Rattle.guarantee.proofs.walk.after.Goals as goal
 
 pub overflow_add-result-2 : goal.overflow_add-result-2
 overflow_add-result-2 g c =
-    let t = g.T.SpareTable.time c.args.table.now in
-    let pairs = g.T.SpareTable.pairs c.args.table.now in
-    let seen = IsSeen-place t (g.T.SpareTable.limit c.args.table.now) pairs c.args.place c.count-count.ensures.table c.requires.place in
+    let seen = IsSeen-place c.count-count.ensures.table c.requires.place in
     omega (arith, seen.small, seen.stands.work)
 
 pub returns-clause-place : goal.returns-clause-place

@@ -4,7 +4,7 @@ use Rattle.interval_row.specs.Tables.{spans_of_pairs}
 use Rattle.guarantee.specs.Offers.{first_short, need_until}
 use Rattle.guarantee.specs.Places.{IsPlace}
 use Rattle.guarantee.specs.Stretches.{IsLevelFrom, Leaves, MostFrom}
-use Rattle.guarantee.proofs.search.first_short_on.Given as goal
+use Rattle.guarantee.proofs.search.short_or_left_on.Given as goal
 
 -- from the span on the search gives the same, and the level holds there; before it so much is left,
 -- and no greater number is up to the last end; without sporadic tasks a search that is to tell none

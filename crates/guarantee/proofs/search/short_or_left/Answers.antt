@@ -1,16 +1,17 @@
 use Rattle.std.proofs.Common.{arith}
 use Rattle.interval_row.specs.Tables.{spans_of_pairs}
 use Rattle.guarantee.proofs.Decisions.{OnOk-map}
-use Rattle.guarantee.proofs.Places.{ends_before-at, ends_before-few}
-use Rattle.guarantee.proofs.search.first_short.Goals as goal
+use Rattle.interval_row.proofs.CutTimes.{ends_before-inside}
+use Rattle.guarantee.proofs.Places.{ends_before-few}
+use Rattle.guarantee.proofs.search.short_or_left.Goals as goal
 
 pub returns-clause-none_soon : goal.returns-clause-none_soon
 returns-clause-none_soon g c told none =
     let t = g.T.SpareTable.time c.args.table.now in
     let place = c.place_of-place.result in
     let is = c.place_of-place.ensures in
-    let count = ends_before-at t place.index c.args.from (spans_of_pairs (g.T.SpareTable.pairs c.args.table.now)) place.span is.table.consecutive is.place.span is.early is.reached in
-    OnOk-map c.first_short_on.result _ _ (c.first_short_on.ensures.none_soon told none) (λ same. omega (arith, is.few_steps, same))
+    let count = ends_before-inside t c.args.from place.index (spans_of_pairs (g.T.SpareTable.pairs c.args.table.now)) place.span is.table.consecutive is.place.span is.early is.reached in
+    OnOk-map c.short_or_left_on.result _ _ (c.short_or_left_on.ensures.none_soon told none) (λ same. omega (arith, is.few_steps, same))
 
 pub returns-clause-places : goal.returns-clause-places
 returns-clause-places g c =
