@@ -3,9 +3,9 @@ use Rattle.std.specs.Prelude.{◌≡◌, ℕ, suc, ◌-◌, ◌^◌, ℤ, pos, n
 use Rattle.std.specs.Int.{int_wrap}
 use Rattle.slot_core.specs.declared.jobs.Span.{Span}
 use Rattle.node_chain.specs.declared.chain.NodeId.{NodeId}
-use Rattle.node_chain.specs.declared.marks.Due.{Due}
 use Rattle.node_chain.specs.declared.marks.Lift.{Lift}
 use Rattle.node_chain.specs.declared.marks.Mark.{Mark}
+use Rattle.node_chain.specs.declared.marks.Rest.{Rest}
 use Rattle.node_chain.specs.declared.raises.Raise.{Raise}
 use Rattle.node_chain.specs.Laps.{blank_lift, lift_over, made_mark, paired}
 use Rattle.node_chain.specs.Passes.{lifts_passed, spans_ending}
@@ -21,7 +21,7 @@ abbrev mark : ℕ → ℕ → ℕ → Mark
 mark count works low = record { count = count; works = works; low = low }
 
 -- what a mark tells beside its count
-abbrev beside : ℕ → ℕ → Due
+abbrev beside : ℕ → ℕ → Rest
 beside works low = record { works = works; low = low }
 
 -- a lift
