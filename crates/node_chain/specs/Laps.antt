@@ -1,9 +1,9 @@
 -- What contracts see of the numbers beside spans.
 use Rattle.std.specs.Prelude.{ℕ, ◌^◌, ℤ, ◌+ℤ◌, neg_ℤ, pos, List, [], ◌∷◌, replicate}
 use Rattle.std.specs.Int.{w64, int_wrap}
-use Rattle.node_chain.specs.declared.marks.Due.{Due}
 use Rattle.node_chain.specs.declared.marks.Lift.{Lift}
 use Rattle.node_chain.specs.declared.marks.Mark.{Mark}
+use Rattle.node_chain.specs.declared.marks.Rest.{Rest}
 use Rattle.node_chain.specs.declared.marks.TheConstants.{LAP}
 
 -- the marks and the lifts of a lap
@@ -30,8 +30,8 @@ paired f (x ∷ xs) [] = []
 paired f (x ∷ xs) (y ∷ ys) = f x y ∷ paired f xs ys
 
 -- the mark with a count, and with what it tells beside
-abbrev pub made_mark : ℕ → Due → Mark
-made_mark count due = record { count = count; works = due.works; low = due.low }
+abbrev pub made_mark : ℕ → Rest → Mark
+made_mark count rest = record { count = count; works = rest.works; low = rest.low }
 
 -- the lift of a bound without the sum, and of the sum: together they wrap round
 abbrev pub lift_over : ℤ → ℤ → Lift

@@ -1,4 +1,5 @@
 pub mod Chains
+pub mod Examples
 pub mod Laps
 pub mod Links
 pub mod Nodes

@@ -57,7 +57,7 @@ pub struct Passed {
 
 /// What a mark tells beside its count.
 #[derive(Clone, Copy)]
-struct Due {
+struct Rest {
     /// How many slots are due, as in the mark.
     works: u64,
     /// The bound of the mark.
@@ -69,7 +69,7 @@ struct Due {
 #[derive(Drop)]
 pub struct Marks {
     counts: Vec<u32>,
-    dues: Vec<Due>,
+    rests: Vec<Rest>,
     /// The `high` of each lift without its `add`, a difference that wraps: so a lift that is passed
     /// gets both by one write.
     tops: Vec<i64>,
@@ -84,11 +84,11 @@ impl Model for Marks {
     ghost Value = { Laps };
 
     ghost view = { λ m. record {
-      marks = paired made_mark m.counts.items m.dues.items;
+      marks = paired made_mark m.counts.items m.rests.items;
       lifts = paired lift_over m.tops.items m.adds.items;
     } };
 
-    ghost invariant = { λ m. (length m.counts.items ≡ LAP) × (length m.dues.items ≡ LAP)
+    ghost invariant = { λ m. (length m.counts.items ≡ LAP) × (length m.rests.items ≡ LAP)
         × (length m.tops.items ≡ LAP) × (length m.adds.items ≡ LAP) };
 }
 
@@ -97,10 +97,10 @@ impl Marks {
     pub fn new(alloc: Global) -> Result<Marks, Memory>
         ensures { IfOk result (λ made. made ≡ blank_laps) }
     {
-        let due = Due { works: 0, low: 0 };
+        let rest = Rest { works: 0, low: 0 };
         Ok(Marks {
             counts: vec![in alloc; 0; LAP as usize]?,
-            dues: vec![in alloc; due; LAP as usize]?,
+            rests: vec![in alloc; rest; LAP as usize]?,
             tops: vec![in alloc; i64::MIN; LAP as usize]?,
             adds: vec![in alloc; 0; LAP as usize]?,
         })
@@ -111,11 +111,11 @@ impl Marks {
         requires { index < LAP }
         ensures { slice_get self.now.marks index ≡ Some result }
     {
-        let due = self.dues[index as usize];
+        let rest = self.rests[index as usize];
         Mark {
             count: self.counts[index as usize],
-            works: due.works,
-            low: due.low,
+            works: rest.works,
+            low: rest.low,
         }
     }
 
@@ -125,7 +125,7 @@ impl Marks {
         ensures { self.new ≡ record self.old { marks = slice_set self.old.marks index mark } }
     {
         self.counts[index as usize] = mark.count;
-        self.dues[index as usize] = Due {
+        self.rests[index as usize] = Rest {
             works: mark.works,
             low: mark.low,
         };

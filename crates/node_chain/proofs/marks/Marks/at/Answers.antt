@@ -8,8 +8,8 @@ use Rattle.node_chain.proofs.marks.Marks.at.Goals as goal
 pub returns : goal.returns
 returns c =
     let count = slice_get_read c.self.inside.counts.items LAP c.args.index c.index.result.now (sym c.self.invariant.0) c.requires c.index.ensures in
-    let due = slice_get_read c.self.inside.dues.items LAP c.args.index c.index-due.result.now (sym c.self.invariant.1) c.requires c.index-due.ensures in
+    let rest = slice_get_read c.self.inside.rests.items LAP c.args.index c.index-rest.result.now (sym c.self.invariant.1) c.requires c.index-rest.ensures in
     subst
-    (λ (v : Laps). slice_get v.marks c.args.index ≡ Some (made_mark c.index.result.now c.index-due.result.now))
+    (λ (v : Laps). slice_get v.marks c.args.index ≡ Some (made_mark c.index.result.now c.index-rest.result.now))
     c.self.view_is
-    (slice_get-paired made_mark c.self.inside.counts.items c.self.inside.dues.items c.args.index c.index.result.now c.index-due.result.now count due)
+    (slice_get-paired made_mark c.self.inside.counts.items c.self.inside.rests.items c.args.index c.index.result.now c.index-rest.result.now count rest)

@@ -34,7 +34,7 @@ module _ (c : After-as_mut_slice) where
         arith,
         c.requires.within,
         c.self.invariant.0,
-        length-paired made_mark c.self.inside.counts.items c.self.inside.dues.items (c.self.invariant.0 ∙ sym c.self.invariant.1),
+        length-paired made_mark c.self.inside.counts.items c.self.inside.rests.items (c.self.invariant.0 ∙ sym c.self.invariant.1),
         ap (λ (v : Laps). length v.marks) c.self.view_is,
       )
 
@@ -69,7 +69,7 @@ module _ (c : After-as_mut_slice) where
   count-is : (k : ℕ) → c.args.first + k < c.args.end → get_or (mid_of c.args.first n c.as_slice.result.now) k 0 ≡ (get_or c.args.self.now.marks (c.args.first + k) blank_mark).count
   count-is k within =
       part-at c.args.first c.args.end k c.as_slice.result.now c.self.inside.counts.items 0 c.as_slice.ensures.value within
-      ∙ sym (ap (λ (m : Mark). m.count) (get_or-paired made_mark c.self.inside.counts.items c.self.inside.dues.items (c.args.first + k) 0 (record { works = 0; low = 0 }) blank_mark
+      ∙ sym (ap (λ (m : Mark). m.count) (get_or-paired made_mark c.self.inside.counts.items c.self.inside.rests.items (c.args.first + k) 0 (record { works = 0; low = 0 }) blank_mark
       (omega (arith, within, c.requires.within, c.self.invariant.0)) (omega (arith, within, c.requires.within, c.self.invariant.1))))
       ∙ ap (λ (v : Laps). (get_or v.marks (c.args.first + k) blank_mark).count) c.self.view_is
 
