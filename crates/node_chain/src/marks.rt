@@ -64,8 +64,8 @@ struct Rest {
     low: u64,
 }
 
-/// A lap of marks and a lap of lifts, each found by its index. Each kind of number lies in a list of
-/// its own, so that a walk over many pages takes one index for all.
+/// A lap of marks and a lap of lifts, each found by its index. Each kind of number lies in a list
+/// of its own, so that a walk over many pages takes one index for all.
 #[derive(Drop)]
 pub struct Marks {
     counts: Vec<u32>,
