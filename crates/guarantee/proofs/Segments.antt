@@ -156,7 +156,7 @@ Looks-later spans reserve t r slots now needed first until later looks is told =
     let fails = fails-from_none q first (until - first) (option_map-None (evidence_of reserve t r needed) (find q (range_with_len first (until - first))) (sym none)) in
     find-skip (is_short spans reserve t r slots) first later (last_end t spans + 1) (omega arith) (λ x low high. short-exceeds spans reserve t r slots needed x (looks.due x low (omega arith)) ∙ fails x low (omega arith))
 
--- and gives the same there as from a time that gives the same here
+-- and a search that gave the same from here gives the same from there
 pub Looks-later-on : (spans : List Span) (reserve : Reserved) (t r slots now needed from start first until later : ℕ) → Looks spans t slots now needed first until → first_short spans reserve t r slots from ≡ first_short spans reserve t r slots (max from start) → first ≡ max from start → later ≡ max first until → None ≡ option_map (evidence_of reserve now r needed) (found_from reserve now r needed first until) → first_short spans reserve t r slots from ≡ first_short spans reserve t r slots later
 Looks-later-on spans reserve t r slots now needed from start first until later looks same here is told =
     same

@@ -45,9 +45,9 @@ struct Tried {
     left: u64,
 }
 
-/// The first time from `from` to the last end by which more is needed than there are slots, where
-/// `slots` slots more are due and sporadic tasks arrive from `arrivals` on. Each span is read once
-/// at most.
+/// Err tells the first time from `from` to the last end by which more is needed than there are
+/// slots, where `slots` slots more are due and sporadic tasks arrive from `arrivals` on. Each span
+/// is read once at most.
 ///
 /// Where there is no such time, Ok tells the greatest number of slots that are left beside all that
 /// at each time from `from` on by which something is needed; but no greater one than `told`, nor

@@ -29,7 +29,7 @@ borrowing =
 pub works_of_three : works (take 3 borrowing) ≡ 10
 works_of_three = refl
 
--- two end before 14, where the third does
+-- two end before 14, at which the third ends
 pub ends_before_14 : ends_before 14 borrowing ≡ 2
 ends_before_14 = refl
 
@@ -37,7 +37,7 @@ ends_before_14 = refl
 pub place_of_14 : place_of 14 borrowing ≡ 2
 place_of_14 = refl
 
--- none ends before 4, where the first does
+-- none ends before 4, at which the first ends
 pub ends_before_4 : ends_before 4 borrowing ≡ 0
 ends_before_4 = refl
 

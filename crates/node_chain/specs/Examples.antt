@@ -1,4 +1,4 @@
--- Worked cases of marks, passes, raises and works: each holds by computing the definitions.
+-- Worked cases of marks, lifts, raises and chains: each holds by computing the definitions.
 use Rattle.std.specs.Prelude.{◌≡◌, ℕ, suc, ◌-◌, ◌^◌, ℤ, pos, negsuc, neg_ℤ, List, [], ◌∷◌, true, false, refl}
 use Rattle.std.specs.Int.{int_wrap}
 use Rattle.slot_core.specs.declared.jobs.Span.{Span}
@@ -45,12 +45,12 @@ pub marks_made :
     paired made_mark (2 ∷ 0 ∷ 1 ∷ []) (beside 7 3 ∷ beside 0 4 ∷ beside 5 0 ∷ []) ≡ marks
 marks_made = refl
 
--- where one list is shorter, the other items are left out
+-- where one list is shorter, what the other has beyond its end is left out
 pub two_made : paired made_mark (2 ∷ 0 ∷ 1 ∷ []) (beside 7 3 ∷ beside 5 4 ∷ [])
     ≡ mark 2 7 3 ∷ mark 0 5 4 ∷ []
 two_made = refl
 
--- a bound of five without the sum, and a sum of two less: the bound of the lift is three
+-- a bound that is kept as five, and a sum of two below 0: the bound of the lift is three
 pub lift_of_both : lift_over (pos 5) (negsuc 1) ≡ lift (pos 3) (negsuc 1)
 unfolding int_wrap
 lift_of_both = refl
@@ -70,13 +70,13 @@ pub all_passed : lifts_passed (negsuc 1) marks 0 3 lifts
 unfolding int_wrap
 all_passed = refl
 
--- where two are passed from the second on, the first stays too
+-- where two are passed from the second on, with two more, the first stays too
 pub last_passed : lifts_passed (pos 2) marks 1 2 lifts
     ≡ lift (pos 3) (pos 0) ∷ lift (pos 9) (pos 1) ∷ lift (pos 6) (pos 0) ∷ []
 unfolding int_wrap
 last_passed = refl
 
--- a bound below the least number wraps round to a great one
+-- a bound that is passed below the least number wraps round to the greatest too
 pub passed_wrapped :
     lifts_passed (negsuc 0) (mark 1 0 0 ∷ []) 0 1 (blank_lift ∷ []) ≡ lift greatest (negsuc 0) ∷ []
 unfolding int_wrap
@@ -94,24 +94,25 @@ ending_in_last_two = refl
 pub second_and_third : map_between suc 1 3 (4 ∷ 5 ∷ 6 ∷ 7 ∷ []) ≡ 4 ∷ 6 ∷ 7 ∷ 7 ∷ []
 second_and_third = refl
 
--- three more, passed on by spans that start at 10 or later and had at most 5: two and what is kept
+-- three more, passed on by spans that start at 10 or later and had at most 5; what a span had is
+-- what is kept of it and two
 abbrev raise : Raise
 raise = record { more = pos 3; border = 10; limit = pos 5; add = pos 2 }
 
--- a span with as much as the limit that starts at the border passes it on
+-- a span that starts at the border, with as much as the limit, passes it on
 pub passed_at_limit : passes_on raise (span 10 14 1 (pos 3)) ≡ true
 unfolding int_wrap
 passed_at_limit = refl
 
 -- one that starts before the border does not
-pub kept_before_border : passes_on raise (span 9 14 1 (pos 3)) ≡ false
+pub ended_before_border : passes_on raise (span 9 14 1 (pos 3)) ≡ false
 unfolding int_wrap
-kept_before_border = refl
+ended_before_border = refl
 
 -- nor one with more than the limit
-pub kept_above_limit : passes_on raise (span 10 14 1 (pos 4)) ≡ false
+pub ended_above_limit : passes_on raise (span 10 14 1 (pos 4)) ≡ false
 unfolding int_wrap
-kept_above_limit = refl
+ended_above_limit = refl
 
 -- afterwards a span has what is kept, the two, and the three more
 pub raised_spare : spare_after raise (span 10 14 1 (negsuc 3)) ≡ pos 1
@@ -123,7 +124,7 @@ pub raised_span : lifted_by (pos 3) (span 10 14 1 (negsuc 3)) ≡ span 10 14 1 (
 unfolding int_wrap
 raised_span = refl
 
--- above the greatest number it wraps round to the least
+-- a capacity above the greatest number wraps round to the least
 pub wrapped_spare : spare_under (pos 1) (span 10 14 1 greatest) ≡ least
 unfolding int_wrap
 wrapped_spare = refl

@@ -33,6 +33,7 @@ paired f (x ∷ xs) (y ∷ ys) = f x y ∷ paired f xs ys
 abbrev pub made_mark : ℕ → Rest → Mark
 made_mark count rest = record { count = count; works = rest.works; low = rest.low }
 
--- the lift of a sum, and of a bound that is kept without it: its bound is both, which wraps round
+-- the lift of a bound that is kept without the sum, and of the sum: its own bound is the two
+-- added, which wraps round
 abbrev pub lift_over : ℤ → ℤ → Lift
 lift_over top add = record { high = int_wrap w64 (top +ℤ add); add = add }

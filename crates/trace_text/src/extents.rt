@@ -39,7 +39,7 @@ pub(crate) trait SpanWriter {
             ++ signed_decimal span.now.spare }
         ensures short { length line.new ≤ length line.old + SPAN_LIMIT };
 
-    /// The same for the first span of a line, which mostly starts where it did in no line before.
+    /// The same for the first span of a line, which mostly was shown with no such start before.
     fn push_first(&mut self, line: &mut Line, span: &Span)
         requires { length line.old + SPAN_LIMIT ≤ LINE_LIMIT }
         ensures text { line.new ≡ line.old ++ extent_text span.now.start span.now.end
@@ -350,7 +350,8 @@ impl SpanWriter for Cells {
         }
     }
 
-    /// The text of its extent is not kept: the next line shows it with another start or not at all.
+    /// The text of its extent is not kept: mostly the next line shows it with another start or not
+    /// at all.
     #[inline(always)]
     fn push_first(&mut self, line: &mut Line, span: &Span) {
         push_number(line, span.start);
