@@ -18,7 +18,7 @@ use Rattle.interval_row.specs.Tables.{works}
 use Rattle.interval_row.proofs.CutTimes.{ends_before-ended, ends_before-later, ends_before-start, rises-at, start-at, work_until-last, ComesNext-at}
 use Rattle.interval_row.proofs.Laps.{works_before-small}
 use Rattle.interval_row.proofs.Places.{work-le}
-use Rattle.interval_row.proofs.RunWalks.{ends-early}
+use Rattle.interval_row.proofs.WalkPages.{ends_before-short}
 use Rattle.interval_row.proofs.ShortTimes.{end-at}
 
 -- a span is rising, with a work of at most 2 ^ 40, after the time and by the last end
@@ -77,7 +77,10 @@ least-at t (suc i) (r ∷ spans) s follow full at =
 pub start-before : (t i x : ℕ) (spans : List Span) (s : Span) → FollowOn t spans → slice_get spans i ≡ Some s → t < x → i ≤ ends_before x spans → s.start < x
 start-before t i x spans s follow at later few =
     elim (cases_lt i (ends_before x spans)) [
-      | inl more ↦ omega (arith, ends-early t x i spans s follow at more, rises-at t i spans s follow at)
+      | inl more ↦ elim (cases_lt s.end x) [
+        | inl early ↦ omega (arith, early, rises-at t i spans s follow at)
+        | inr late ↦ absurd (omega (arith, more, ends_before-short t x i spans s follow at late))
+      ]
       | inr last ↦
           let here : i ≡ ends_before x spans = omega arith in
           (ComesNext-at t x spans s follow (sym (ap (slice_get spans) here) ∙ at)).starts later
