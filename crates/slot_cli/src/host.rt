@@ -10,9 +10,13 @@ use crate::run;
 use run_outcome::Status;
 use slot_core::{Memory, Words};
 use slot_io::{HostFiles, HostSink, words_of};
+use std::alloc::Global;
 use std::io::Write;
 use std::process::ExitCode;
 use std::rt::{Env, Files};
+
+/// More bytes than any one table of a run takes.
+const HEAP_SIZE: usize = 16 << 20;
 
 /// Runs over these streams and the arguments and files of the host, and gives the number of the
 /// status. Where memory ran out before `run`, that number alone tells it, and nothing is printed.
@@ -59,8 +63,18 @@ where
     ensures { (result ≡ Status.Usage) ↔ (command_of words.now ≡ None) }
 {
     let alloc = rt.alloc();
+    keep_given_back(alloc);
     let mut out = HostSink::new(out);
     let mut err = HostSink::new(err);
     let mut files = HostFiles::new(rt);
     run(alloc, words, &mut files, &mut out, &mut err)
+}
+
+/// Takes a block that nothing is written to, and gives it back. The C library's allocator then
+/// takes all smaller blocks from one heap, and keeps what they give back: so the tables of a run
+/// lie where its files were read, in memory that the system has handed over already. Where there is
+/// no such block, nothing is lost.
+fn keep_given_back(alloc: Global) {
+    let block = Vec::<u8>::with_capacity(alloc, HEAP_SIZE);
+    drop(block);
 }
