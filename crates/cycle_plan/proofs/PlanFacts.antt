@@ -1,6 +1,7 @@
 -- What the parts of a plan keep, and what shows that they make one.
 use Rattle.std.proofs.Common.{◌≡◌, ℕ, true, List, Option, Some, None, subst, refl, sym, ◌∙◌}
 use Rattle.std.specs.List.Sorted.{IsPermutation}
+use Rattle.std.proofs.lemmas.List.Sorted.{IsPermutation-trans}
 use Rattle.slot_core.specs.declared.jobs.Job.{Job}
 use Rattle.slot_core.specs.declared.jobs.Window.{Window}
 use Rattle.slot_core.specs.declared.tasks.TaskSet.{TaskSet}
@@ -29,6 +30,13 @@ AreFirstJobs-from_fits set jobs cycle verdict sound whole tested fits listed ord
       listed = listed;
       ordered = ordered;
     }
+
+-- the jobs in another order are those of the first cycle too
+pub listed-in_order : (set : TaskSet) (cycle : ℕ) (jobs slice sorted given : List Job) → cycle ≡ cycle_of set → IsPermutation (cycle_jobs set (cycle_of set) 0) jobs → slice ≡ jobs → IsPermutation slice sorted → given ≡ sorted → IsPermutation (cycle_jobs set cycle 0) given
+listed-in_order set cycle jobs slice sorted given whole listed read order same =
+    let first = cycle_jobs set (cycle_of set) 0 in
+    let both = IsPermutation-trans first jobs sorted listed (subst (λ xs. IsPermutation xs sorted) read order) in
+    subst (λ n. IsPermutation (cycle_jobs set n 0) given) (sym whole) (subst (IsPermutation first) (sym same) both)
 
 -- the parts make a plan
 pub IsPlan-from_parts : (plan : PlanParts) → AreFirstJobs plan.tasks plan.jobs → plan.cycle ≡ cycle_of plan.tasks → plan.spans ≡ plan_spans plan.tasks plan.cycle → IsPlan plan

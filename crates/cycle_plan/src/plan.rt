@@ -114,8 +114,7 @@ pub fn make_plan(alloc: Global, tasks: TaskSet) -> Result<Plan, PlanFault>
         → ¬ (CyclesCanBeServed tasks 3) × DensestLeavesNone tasks w.from }
 {
     let cycle = cycle_of(&tasks).unwrap();
-    let jobs = feasible_jobs(alloc, &tasks, cycle)?;
-    let by_start = sorted_by_start(alloc, &jobs)?;
+    let (jobs, by_start) = feasible_jobs(alloc, &tasks, cycle)?;
     let spans = build(alloc, &jobs, cycle)?;
     Ok(Plan {
         tasks,
@@ -139,12 +138,18 @@ pub fn counterexample(alloc: Global, tasks: &TaskSet) -> Result<Option<Window>, 
     }
 }
 
-/// The offline jobs of the first cycle of a sound and feasible set, by deadline and then by key, or
-/// the counterexample to its feasibility.
-fn feasible_jobs(alloc: Global, tasks: &TaskSet, cycle: u32) -> Result<Vec<Job>, PlanFault>
+/// The offline jobs of the first cycle of a sound and feasible set, by deadline and then by key, and
+/// the same jobs by start, or the counterexample to its feasibility.
+fn feasible_jobs(
+    alloc: Global,
+    tasks: &TaskSet,
+    cycle: u32,
+) -> Result<(Vec<Job>, Vec<Job>), PlanFault>
     requires sound { is_sound tasks.now ≡ true }
     requires cycle { cycle ≡ cycle_of tasks.now }
-    ensures listed { IfOk result (λ jobs. AreFirstJobs tasks.now jobs.items) }
+    ensures listed { IfOk result (λ jobs. AreFirstJobs tasks.now jobs.0.items) }
+    ensures by_start { IfOk result (λ jobs. IsPermutation jobs.0.items jobs.1.items) }
+    ensures ordered { IfOk result (λ jobs. AreInStartOrder jobs.1.items) }
     ensures none { IfOk result (λ _. counterexample tasks.now cycle ≡ None) }
     ensures infeasible { (w : Window) → result ≡ Err (PlanFault.Infeasible w)
         → counterexample tasks.now cycle ≡ Some w }
@@ -158,8 +163,10 @@ fn feasible_jobs(alloc: Global, tasks: &TaskSet, cycle: u32) -> Result<Vec<Job>,
         }));
     }
     let jobs = first_jobs(alloc, tasks)?;
-    match verdict(alloc, tasks, cycle, &jobs)? {
-        Verdict::Fits => Ok(jobs),
+    // By start, as the test wants them, so that it sorts no copy.
+    let by_start = sorted_by_start(alloc, &jobs)?;
+    match verdict(alloc, tasks, cycle, &by_start)? {
+        Verdict::Fits => Ok((jobs, by_start)),
         Verdict::Fails(window) => Err(PlanFault::Infeasible(window)),
     }
 }

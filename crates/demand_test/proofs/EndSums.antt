@@ -4,7 +4,7 @@ use Rattle.std.specs.Prelude.{All, sum_by, nat_le, ◌==◌, if◌then◌else◌
 use Rattle.std.proofs.lemmas.Bool.{le-leb}
 use Rattle.std.proofs.lemmas.Bool.Decides.{nat_tests}
 use Rattle.std.proofs.lemmas.List.{take_all, drop-drop}
-use Rattle.std.proofs.lemmas.List.Sums.{sum_by_more, sum_by-take-drop, sum_by-le-sum_by}
+use Rattle.std.proofs.lemmas.List.Sums.{sum_by_more_le, sum_by_more, sum_by-take-drop, sum_by-le-sum_by}
 use Rattle.slot_core.specs.declared.jobs.Job.{Job}
 use Rattle.demand_test.specs.EndTables.{ending_at, ending_by, first_end, next_end, IsEndTable}
 use Rattle.slot_facts.proofs.Lists.Sums.{sum_by-agree, sum_by-plus}
@@ -121,3 +121,8 @@ declared-twice jobs rest p n is =
       ap (λ xs. sum_by declared (drop n xs)) is,
       ap (sum_by declared) (drop-drop n p jobs),
     )
+
+-- one job declares no more than all
+pub declared-less : (jobs : List Job) (i : ℕ) (d : Job) (m : ℕ) → i < length jobs → sum_by (λ (j : Job). j.declared) jobs < m → (get_or jobs i d).declared < m
+declared-less jobs i d m low few =
+    omega (arith, sum_by_more_le (λ (j : Job). j.declared) jobs i d low)

@@ -1,13 +1,12 @@
 -- What the tables of ends and arrivals say of the windows from a start is their demand.
 use borrow.Author.Count.{below_more}
-use Rattle.std.proofs.Common.{◌≡◌, ℕ, zero, suc, ◌+◌, ◌-◌, ◌*◌, ◌<◌, ◌≤◌, max, false, List, [], length, map, take, drop, get_or, Some, None, refl, sym, subst, ap, ◌∙◌, inl, inr, arith}
+use Rattle.std.proofs.Common.{◌≡◌, ℕ, zero, suc, ◌+◌, ◌-◌, ◌*◌, ◌<◌, ◌≤◌, max, false, List, [], length, take, drop, get_or, Some, None, refl, sym, subst, ap, ◌∙◌, inl, inr, arith}
 use Rattle.std.specs.Prelude.{sum_by, nat_le, nat_lt, ◌&&◌, if◌then◌else◌}
 use Rattle.std.specs.List.{AllWithin, prefix_len, range_with_len}
 use Rattle.std.specs.List.Sorted.{IsNonDecreasingBy}
 use Rattle.std.proofs.lemmas.Bool.{cases_lt, le-ltb, lt-ltb, leb-true, leb-false}
 use Rattle.std.proofs.lemmas.Bool.Decides.{nat_tests}
 use Rattle.std.proofs.lemmas.List.{get_or-take, get_or-drop, length-take, length-drop, drop-drop}
-use Rattle.std.proofs.lemmas.List.FromFn.{get_or-map-range_with_len}
 use Rattle.std.proofs.lemmas.List.Sums.{sum_by-take-drop, prefix_len-le-length, prefix_len_passes, prefix_len_stops}
 use Rattle.slot_core.specs.declared.TheConstants.{SLOT_LIMIT}
 use Rattle.slot_core.specs.declared.jobs.Job.{Job}
@@ -16,7 +15,9 @@ use Rattle.slot_core.specs.declared.tasks.Sporadic.{Sporadic}
 use Rattle.slot_core.specs.Feasibility.Sporadics.{sporadic_demand}
 use Rattle.slot_core.specs.Feasibility.Feasible.{declared_within, window_demand, failing_window, first_some, first_failing_from}
 use Rattle.demand_test.specs.declared.ends.Ends.{Ends}
-use Rattle.demand_test.specs.EndTables.{first_end, next_end, ending_by, HasBlocks, ArePassed, AreEnds, AreReadable, needed_in, failing_in}
+use Rattle.demand_test.specs.declared.windows.Bounds.{Bounds}
+use Rattle.demand_test.specs.declared.windows.Known.{Known}
+use Rattle.demand_test.specs.EndTables.{first_end, next_end, ending_by, HasBlocks, ArePassed, AreEnds, AreReadable, needed_in, failing_in, IsKnown, AreKnown}
 use Rattle.slot_facts.proofs.Demand.Arrivals.{sporadic_demand-shifted_to_zero}
 use Rattle.slot_facts.proofs.Demand.Feasible.{fits-from_first_failing}
 use Rattle.slot_facts.proofs.Demand.OneSlot.{sporadic_demand-later}
@@ -165,7 +166,7 @@ pub record AreTables (jobs rest : List Job) (ss : List Sporadic) (cycle a : ℕ)
   pub started : ℕ
   pub start : IsStart jobs rest a started
   pub passed : AreEnds jobs (take started jobs) cycle ends
-  pub needs : arrivals ≡ map (λ x. sporadic_demand ss [] 0 x) (range_with_len 0 (2 * cycle + 1))
+  pub needs : (x : ℕ) → x ≤ 2 * cycle → get_or arrivals x 0 ≡ sporadic_demand ss [] 0 x
   pub none : (k : ℕ) → k < a → first_failing_from jobs ss cycle k ≡ None
 
 -- the tables at the next start, where no window from this one fails and the jobs that start at it are passed
@@ -197,7 +198,7 @@ AreTables-next jobs rest front others ss cycle a n ends later arrivals ordered h
     }
 
 -- the tables at slot 0
-pub AreTables-first : (jobs : List Job) (ss : List Sporadic) (cycle : ℕ) (ends : Ends) (arrivals : List ℕ) → AreEnds jobs [] cycle ends → arrivals ≡ map (λ x. sporadic_demand ss [] 0 x) (range_with_len 0 (2 * cycle + 1)) → AreTables jobs jobs ss cycle 0 ends arrivals
+pub AreTables-first : (jobs : List Job) (ss : List Sporadic) (cycle : ℕ) (ends : Ends) (arrivals : List ℕ) → AreEnds jobs [] cycle ends → ((x : ℕ) → x ≤ 2 * cycle → get_or arrivals x 0 ≡ sporadic_demand ss [] 0 x) → AreTables jobs jobs ss cycle 0 ends arrivals
 AreTables-first jobs ss cycle ends arrivals h needs =
     record {
       started = 0;
@@ -215,9 +216,9 @@ AreTables-first jobs ss cycle ends arrivals h needs =
 -- what the tables say that a window needs is its demand
 pub needed_in-AreTables : (jobs rest : List Job) (ss : List Sporadic) (cycle a : ℕ) (ends : Ends) (arrivals : List ℕ) → AreTables jobs rest ss cycle a ends arrivals → a < cycle → (b : ℕ) → a < b → b ≤ 2 * cycle → needed_in ends arrivals a b ≡ window_demand jobs ss cycle a b
 needed_in-AreTables jobs rest ss cycle a ends arrivals h start b low high =
-    let at : get_or arrivals (b - a) 0 ≡ sporadic_demand ss [] 0 (b - a) = ap (λ xs. get_or xs (b - a) 0) h.needs ∙ get_or-map-range_with_len (λ x. sporadic_demand ss [] 0 x) 0 (2 * cycle + 1) (b - a) (b - a) 0 (omega arith) (omega arith) in
     omega (
       arith,
+      h.needs (b - a) (omega arith),
       h.passed.sums b high,
       h.passed.passed b high,
       ending_by-parts first_end jobs h.started b,
@@ -247,6 +248,22 @@ AreReadable-from_AreTables jobs rest ss cycle a ends arrivals h small few =
             ending_by-le first_end jobs b,
             ending_by-le (next_end cycle) jobs b,
           );
+    }
+
+-- what is known of what windows need is known of the same numbers
+IsKnown-same : (need other : ℕ → ℕ) (a last : ℕ) (known : Known) → ((b : ℕ) → a < b → b ≤ last → other b ≡ need b) → IsKnown need a last known → IsKnown other a last known
+IsKnown-same need other a last known same h =
+    record {
+      after = h.after;
+      spare = λ b past low high. omega (arith, same b low high, h.spare b past low high);
+    }
+
+pub AreKnown-same : (need other : ℕ → ℕ) (a last : ℕ) (bounds : Bounds) → ((b : ℕ) → a < b → b ≤ last → other b ≡ need b) → AreKnown need a last bounds → AreKnown other a last bounds
+AreKnown-same need other a last bounds same h =
+    record {
+      far = IsKnown-same need other a last bounds.far same h.far;
+      near = IsKnown-same need other a last bounds.near same h.near;
+      fresh = IsKnown-same need other a last bounds.fresh same h.fresh;
     }
 
 -- the search in the tables is the search among the windows

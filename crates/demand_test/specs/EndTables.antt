@@ -4,6 +4,7 @@ use Rattle.slot_core.specs.declared.jobs.Job.{Job}
 use Rattle.slot_core.specs.declared.jobs.Window.{Window}
 use Rattle.demand_test.specs.declared.ends.Ends.{Ends}
 use Rattle.demand_test.specs.declared.ends.TheConstants.{BLOCK}
+use Rattle.demand_test.specs.declared.windows.Bounds.{Bounds}
 use Rattle.demand_test.specs.declared.windows.Known.{Known}
 
 -- the declared slots of the jobs whose end is b
@@ -74,7 +75,7 @@ pub record AreReadable (ends : Ends) : Type 0 where
       (b : ℕ) → b < length ends.sums.items
       → passed_by ends b ≤ slice_index ends.sums.items b
   pub small :
-      (b : ℕ) → b < length ends.sums.items → slice_index ends.sums.items b < 2 ^ 63
+      (b : ℕ) → b < length ends.sums.items → slice_index ends.sums.items b < 2 ^ 32
 
 -- what the window [a, b) needs: what is due by b, and the arrivals of so many slots
 abbrev pub needed_in : Ends → List ℕ → ℕ → ℕ → ℕ
@@ -86,8 +87,15 @@ failing_in ends arrivals a b =
     let needed = needed_in ends arrivals a b in
     if nat_lt (b - a) needed then Some (record { from = a; until = b; demand = needed }) else None
 
--- each window from a that ends after the known end, and by the last, has at least the known slots
--- more than it needs
-abbrev pub HasSpare : (ℕ → ℕ) → ℕ → ℕ → Known → Type 0
-HasSpare need a last known =
-    (b : ℕ) → known.after < b → a < b → b ≤ last → need b + known.spare ≤ b - a
+-- the known end is not past the last, and each window from a that ends after it, and by the last, has
+-- at least the known slots more than it needs
+pub record IsKnown (need : ℕ → ℕ) (a last : ℕ) (known : Known) : Type 0 where
+  pub after : known.after ≤ last
+  pub spare :
+      (b : ℕ) → known.after < b → a < b → b ≤ last → need b + known.spare ≤ b - a
+
+-- all that is known of the windows from a holds
+pub record AreKnown (need : ℕ → ℕ) (a last : ℕ) (bounds : Bounds) : Type 0 where
+  pub far : IsKnown need a last bounds.far
+  pub near : IsKnown need a last bounds.near
+  pub fresh : IsKnown need a last bounds.fresh

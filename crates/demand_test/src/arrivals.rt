@@ -1,6 +1,6 @@
 //! The densest arrivals of sporadic tasks.
 
-ghost use Rattle.std.specs.Prelude.{◌≡◌, ◌+◌, ◌-◌, ◌*◌, ◌^◌, ◌<◌, ◌≤◌, [], All, IfOk, MatchOption, map};
+ghost use Rattle.std.specs.Prelude.{◌≡◌, ◌+◌, ◌-◌, ◌*◌, ◌^◌, ◌<◌, ◌≤◌, [], All, IfOk, MatchOption, ℕ, map, slice_index};
 ghost use Rattle.std.specs.List.{range_with_len};
 ghost use Rattle.slot_core.specs.Feasibility.Sporadics.{arrivals_due, sporadic_demand};
 
@@ -40,12 +40,26 @@ pub(crate) fn needed_by(sporadics: &[Sporadic], end: u32) -> Option<u64>
     Some(needed)
 }
 
-/// The slots that the densest arrivals from slot 0 on need by each end from 0 to `last`.
+/// The slots that the densest arrivals from slot 0 on need by each end from 0 to `last`; where no
+/// task arrives, an empty table.
 pub(crate) fn needed_table(
     alloc: Global,
     sporadics: &[Sporadic],
     last: u32,
 ) -> Result<List<u64>, Memory>
+    requires { last < 2 ^ 32 - 1 }
+    ensures values { IfOk result (λ table. (x : ℕ) → x ≤ last
+        → slice_index table x ≡ sporadic_demand sporadics.now [] 0 x) }
+    ensures small { IfOk result (λ table. All (λ n. n < 2 ^ 63) table) }
+{
+    if sporadics.is_empty() {
+        return Ok(List::new(alloc));
+    }
+    each_needed(alloc, sporadics, last)
+}
+
+/// The slots that the densest arrivals from slot 0 on need by each end from 0 to `last`.
+fn each_needed(alloc: Global, sporadics: &[Sporadic], last: u32) -> Result<List<u64>, Memory>
     requires { last < 2 ^ 32 - 1 }
     ensures values { IfOk result (λ table. table
         ≡ map (λ x. sporadic_demand sporadics.now [] 0 x) (range_with_len 0 (last + 1))) }

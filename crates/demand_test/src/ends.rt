@@ -17,40 +17,41 @@ const BLOCK: usize = 128;
 #[derive(Drop)]
 pub struct Ends {
     /// For each end, the slots of all jobs of the first cycle and of the next.
-    sums: Vec<u64>,
+    sums: Vec<u32>,
     /// For each end, the slots of the passed jobs that are due by it in its block.
-    inner: Vec<u64>,
+    inner: Vec<u32>,
     /// For each block, the slots of the passed jobs that are due before it.
-    blocks: Vec<u64>,
+    blocks: Vec<u32>,
 }
 
 /// Adds the declared slots of a job at its ends: its deadline in the first cycle, and its deadline
 /// in the next, past the end of the first.
-fn count_job(due: &mut [u64], job: &Job, cycle: usize)
+fn count_job(due: &mut [u32], job: &Job, cycle: usize)
     requires positive { 0 < cycle }
     requires len { length due.old ≡ 2 * cycle + 1 }
     requires within { job.now.dl ≤ cycle }
-    requires small { All (λ n. n < 2 ^ 63) due.old }
+    requires small { All (λ n. n < 2 ^ 30) due.old }
+    requires short { job.now.declared < 2 ^ 30 }
     ensures { due.new ≡ raised
         (raised due.old (first_end job.now) job.now.declared)
         (next_end cycle job.now) job.now.declared }
 {
     let end = job.dl as usize;
     let next = (end + cycle).max(cycle + 1);
-    due[end] += u64::from(job.declared);
-    due[next] += u64::from(job.declared);
+    due[end] += job.declared;
+    due[next] += job.declared;
 }
 
 /// So many zeros.
-fn zeros(alloc: Global, count: usize) -> Result<Vec<u64>, Memory>
+fn zeros(alloc: Global, count: usize) -> Result<Vec<u32>, Memory>
     ensures { IfOk result (λ zeros. zeros.items ≡ replicate count 0) }
 {
-    Ok(vec![in alloc; 0u64; count]?)
+    Ok(vec![in alloc; 0u32; count]?)
 }
 
 /// For each end, 0 to two cycles, the slots of the jobs of the first cycle and of the next that
 /// begin to count there.
-fn due_table(alloc: Global, jobs: &[Job], cycle: u32) -> Result<Vec<u64>, Memory>
+fn due_table(alloc: Global, jobs: &[Job], cycle: u32) -> Result<Vec<u32>, Memory>
     requires positive { 0 < cycle }
     requires cycle { cycle ≤ SLOT_LIMIT }
     requires within { All (λ (j : Job). j.dl ≤ cycle) jobs.now }
@@ -66,13 +67,13 @@ fn due_table(alloc: Global, jobs: &[Job], cycle: u32) -> Result<Vec<u64>, Memory
 }
 
 /// Writes at each place the sum of the numbers up to it.
-fn add_up(numbers: &mut Vec<u64>)
-    requires { sum numbers.old.items < 2 ^ 64 }
+fn add_up(numbers: &mut Vec<u32>)
+    requires { sum numbers.old.items < 2 ^ 32 }
     ensures len { length numbers.new.items ≡ length numbers.old.items }
     ensures sums { (b : ℕ) → b < length numbers.old.items
         → slice_index numbers.new.items b ≡ sum (take (b + 1) numbers.old.items) }
 {
-    let mut sum = 0u64;
+    let mut sum = 0u32;
     for place in 0..numbers.len() {
         sum += numbers[place];
         numbers[place] = sum;
@@ -80,11 +81,11 @@ fn add_up(numbers: &mut Vec<u64>)
 }
 
 /// Raises the numbers at the places `from..to`.
-fn raise(numbers: &mut Vec<u64>, from: usize, to: usize, by: u64)
+fn raise(numbers: &mut Vec<u32>, from: usize, to: usize, by: u32)
     requires from { from ≤ to }
     requires to { to ≤ length numbers.old.items }
     requires small { (k : ℕ) → from ≤ k → k < to
-        → slice_index numbers.old.items k + by < 2 ^ 64 }
+        → slice_index numbers.old.items k + by < 2 ^ 32 }
     ensures len { length numbers.new.items ≡ length numbers.old.items }
     ensures raised { (k : ℕ) → slice_index numbers.new.items k
         ≡ slice_index numbers.old.items k + (if nat_le from k && nat_lt k to then by else 0) }
@@ -115,29 +116,37 @@ impl Ends {
         })
     }
 
+    /// How many ends there are.
+    pub(crate) fn count(&self) -> usize
+        ensures { result ≡ length self.now.sums.items }
+    {
+        self.sums.len()
+    }
+
     /// The slots that are due by `end`, but for those of the passed jobs.
     pub(crate) fn due_by(&self, end: usize) -> u64
         requires within { end < length self.now.sums.items }
         requires readable { AreReadable self.now }
-        ensures { result ≡ due_by self.now end }
+        ensures value { result ≡ due_by self.now end }
+        ensures small { result < 2 ^ 32 }
     {
-        self.sums[end] - (self.blocks[end / BLOCK] + self.inner[end])
+        u64::from(self.sums[end] - (self.blocks[end / BLOCK] + self.inner[end]))
     }
 
     /// Passes a job of the first cycle.
     fn pass(&mut self, job: &Job, last: usize)
         requires within { job.now.dl ≤ last }
         requires blocks { HasBlocks self.old last }
-        requires few { (b : ℕ) → b ≤ last → passed_by self.old b < 2 ^ 63 }
+        requires few { (b : ℕ) → b ≤ last → passed_by self.old b < 2 ^ 31 }
+        requires short { job.now.declared < 2 ^ 31 }
         ensures { ArePassed self.old self.new
             (λ b. if nat_le (first_end job.now) b then job.now.declared else 0) }
     {
         let end = job.dl as usize;
         let block = end / BLOCK;
         let next = ((block + 1) * BLOCK).min(last + 1);
-        let slots = u64::from(job.declared);
-        raise(&mut self.inner, end, next, slots);
-        raise(&mut self.blocks, block + 1, last / BLOCK + 1, slots);
+        raise(&mut self.inner, end, next, job.declared);
+        raise(&mut self.blocks, block + 1, last / BLOCK + 1, job.declared);
     }
 
     /// Passes these jobs of the first cycle.
@@ -145,7 +154,7 @@ impl Ends {
         requires within { All (λ (j : Job). j.dl ≤ last) jobs.now }
         requires blocks { HasBlocks self.old last }
         requires few { (b : ℕ) → b ≤ last
-            → passed_by self.old b + ending_by first_end jobs.now b < 2 ^ 63 }
+            → passed_by self.old b + ending_by first_end jobs.now b < 2 ^ 31 }
         ensures { ArePassed self.old self.new (ending_by first_end jobs.now) }
     {
         for job in jobs {

@@ -1,7 +1,8 @@
 //! The cycle test: whether every window has slots for the work that must run in it.
 #![tactic(auto)]
 
-ghost use Rattle.std.specs.Prelude.{◌≡◌, ◌≤◌, true, All, IfOk};
+ghost use Rattle.std.specs.Prelude.{◌≡◌, ◌<◌, ◌≤◌, true, All, IfOk, IsTrue};
+ghost use Rattle.std.specs.List.Sorted.{IsNonDecreasingBy};
 ghost use Rattle.slot_core.specs.declared.TheConstants.{SLOT_LIMIT};
 ghost use Rattle.slot_core.specs.declared.jobs.Job.{Job};
 ghost use Rattle.slot_core.specs.declared.tasks.TaskSet.{TaskSet};
@@ -64,9 +65,76 @@ pub fn test(
     if cycle == 0 {
         return Ok(Verdict::Fits);
     }
+    Ok(test_jobs(alloc, jobs, sporadics, cycle)?)
+}
+
+/// Whether the jobs are in the order of their starts.
+fn are_in_order(jobs: &[Job]) -> bool
+    ensures { IsTrue result → IsNonDecreasingBy (λ (j : Job). j.est) jobs.now }
+{
+    for place in 1..jobs.len() {
+        if jobs[place].est < jobs[place - 1].est {
+            return false;
+        }
+    }
+    true
+}
+
+/// The test of a cycle that is not empty. Jobs in the order of their starts are not copied.
+fn test_jobs(
+    alloc: Global,
+    jobs: &[Job],
+    sporadics: &[Sporadic],
+    cycle: u32,
+) -> Result<Verdict, Memory>
+    requires positive { 0 < cycle }
+    requires cycle { cycle ≤ SLOT_LIMIT }
+    requires within { All (λ (j : Job). j.dl ≤ cycle) jobs.now }
+    requires fits { window_demand jobs.now sporadics.now cycle 0 cycle ≤ cycle }
+    ensures { IfOk result
+        (λ v. v ≡ verdict_of (counterexample_in jobs.now sporadics.now cycle)) }
+{
+    if are_in_order(jobs) {
+        return test_ordered(alloc, jobs, sporadics, cycle);
+    }
+    test_sorted(alloc, jobs, sporadics, cycle)
+}
+
+/// The test of a copy of the jobs, in the order of their starts.
+fn test_sorted(
+    alloc: Global,
+    jobs: &[Job],
+    sporadics: &[Sporadic],
+    cycle: u32,
+) -> Result<Verdict, Memory>
+    requires positive { 0 < cycle }
+    requires cycle { cycle ≤ SLOT_LIMIT }
+    requires within { All (λ (j : Job). j.dl ≤ cycle) jobs.now }
+    requires fits { window_demand jobs.now sporadics.now cycle 0 cycle ≤ cycle }
+    ensures { IfOk result
+        (λ v. v ≡ verdict_of (counterexample_in jobs.now sporadics.now cycle)) }
+{
     let mut ordered = Vec::from_slice(alloc, jobs)?;
     ordered.sort_unstable_by_key(|job| job.est);
-    match first_failing(alloc, ordered.as_slice(), sporadics, cycle)? {
+    test_ordered(alloc, ordered.as_slice(), sporadics, cycle)
+}
+
+/// The test of jobs that are in the order of their starts.
+fn test_ordered(
+    alloc: Global,
+    jobs: &[Job],
+    sporadics: &[Sporadic],
+    cycle: u32,
+) -> Result<Verdict, Memory>
+    requires positive { 0 < cycle }
+    requires cycle { cycle ≤ SLOT_LIMIT }
+    requires within { All (λ (j : Job). j.dl ≤ cycle) jobs.now }
+    requires fits { window_demand jobs.now sporadics.now cycle 0 cycle ≤ cycle }
+    requires ordered { IsNonDecreasingBy (λ (j : Job). j.est) jobs.now }
+    ensures { IfOk result
+        (λ v. v ≡ verdict_of (counterexample_in jobs.now sporadics.now cycle)) }
+{
+    match first_failing(alloc, jobs, sporadics, cycle)? {
         Some(window) => Ok(Verdict::Fails(window)),
         None => Ok(Verdict::Fits),
     }

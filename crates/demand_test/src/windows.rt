@@ -6,12 +6,15 @@ ghost use Rattle.std.specs.List.Sorted.{IsNonDecreasingBy};
 ghost use Rattle.slot_core.specs.declared.TheConstants.{SLOT_LIMIT};
 ghost use Rattle.slot_core.specs.declared.jobs.Job.{Job};
 ghost use Rattle.slot_core.specs.Feasibility.Feasible.{first_some, first_failing_from};
-ghost use Rattle.demand_test.specs.EndTables.{first_end, ending_by, needed_in, failing_in, AreReadable, HasSpare};
+ghost use Rattle.demand_test.specs.EndTables.{first_end, ending_by, needed_in, failing_in, AreReadable, IsKnown, AreKnown};
 
 use crate::arrivals::needed_table;
 use crate::ends::Ends;
 use slot_core::{Job, Memory, Sporadic, Window};
 use std::alloc::Global;
+
+/// So many slots are to spare in the windows that a search for them leaves out.
+const MARGIN: u64 = 16;
 
 /// What is known of the windows from one start: those that end after `after` have at least `spare`
 /// slots more than they need.
@@ -19,6 +22,15 @@ use std::alloc::Global;
 struct Known {
     after: usize,
     spare: u64,
+}
+
+/// What is known of the windows from one start, by three ways: from a search for windows with slots
+/// to spare, from the starts since the last one without, and from the start before.
+#[derive(Clone, Copy)]
+struct Bounds {
+    far: Known,
+    near: Known,
+    fresh: Known,
 }
 
 /// The number of jobs at the front that start by `from`.
@@ -31,12 +43,35 @@ fn count_started(jobs: &[Job], from: u32) -> usize
         .count()
 }
 
+/// The slots that the arrivals need in a window of so many slots: an empty table is one of zeros.
+fn arriving_in(arrivals: &[u64], slots: usize) -> u64
+    requires small { All (λ n. n < 2 ^ 63) arrivals.now }
+    ensures value { result ≡ slice_index arrivals.now slots }
+    ensures small { result < 2 ^ 63 }
+{
+    match arrivals.get(slots) {
+        Some(needed) => *needed,
+        None => 0,
+    }
+}
+
+/// The slots that the window needs.
+fn need_of(ends: &Ends, arrivals: &[u64], from: usize, until: usize) -> u64
+    requires until { until < length ends.now.sums.items }
+    requires from { from ≤ until }
+    requires readable { AreReadable ends.now }
+    requires small { All (λ n. n < 2 ^ 63) arrivals.now }
+    ensures value { result ≡ needed_in ends.now arrivals.now from until }
+    ensures small { result < 2 ^ 63 + 2 ^ 32 }
+{
+    ends.due_by(until) + arriving_in(arrivals, until - from)
+}
+
 /// Whether no window from `from` that ends by `last` fails. A longer window needs no less, so where
 /// the need of one fits it, each shorter one that has so many slots fits too: the next to look at
 /// is the longest that has fewer.
 fn fits_by(ends: &Ends, arrivals: &[u64], from: usize, last: usize) -> bool
     requires last { last < length ends.now.sums.items }
-    requires same { length arrivals.now ≡ length ends.now.sums.items }
     requires readable { AreReadable ends.now }
     requires small { All (λ n. n < 2 ^ 63) arrivals.now }
     requires rising { (b c : ℕ) → from < b → b ≤ c → c ≤ last
@@ -46,9 +81,8 @@ fn fits_by(ends: &Ends, arrivals: &[u64], from: usize, last: usize) -> bool
 {
     let mut until = last;
     while until > from {
-        let slots = until - from;
-        let needed = ends.due_by(until) + arrivals[slots];
-        if needed > slots as u64 {
+        let needed = need_of(ends, arrivals, from, until);
+        if needed > (until - from) as u64 {
             return false;
         }
         until = (from + needed as usize).min(until - 1);
@@ -59,16 +93,15 @@ fn fits_by(ends: &Ends, arrivals: &[u64], from: usize, last: usize) -> bool
 /// The failing window of least end from `from`, or none: every end is tried.
 fn first_by_ends(ends: &Ends, arrivals: &[u64], from: usize) -> Option<Window>
     requires from { from < length ends.now.sums.items }
-    requires same { length arrivals.now ≡ length ends.now.sums.items }
     requires readable { AreReadable ends.now }
     requires small { All (λ n. n < 2 ^ 63) arrivals.now }
     ensures { result ≡ first_some
         (failing_in ends.now arrivals.now from)
         (range_with_len (from + 1) (length ends.now.sums.items - 1 - from)) }
 {
-    for until in from + 1..arrivals.len() {
+    for until in from + 1..ends.count() {
         let slots = until - from;
-        let needed = ends.due_by(until) + arrivals[slots];
+        let needed = need_of(ends, arrivals, from, until);
         if (slots as u64) < needed {
             return Some(Window {
                 from: from as u64,
@@ -85,7 +118,6 @@ fn first_by_ends(ends: &Ends, arrivals: &[u64], from: usize) -> Option<Window>
 fn failing_from(ends: &Ends, arrivals: &[u64], from: usize, last: usize) -> Option<Window>
     requires from { from < length ends.now.sums.items }
     requires last { last < length ends.now.sums.items }
-    requires same { length arrivals.now ≡ length ends.now.sums.items }
     requires readable { AreReadable ends.now }
     requires small { All (λ n. n < 2 ^ 63) arrivals.now }
     requires rising { (b c : ℕ) → from < b → b ≤ c → c ≤ last
@@ -123,15 +155,58 @@ fn latest_of(jobs: &[Job], least: usize) -> usize
     latest
 }
 
+/// What is known after a search from the end on: it stops at the first window that it looks at with
+/// fewer slots to spare.
+fn known_beyond(ends: &Ends, arrivals: &[u64], from: usize, last: usize) -> Known
+    requires last { last < length ends.now.sums.items }
+    requires readable { AreReadable ends.now }
+    requires small { All (λ n. n < 2 ^ 63) arrivals.now }
+    requires rising { (b c : ℕ) → from < b → b ≤ c → c ≤ last
+        → needed_in ends.now arrivals.now from b ≤ needed_in ends.now arrivals.now from c }
+    ensures { IsKnown (needed_in ends.now arrivals.now from) from last result }
+{
+    let mut after = last;
+    while after > from {
+        let wanted = need_of(ends, arrivals, from, after) + MARGIN;
+        if wanted > (after - from) as u64 {
+            break;
+        }
+        after = (from + wanted as usize).min(after - 1);
+    }
+    Known {
+        after,
+        spare: MARGIN,
+    }
+}
+
+/// What is known, with the bound of a search renewed where it has no slot to spare.
+fn renewed(bounds: Bounds, ends: &Ends, arrivals: &[u64], from: usize, last: usize) -> Bounds
+    requires last { last < length ends.now.sums.items }
+    requires readable { AreReadable ends.now }
+    requires small { All (λ n. n < 2 ^ 63) arrivals.now }
+    requires rising { (b c : ℕ) → from < b → b ≤ c → c ≤ last
+        → needed_in ends.now arrivals.now from b ≤ needed_in ends.now arrivals.now from c }
+    requires known { AreKnown (needed_in ends.now arrivals.now from) from last bounds }
+    ensures { AreKnown (needed_in ends.now arrivals.now from) from last result }
+{
+    if bounds.far.spare > 0 {
+        return bounds;
+    }
+    Bounds {
+        far: known_beyond(ends, arrivals, from, last),
+        near: bounds.near,
+        fresh: bounds.fresh,
+    }
+}
+
 /// What is known, where no window from `from` fails: where the known windows have no slot to spare,
 /// that holds of all.
 fn held(known: Known, from: usize) -> Known
-    ensures spare { result.spare ≡ known.spare }
-    ensures after { result.after ≤ max from known.after }
-    ensures holds { (need : ℕ → ℕ) (last : ℕ)
-        → HasSpare need from last known
+    ensures { (need : ℕ → ℕ) (last : ℕ)
+        → from ≤ last
+        → IsKnown need from last known
         → ((b : ℕ) → from < b → b ≤ last → need b ≤ b - from)
-        → HasSpare need from last result }
+        → IsKnown need from last result }
 {
     if known.spare > 0 {
         return known;
@@ -142,25 +217,17 @@ fn held(known: Known, from: usize) -> Known
     }
 }
 
-/// What is known of the windows from the next start, where no window from `from` fails and these
-/// jobs start at `from`: a window from the next start is one slot shorter, and where it ends after
-/// the deadlines of the jobs, it needs their slots no more.
-fn next_known(known: Known, from: usize, last: usize, started: &[Job]) -> Known
-    requires after { known.after ≤ last }
-    requires from { from < last }
-    requires few { known.spare + sum_by (λ (j : Job). j.declared) started.now < 2 ^ 63 }
-    requires within { All (λ (j : Job). j.dl ≤ last) started.now }
-    ensures after { result.after ≤ last }
-    ensures few { result.spare ≤ known.spare + sum_by (λ (j : Job). j.declared) started.now }
-    ensures spare { (need next : ℕ → ℕ)
-        → HasSpare need from last known
-        → ((b : ℕ) → from < b → b ≤ last → need b ≤ b - from)
-        → ((b : ℕ) → from < b → b ≤ last
-        → next b + ending_by first_end started.now b ≤ need b)
-        → HasSpare next (from + 1) last result }
+/// What is known of the windows from the next start, where these slots are passed that are due by
+/// `latest`: a window from the next start is one slot shorter, and where it ends after `latest`, it
+/// needs the slots no more.
+fn next_known(known: Known, slots: u64, latest: usize, last: usize) -> Known
+    requires latest { latest ≤ last }
+    ensures { (need next : ℕ → ℕ) (from : ℕ)
+        → IsKnown need from last known
+        → ((b : ℕ) → from < b → latest < b → b ≤ last → next b + slots ≤ need b)
+        → IsKnown next (from + 1) last result }
 {
-    let held = held(known, from);
-    let spare = held.spare + slots_of(started);
+    let spare = known.spare.saturating_add(slots);
     if spare == 0 {
         return Known {
             after: last,
@@ -168,8 +235,63 @@ fn next_known(known: Known, from: usize, last: usize, started: &[Job]) -> Known
         };
     }
     Known {
-        after: latest_of(started, held.after),
+        after: latest.max(known.after),
         spare: spare - 1,
+    }
+}
+
+/// The least end after which the windows are known to fit.
+fn least_after(bounds: &Bounds) -> usize
+    ensures within { (need : ℕ → ℕ) (from last : ℕ)
+        → AreKnown need from last bounds.now → result ≤ last }
+    ensures known { (need : ℕ → ℕ) (from last : ℕ) → AreKnown need from last bounds.now
+        → (b : ℕ) → result < b → from < b → b ≤ last → need b ≤ b - from }
+{
+    bounds
+        .far
+        .after
+        .min(bounds.near.after)
+        .min(bounds.fresh.after)
+}
+
+/// What is known of the windows from the next start, where no window from `from` fails and these
+/// jobs start at `from`.
+fn next_bounds(bounds: &Bounds, from: usize, last: usize, started: &[Job]) -> Bounds
+    requires from { from < last }
+    requires few { sum_by (λ (j : Job). j.declared) started.now < 2 ^ 64 }
+    requires within { All (λ (j : Job). j.dl ≤ last) started.now }
+    ensures { (need next : ℕ → ℕ)
+        → AreKnown need from last bounds.now
+        → ((b : ℕ) → from < b → b ≤ last → need b ≤ b - from)
+        → ((b : ℕ) → from < b → b ≤ last
+        → next b + ending_by first_end started.now b ≤ need b)
+        → AreKnown next (from + 1) last result }
+{
+    let slots = slots_of(started);
+    let latest = latest_of(started, 0);
+    let here = Known {
+        after: from,
+        spare: 0,
+    };
+    Bounds {
+        far: next_known(bounds.far, slots, latest, last),
+        near: next_known(held(bounds.near, from), slots, latest, last),
+        fresh: next_known(here, slots, latest, last),
+    }
+}
+
+/// Nothing: no window ends after the last end.
+fn nothing_known(last: usize) -> Bounds
+    ensures { (need : ℕ → ℕ) (from : ℕ) → AreKnown need from last result }
+{
+    let known = Known {
+        after: last,
+        spare: 0,
+    };
+    Bounds {
+        far: known,
+        near: known,
+        fresh: known,
     }
 }
 
@@ -193,19 +315,17 @@ pub(crate) fn first_failing(
     let needed = needed_table(alloc, sporadics, 2 * cycle)?;
     let mut ends = Ends::of(alloc, jobs, cycle)?;
     let arrivals = needed.items();
-    let mut known = Known {
-        after: last,
-        spare: 0,
-    };
+    let mut bounds = nothing_known(last);
     let mut rest = jobs;
     for from in 0..cycle {
-        let failing = failing_from(&ends, arrivals, from as usize, known.after);
+        let known = renewed(bounds, &ends, arrivals, from as usize, last);
+        let failing = failing_from(&ends, arrivals, from as usize, least_after(&known));
         if failing.is_some() {
             return Ok(failing);
         }
         let (started, others) = rest.split_at(count_started(rest, from));
         ends.pass_all(started, last);
-        known = next_known(known, from as usize, last, started);
+        bounds = next_bounds(&known, from as usize, last, started);
         rest = others;
     }
     Ok(None)

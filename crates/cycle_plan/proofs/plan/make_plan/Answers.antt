@@ -1,6 +1,5 @@
 -- The parts of the plan agree.
 use Rattle.std.proofs.Common.{◌≡◌, rules, subst, sym}
-use Rattle.std.specs.Prelude.{IsPermutation}
 use Rattle.std.proofs.lemmas.Bool.{and_parts}
 use Rattle.slot_core.specs.Sets.Cycles.{cycle_of}
 use Rattle.slot_core.specs.Feasibility.Feasible.{IsFeasible}
@@ -21,7 +20,7 @@ build-requires c =
     record {
       tasks = c.args.tasks;
       whole = whole;
-      listed = subst (AreFirstJobs c.args.tasks) (sym c.deref-2.ensures.value) c.in_ok-jobs.ensures.listed;
+      listed = subst (AreFirstJobs c.args.tasks) (sym c.deref.ensures.value) c.in_ok-jobs.ensures.listed;
     }
 
 pub invariant_of-result : goal.invariant_of-result
@@ -29,12 +28,11 @@ invariant_of-result c =
     let whole : c.unwrap-cycle.result ≡ cycle_of c.args.tasks = search rules in
     let these = c.in_ok-jobs.ensures.listed in
     let plan : PlanParts = record { tasks = c.args.tasks; cycle = c.unwrap-cycle.result; jobs = c.in_ok-jobs.jobs.items; spans = c.in_ok-spans.spans.items } in
-    let built = subst (AreFirstJobs c.args.tasks) (sym c.deref-2.ensures.value) these in
-    let sorted = subst (λ js. IsPermutation js c.in_ok-by_start.by_start.items) c.deref.ensures.value c.in_ok-by_start.ensures.listed in
+    let built = subst (AreFirstJobs c.args.tasks) (sym c.deref.ensures.value) these in
     record {
       is_plan = IsPlan-from_parts plan these whole (c.in_ok-spans.ensures.spans c.args.tasks whole built);
-      listed = sorted;
-      ordered = c.in_ok-by_start.ensures.ordered;
+      listed = c.in_ok-jobs.ensures.by_start;
+      ordered = c.in_ok-jobs.ensures.ordered;
     }
 
 pub returns-clause-plan : goal.returns-clause-plan

@@ -1,18 +1,13 @@
-use Rattle.std.proofs.Common.{◌≡◌, ℕ, ◌+◌, ◌^◌, ◌<◌, List, [], ◌∷◌, ◌++◌, map, sym, ap, ◌∙◌, zero-add}
+use Rattle.std.proofs.Common.{◌≡◌, ℕ, ◌+◌, ◌≤◌, [], List, map, get_or, ap, ◌∙◌, arith}
 use Rattle.std.specs.List.{range_with_len}
-use Rattle.std.proofs.lemmas.List.Elements.{All-push, All-same}
-use Rattle.std.proofs.lemmas.List.FromFn.{map-range_with_len_more}
+use Rattle.std.proofs.lemmas.List.FromFn.{get_or-map-range_with_len}
+use Rattle.std.proofs.lemmas.Result.{IfOk-weaker}
+use Rattle.slot_core.specs.Feasibility.Sporadics.{sporadic_demand}
 use Rattle.demand_test.proofs.arrivals.needed_table.Goals as goal
 
--- the table and its next value
-pushed : (f : ℕ → ℕ) (table longer : List ℕ) (end needed : ℕ) → table ≡ map f (range_with_len 0 end) → longer ≡ table ++ needed ∷ [] → needed ≡ f end → longer ≡ map f (range_with_len 0 (end + 1))
-pushed f table longer end needed so_far push value =
-    let more = map-range_with_len_more f 0 end end (zero-add end) in
-    let last : map f (range_with_len 0 end) ++ needed ∷ [] ≡ map f (range_with_len 0 end) ++ f end ∷ [] = ap (λ n. map f (range_with_len 0 end) ++ n ∷ []) value in
-    push ∙ ap (λ t. t ++ needed ∷ []) so_far ∙ last ∙ sym more
-
-pub loop-end-preserved : goal.loop-end-preserved
-loop-end-preserved c =
-    let longer = c.in_ok-push.ensures.ok in
-    let small = c.loop-end.invariant.1 in
-    (pushed _ c.loop-end.table _ c.loop-end.end c.in-Some.needed c.loop-end.invariant.0 longer c.in-Some.ensures.0, All-same (λ n. n < 2 ^ 63) _ _ longer (All-push (λ n. n < 2 ^ 63) c.loop-end.table c.in-Some.needed small c.in-Some.ensures.1))
+pub returns-clause-values : goal.returns-clause-values
+returns-clause-values c =
+    let f : ℕ → ℕ = λ x. sporadic_demand c.args.sporadics.now [] 0 x in
+    let last = c.args.last in
+    let at : (table : List ℕ) → table ≡ map f (range_with_len 0 (last + 1)) → (x : ℕ) → x ≤ last → get_or table x 0 ≡ f x = λ table is x low. ap (λ xs. get_or xs x 0) is ∙ get_or-map-range_with_len f 0 (last + 1) x x 0 (omega arith) (omega arith) in
+    IfOk-weaker c.each_needed.result (λ table. table ≡ map f (range_with_len 0 (last + 1))) (λ table. (x : ℕ) → x ≤ last → get_or table x 0 ≡ f x) at c.each_needed.ensures.values

@@ -1,4 +1,4 @@
-use Rattle.std.proofs.Common.{◌+◌, ◌-◌, length, get_or, sym, ap, ◌∙◌, inl, inr, arith}
+use Rattle.std.proofs.Common.{◌+◌, ◌-◌, length, sym, ap, ◌∙◌, inl, inr, arith}
 use Rattle.std.proofs.lemmas.Bool.{cases_eq}
 use Rattle.demand_test.specs.EndTables.{failing_in}
 use Rattle.demand_test.proofs.EndCounts.{failing_in-Some, failing_in-None}
@@ -19,7 +19,7 @@ returns-then-slots-needed c =
     let arrivals = c.args.arrivals.now in
     let a = c.args.from in
     let b = c.loop-until.until in
-    let needed = c.due_by.result + get_or arrivals (b - a) 0 in
+    let needed = c.need_of-needed.result in
     let here = failing_in-Some ends arrivals a b needed (omega arith) (omega arith) in
     sym (first_some-found (failing_in ends arrivals a) (record { from = a; until = b; demand = needed }) (a + 1) (length ends.sums.items - 1 - a) b (omega arith) (omega arith) (λ m low high. c.loop-until.invariant m (omega arith) high) here)
 

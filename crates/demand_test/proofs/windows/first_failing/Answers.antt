@@ -1,9 +1,8 @@
-use Rattle.std.proofs.Common.{◌≡◌, ℕ, ◌+◌, ◌-◌, ◌*◌, ◌<◌, ◌≤◌, true, false, List, [], length, take, drop, Option, Some, None, is_some, sym, ap, ◌∙◌, arith}
+use Rattle.std.proofs.Common.{◌≡◌, ℕ, ◌+◌, ◌-◌, ◌*◌, ◌<◌, ◌≤◌, true, false, List, [], length, take, drop, get_or, Option, Some, None, is_some, sym, ap, ◌∙◌, arith}
 use Rattle.std.specs.Prelude.{All, sum_by}
 use Rattle.std.specs.List.{range_with_len}
 use Rattle.std.proofs.lemmas.Bool.{false≢true}
 use Rattle.std.proofs.lemmas.List.Elements.{All-same, All-take, All-drop}
-use Rattle.std.proofs.lemmas.List.FromFn.{length-map-range_with_len}
 use Rattle.std.proofs.lemmas.List.Sums.{sum_by-take-le}
 use Rattle.slot_core.specs.declared.jobs.Job.{Job}
 use Rattle.slot_core.specs.declared.jobs.Window.{Window}
@@ -11,11 +10,11 @@ use Rattle.slot_core.specs.declared.tasks.Sporadic.{Sporadic}
 use Rattle.slot_core.specs.Feasibility.Sporadics.{sporadic_demand}
 use Rattle.slot_core.specs.Feasibility.Feasible.{window_demand, first_some, first_failing_from}
 use Rattle.demand_test.specs.declared.ends.Ends.{Ends}
-use Rattle.demand_test.specs.EndTables.{ending_by, first_end, failing_in}
+use Rattle.demand_test.specs.EndTables.{ending_by, first_end, needed_in, failing_in}
 use Rattle.slot_facts.proofs.Demand.Feasible.{fits-from_first_failing}
 use Rattle.slot_facts.proofs.Lists.FirstSome.{first_some-found, first_some-from_none}
 use Rattle.demand_test.proofs.EndSums.{ending_by-le, ending_by-twice, declared-twice}
-use Rattle.demand_test.proofs.WindowSums.{AreTables, AreTables-first, AreTables-next, IsStart-next, AreReadable-from_AreTables, needed_in-AreTables, window_demand-rises, window_demand-next, first_failing_from-AreTables}
+use Rattle.demand_test.proofs.WindowSums.{AreTables, AreTables-first, AreTables-next, IsStart-next, AreReadable-from_AreTables, needed_in-AreTables, window_demand-rises, window_demand-next, AreKnown-same, first_failing_from-AreTables}
 use Rattle.demand_test.proofs.windows.first_failing.Goals as goal
 
 -- the first start from which a window fails
@@ -40,20 +39,52 @@ within_front jobs rest front p n m is at_front all = λ k d low.
     let due = All-same (λ (j : Job). j.dl ≤ m) front (take n rest) at_front (All-take (λ (j : Job). j.dl ≤ m) n rest (All-same (λ (j : Job). j.dl ≤ m) rest (drop p jobs) is (All-drop (λ (j : Job). j.dl ≤ m) p jobs all))) k d low in
     omega arith
 
+-- the table is read as a list
+needs_in : (f : ℕ → ℕ) (table items : List ℕ) (last : ℕ) → items ≡ table → ((x : ℕ) → x ≤ last → get_or table x 0 ≡ f x) → (x : ℕ) → x ≤ last → get_or items x 0 ≡ f x
+needs_in f table items last same values x low = ap (λ xs. get_or xs x 0) same ∙ values x low
+
 pub loop-from-init : goal.loop-from-init
 loop-from-init c =
     record {
-      tables = AreTables-first c.args.jobs.now c.args.sporadics.now c.args.cycle c.in_ok-ends.ends c.items-arrivals.result.now c.in_ok-ends.ensures (c.items-arrivals.ensures ∙ c.in_ok-needed.ensures.values);
-      spare = λ b past low high. absurd (omega arith);
-      after = omega arith;
-      few = omega arith;
+      tables = AreTables-first c.args.jobs.now c.args.sporadics.now c.args.cycle c.in_ok-ends.ends c.items-arrivals.result.now c.in_ok-ends.ensures (needs_in (sporadic_demand c.args.sporadics.now [] 0) c.in_ok-needed.needed c.items-arrivals.result.now (2 * c.args.cycle) c.items-arrivals.ensures c.in_ok-needed.ensures.values);
+      known = c.nothing_known-bounds.ensures (window_demand c.args.jobs.now c.args.sporadics.now c.args.cycle 0) 0;
     }
 
-pub failing_from-failing-requires-clause-same : goal.failing_from-failing-requires-clause-same
-failing_from-failing-requires-clause-same c =
+pub renewed-known-requires-clause-readable : goal.renewed-known-requires-clause-readable
+renewed-known-requires-clause-readable c =
+    AreReadable-from_AreTables c.args.jobs.now c.loop-from.rest.now c.args.sporadics.now c.args.cycle c.loop-from.from c.loop-from.ends c.items-arrivals.result.now c.loop-from.invariant.tables c.requires.cycle c.requires.few
+
+pub renewed-known-requires-clause-rising : goal.renewed-known-requires-clause-rising
+renewed-known-requires-clause-rising c =
+    let jobs = c.args.jobs.now in
+    let rest = c.loop-from.rest.now in
+    let ss = c.args.sporadics.now in
+    let cycle = c.args.cycle in
+    let a = c.loop-from.from in
     let tables = c.loop-from.invariant.tables in
-    let needs = ap length tables.needs ∙ length-map-range_with_len (λ x. sporadic_demand c.args.sporadics.now [] 0 x) 0 (2 * c.args.cycle + 1) in
-    omega (arith, tables.passed.len)
+    let needs = needed_in-AreTables jobs rest ss cycle a c.loop-from.ends c.items-arrivals.result.now tables c.loop-from-test.true in
+    λ b d low later high.
+    omega (
+      arith,
+      needs b low (omega arith),
+      needs d (omega arith) (omega arith),
+      window_demand-rises jobs rest ss cycle a tables.started b d tables.start (omega arith) later,
+    )
+
+pub renewed-known-requires-clause-known : goal.renewed-known-requires-clause-known
+renewed-known-requires-clause-known c =
+    let jobs = c.args.jobs.now in
+    let ss = c.args.sporadics.now in
+    let cycle = c.args.cycle in
+    let a = c.loop-from.from in
+    let needs = needed_in-AreTables jobs c.loop-from.rest.now ss cycle a c.loop-from.ends c.items-arrivals.result.now c.loop-from.invariant.tables c.loop-from-test.true in
+    AreKnown-same (window_demand jobs ss cycle a) (needed_in c.loop-from.ends c.items-arrivals.result.now a) a (2 * cycle) c.loop-from.bounds needs c.loop-from.invariant.known
+
+pub failing_from-failing-requires-clause-last : goal.failing_from-failing-requires-clause-last
+failing_from-failing-requires-clause-last c =
+    let tables = c.loop-from.invariant.tables in
+    let len = tables.passed.len in
+    omega (arith, c.least_after.ensures.within _ _ _ c.renewed-known.ensures)
 
 pub failing_from-failing-requires-clause-readable : goal.failing_from-failing-requires-clause-readable
 failing_from-failing-requires-clause-readable c =
@@ -68,7 +99,7 @@ failing_from-failing-requires-clause-rising c =
     let a = c.loop-from.from in
     let tables = c.loop-from.invariant.tables in
     let needs = needed_in-AreTables jobs rest ss cycle a c.loop-from.ends c.items-arrivals.result.now tables c.loop-from-test.true in
-    let after = c.loop-from.invariant.after in
+    let within = failing_from-failing-requires-clause-last c in
     λ b d low later high.
     omega (
       arith,
@@ -81,12 +112,7 @@ pub failing_from-failing-requires-clause-known : goal.failing_from-failing-requi
 failing_from-failing-requires-clause-known c =
     let tables = c.loop-from.invariant.tables in
     let len = tables.passed.len in
-    λ b past low high.
-    omega (
-      arith,
-      needed_in-AreTables c.args.jobs.now c.loop-from.rest.now c.args.sporadics.now c.args.cycle c.loop-from.from c.loop-from.ends c.items-arrivals.result.now tables c.loop-from-test.true b low (omega arith),
-      c.loop-from.invariant.spare b past low (omega arith),
-    )
+    λ b past low high. c.least_after.ensures.known _ _ _ c.renewed-known.ensures b past low (omega arith)
 
 pub returns-then-is_some : goal.returns-then-is_some
 returns-then-is_some c =
@@ -122,14 +148,13 @@ pass_all-requires-clause-few c =
       c.requires.cycle,
     )
 
-pub next_known-known-requires-clause-few : goal.next_known-known-requires-clause-few
-next_known-known-requires-clause-few c =
+pub next_bounds-bounds-requires-clause-few : goal.next_bounds-bounds-requires-clause-few
+next_bounds-bounds-requires-clause-few c =
     let jobs = c.args.jobs.now in
     let tables = c.loop-from.invariant.tables in
     let start = tables.start in
     omega (
       arith,
-      c.loop-from.invariant.few,
       ap (sum_by (λ (j : Job). j.declared)) c.split_at.ensures.front,
       declared-twice jobs c.loop-from.rest.now tables.started c.count_started.result start.rest_is,
       sum_by-take-le (λ (j : Job). j.declared) jobs (tables.started + c.count_started.result),
@@ -137,8 +162,8 @@ next_known-known-requires-clause-few c =
       c.requires.cycle,
     )
 
-pub next_known-known-requires-clause-within : goal.next_known-known-requires-clause-within
-next_known-known-requires-clause-within c =
+pub next_bounds-bounds-requires-clause-within : goal.next_bounds-bounds-requires-clause-within
+next_bounds-bounds-requires-clause-within c =
     let tables = c.loop-from.invariant.tables in
     within_front c.args.jobs.now c.loop-from.rest.now c.split_at.result.0.now tables.started c.count_started.result c.args.cycle tables.start.rest_is c.split_at.ensures.front c.requires.within
 
@@ -156,24 +181,17 @@ loop-from-preserved c =
     let start = tables.start in
     let o = c.failing_from-failing.result in
     let is = found-is jobs rest ss cycle a c.loop-from.ends c.items-arrivals.result.now o tables c.loop-from-test.true c.failing_from-failing.ensures in
+    let needs = needed_in-AreTables jobs rest ss cycle a c.loop-from.ends c.items-arrivals.result.now tables c.loop-from-test.true in
     let none : first_failing_from jobs ss cycle a ≡ None = sym is ∙ none_there o (sym c.is_some.ensures ∙ c.if-is_some.false) in
     let next_start = IsStart-next jobs rest others a tables.started n c.requires.ordered start c.count_started.ensures.count c.split_at.ensures.back in
     let next : AreTables jobs others ss cycle (a + 1) c.pass_all.new.self c.items-arrivals.result.now = AreTables-next jobs rest front others ss cycle a n c.loop-from.ends c.pass_all.new.self c.items-arrivals.result.now c.requires.ordered tables c.count_started.ensures.count c.split_at.ensures.front c.split_at.ensures.back c.pass_all.ensures none in
     record {
       tables = next;
-      spare = c.next_known-known.ensures.spare (window_demand jobs ss cycle a) (window_demand jobs ss cycle (a + 1)) c.loop-from.invariant.spare (λ b low high. fits-from_first_failing jobs ss cycle a none b low high) (λ b low high. omega (
+      known = c.next_bounds-bounds.ensures (window_demand jobs ss cycle a) (window_demand jobs ss cycle (a + 1)) (AreKnown-same (needed_in c.loop-from.ends c.items-arrivals.result.now a) (window_demand jobs ss cycle a) a (2 * cycle) c.renewed-known.result (λ b low high. sym (needs b low high)) c.renewed-known.ensures) (λ b low high. fits-from_first_failing jobs ss cycle a none b low high) (λ b low high. omega (
         arith,
         window_demand-next jobs rest others ss cycle a tables.started n b start next_start c.split_at.ensures.back c.loop-from-test.true,
         ap (λ xs. ending_by first_end xs b) c.split_at.ensures.front,
       ));
-      after = c.next_known-known.ensures.after;
-      few = omega (
-        arith,
-        c.loop-from.invariant.few,
-        c.next_known-known.ensures.few,
-        ap (sum_by (λ (j : Job). j.declared)) c.split_at.ensures.front,
-        declared-twice jobs rest tables.started n start.rest_is,
-      );
     }
 
 pub returns : goal.returns

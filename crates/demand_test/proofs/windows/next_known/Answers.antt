@@ -1,14 +1,21 @@
 use Rattle.std.proofs.Common.{arith}
-use Rattle.demand_test.specs.EndTables.{first_end}
-use Rattle.demand_test.proofs.EndSums.{ending_by-all}
 use Rattle.demand_test.proofs.windows.next_known.Goals as goal
 
-pub returns-clause-after : goal.returns-clause-after
-returns-clause-after c = c.latest_of.ensures.among c.args.last (omega arith) c.requires.within
+pub returns-then-spare-eq0 : goal.returns-then-spare-eq0
+returns-then-spare-eq0 c =
+    λ need next from known moves. record {
+      after = omega arith;
+      spare = λ b past low high. absurd (omega arith);
+    }
 
-pub returns-clause-spare : goal.returns-clause-spare
-returns-clause-spare c =
-    λ need next spare fits moves b past low high.
-    let here = c.held-held.ensures.holds need c.args.last spare fits b (omega arith) (omega arith) high in
-    let all = ending_by-all first_end c.args.started.now b (λ k d within. let due = c.latest_of.ensures.latest k d within in omega arith) in
-    omega (arith, moves b (omega arith) high)
+pub returns : goal.returns
+returns c =
+    λ need next from known moves. record {
+      after = omega (arith, known.after);
+      spare = λ b past low high.
+          omega (
+            arith,
+            known.spare b (omega arith) (omega arith) high,
+            moves b (omega arith) (omega arith) high,
+          );
+    }

@@ -5,5 +5,5 @@ use Rattle.demand_test.proofs.ends.Ends.pass.Goals as goal
 pub raise-requires-2-clause-small : goal.raise-requires-2-clause-small
 raise-requires-2-clause-small c =
     λ k low high.
-    let small = small-blocks c.args.self.now c.args.last k (2 ^ 63) c.requires.few high in
+    let small = small-blocks c.args.self.now c.args.last k (2 ^ 31) c.requires.few high in
     omega arith

@@ -1,7 +1,7 @@
-use Rattle.std.proofs.Common.{refl, subst, arith}
+use Rattle.std.proofs.Common.{◌^◌, refl, subst, arith}
 use Rattle.std.proofs.lemmas.List.{take_all}
 use Rattle.demand_test.specs.EndTables.{ending_by, first_end, ArePassed}
-use Rattle.demand_test.proofs.EndSums.{ending_by-none, ending_by-parts}
+use Rattle.demand_test.proofs.EndSums.{declared-less, ending_by-all, ending_by-none, ending_by-parts}
 use Rattle.demand_test.proofs.Blocks.{ArePassed-more}
 use Rattle.demand_test.proofs.ends.Ends.pass_all.Goals as goal
 
@@ -25,6 +25,13 @@ pass-requires-clause-few c =
       c.requires.few b low,
       ending_by-parts first_end jobs c.loop-job.job-index b,
     )
+
+pub pass-requires-clause-short : goal.pass-requires-clause-short
+pass-requires-clause-short c =
+    let jobs = c.args.jobs.now in
+    let all = ending_by-all first_end jobs c.args.last c.requires.within in
+    let few = c.requires.few c.args.last (omega arith) in
+    declared-less jobs c.loop-job.job-index _ (2 ^ 31) c.loop-job-test.true (omega arith)
 
 pub loop-job-preserved : goal.loop-job-preserved
 loop-job-preserved c =

@@ -1,7 +1,7 @@
 use Rattle.std.proofs.Common.{◌≡◌, [], ◌^◌, ◌<◌, map}
 use Rattle.std.specs.List.{range_with_len, All}
 use Rattle.slot_core.specs.Feasibility.Sporadics.{sporadic_demand}
-use Rattle.demand_test.proofs.arrivals.needed_table.Given as goal
+use Rattle.demand_test.proofs.arrivals.each_needed.Given as goal
 
 abbrev pub invariant-loop-end : goal.invariant-loop-end
 invariant-loop-end l =
