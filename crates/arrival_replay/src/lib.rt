@@ -224,7 +224,8 @@ fn tell_answer<T: SpareTable, K: Sink, L: Ledger>(
 {
     let mut steps: Steps<L> = Steps::new(blank);
     let time = exec.now();
-    let what = answer(exec, arrival, &mut steps);
+    let mut what = What::Idle;
+    answer(exec, arrival, &mut what, &mut steps);
     tell_line(exec, time, what, out, &mut steps)?;
     Ok(what)
 }
@@ -300,8 +301,8 @@ fn go_to<T: SpareTable, W: Teller, L: Ledger>(
         if due.is_some() {
             next += 1;
         }
-        let what = happen(exec, due, &mut steps);
-        let read = renew(&mut entry, exec, time, what, &mut steps);
+        happen_in(exec, due, &mut entry.what, &mut steps);
+        let read = renew(&mut entry, exec, time, &mut steps);
         tell(exec, &entry, taker, read)?;
     }
     Ok(())
@@ -340,66 +341,86 @@ pub fn happen<T: SpareTable, L: Ledger>(
     requires may_come { IfSome due (λ a. event_may_come exec.old.plan.tasks a.event ≡ true) }
     ensures does { Does exec.old exec.new (next_occurrence due) result }
 {
+    let mut what = What::Idle;
+    happen_in(exec, due, &mut what, steps);
+    what
+}
+
+/// `happen`, which writes what it was into this place at once: a copy of what was just written by
+/// parts waits for them.
+#[inline(always)]
+fn happen_in<T: SpareTable, L: Ledger>(
+    exec: &mut Exec<T>,
+    due: Option<Arrival>,
+    what: &mut What,
+    steps: &mut Steps<L>,
+)
+    requires early { exec.old.scene.time < 2 ^ 32 }
+    requires later { IfSome due (λ a. exec.old.last_row < a.row) }
+    requires may_come { IfSome due (λ a. event_may_come exec.old.plan.tasks a.event ≡ true) }
+    ensures does { Does exec.old exec.new (next_occurrence due) what.new }
+{
     match due {
-        Some(arrival) => answer(exec, arrival, steps),
-        None => pass(exec, steps),
+        Some(arrival) => answer(exec, arrival, what, steps),
+        None => pass(exec, what, steps),
     }
 }
 
-/// The executive answers an arrival.
+/// The executive answers an arrival, which is told in this place.
 fn answer<T: SpareTable, L: Ledger>(
     exec: &mut Exec<T>,
     arrival: Arrival,
+    what: &mut What,
     steps: &mut Steps<L>,
-) -> What
+)
     requires later { exec.old.last_row < arrival.row }
     requires may_come { event_may_come exec.old.plan.tasks arrival.event ≡ true }
-    ensures does { Does exec.old exec.new (arrive arrival.row arrival.event) result }
+    ensures does { Does exec.old exec.new (arrive arrival.row arrival.event) what.new }
 {
     let row = arrival.row;
     match arrival.event {
-        Event::Soft(slots) => What::Soft(row, slots, exec.soft(row, slots)),
+        Event::Soft(slots) => *what = What::Soft(row, slots, exec.soft(row, slots)),
         Event::Firm(slots, within) => {
-            What::Firm(row, slots, within, exec.firm(row, slots, within, steps))
+            *what = What::Firm(row, slots, within, exec.firm(row, slots, within, steps));
         }
-        Event::Sporadic(index) => What::Sporadic(row, index, exec.sporadic(row, index, steps)),
-        Event::Done(key) => What::Done(row, key, exec.done(row, key, steps)),
-        Event::Withdraw(firm) => What::Withdraw(row, firm, exec.withdraw(row, firm, steps)),
+        Event::Sporadic(index) => {
+            *what = What::Sporadic(row, index, exec.sporadic(row, index, steps));
+        }
+        Event::Done(key) => *what = What::Done(row, key, exec.done(row, key, steps)),
+        Event::Withdraw(firm) => *what = What::Withdraw(row, firm, exec.withdraw(row, firm, steps)),
     }
 }
 
-/// A slot passes.
+/// A slot passes, and what ran is told in this place.
 #[inline(always)]
-fn pass<T: SpareTable, L: Ledger>(exec: &mut Exec<T>, steps: &mut Steps<L>) -> What
+fn pass<T: SpareTable, L: Ledger>(exec: &mut Exec<T>, what: &mut What, steps: &mut Steps<L>)
     requires { exec.old.scene.time < 2 ^ 32 }
-    ensures does { Does exec.old exec.new slot result }
+    ensures does { Does exec.old exec.new slot what.new }
 {
     match exec.slot(steps) {
-        Ran::Idle => What::Idle,
-        Ran::Key(key) => What::Run(key),
+        Ran::Idle => *what = What::Idle,
+        Ran::Key(key) => *what = What::Run(key),
     }
 }
 
-/// The entry becomes that of what happened at this time. The first spans are read only where they
-/// may have changed: it tells whether they were.
+/// The entry, which tells what happened, becomes that of this time. The first spans are read only
+/// where they may have changed: it tells whether they were.
 #[inline(always)]
 fn renew<T: SpareTable, L: Ledger>(
     entry: &mut Entry,
     exec: &Exec<T>,
     time: u64,
-    what: What,
     steps: &mut Steps<L>,
 ) -> bool
-    ensures told { result ≡ may_change_spans what }
-    ensures what { entry.new.what ≡ what }
-    ensures read { may_change_spans what ≡ true → (h : History) → StandsFor exec.now h
-        → entry.new ≡ shown_entry exec.now.plan.tasks exec.now.plan.cycle time what h }
-    ensures kept { may_change_spans what ≡ false
-        → entry.new ≡ record entry.old { time = time; what = what } }
+    ensures told { result ≡ may_change_spans entry.old.what }
+    ensures what { entry.new.what ≡ entry.old.what }
+    ensures read { may_change_spans entry.old.what ≡ true → (h : History) → StandsFor exec.now h
+        → entry.new ≡ shown_entry exec.now.plan.tasks exec.now.plan.cycle time entry.old.what h }
+    ensures kept { may_change_spans entry.old.what ≡ false
+        → entry.new ≡ record entry.old { time = time } }
 {
     entry.time = time;
-    entry.what = what;
-    let may_change = may_change_spans(what);
+    let may_change = may_change_spans(&entry.what);
     if may_change {
         read_spans(exec, &mut entry.shown, steps);
     }
@@ -409,10 +430,10 @@ fn renew<T: SpareTable, L: Ledger>(
 /// Whether what happened may have changed the spans: soft work, a refused arrival, and an early end
 /// or a withdrawal that found no job change none.
 #[inline(always)]
-fn may_change_spans(what: What) -> bool
-    ensures { result ≡ may_change_spans what }
+fn may_change_spans(what: &What) -> bool
+    ensures { result ≡ may_change_spans what.now }
 {
-    match what {
+    match *what {
         What::Soft(_, _, _)
         | What::Firm(_, _, _, Firm::Late | Firm::Far | Firm::NoRoom(_))
         | What::Sporadic(_, _, Spo::Soon(_))

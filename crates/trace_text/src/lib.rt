@@ -9,6 +9,7 @@ mod reports;
 pub mod run_lines;
 mod spans;
 pub mod taker;
+mod threes;
 mod words;
 
 pub use entries::{entry_line, key_text};

@@ -1,11 +1,13 @@
 //! A line in the making.
 
-ghost use Rattle.std.specs.Prelude.{◌≡◌, ℕ, ◌≤◌, ◌<◌, ◌+◌, [], ◌++◌, ◌-◌, drop, length, take, decimal};
+ghost use Rattle.std.specs.Prelude.{◌≡◌, ℕ, ◌≤◌, ◌<◌, ◌+◌, [], ◌++◌, ◌-◌, ◌*◌, drop, length, take, decimal};
 ghost use Rattle.std.specs.Fmt.{signed_decimal};
 ghost use Rattle.trace_text.specs.declared.TheConstants.{DECIMAL_LIMIT, LINE_LIMIT};
 ghost use Rattle.trace_text.specs.declared.line.TheConstants.{COPY_SIZE};
+ghost use Rattle.trace_text.specs.declared.threes.TheConstants.{BLOCK_SIZE};
 
 use crate::LINE_LIMIT;
+use crate::threes::{BLOCK_SIZE, row_of, short_digits};
 use itoa::write_digits;
 use std::marker::Model;
 
@@ -116,16 +118,17 @@ impl Line {
         self.push_decimal(n.unsigned_abs());
     }
 
-    /// Appends the number in decimal digits, for which there is room. Each count of digits up to
-    /// six, as most numbers of a line have, gets code of its own without a loop.
+    /// Appends the number in decimal digits, for which there is room. The digits of one below a
+    /// million, as most numbers of a line are, stand in a table.
     fn push_decimal(&mut self, n: u64)
-        requires { length self.old + length (decimal n) ≤ LINE_LIMIT }
+        requires digits { length self.old + length (decimal n) ≤ LINE_LIMIT }
+        requires blocks { length self.old + 2 * BLOCK_SIZE ≤ LINE_LIMIT }
         ensures { self.new ≡ self.old ++ decimal n }
     {
-        if n < 1000 {
-            self.push_short(n);
-        } else {
-            self.push_long(n);
+        match n {
+            0..=999 => self.push_short(n),
+            1000..=999_999 => self.push_thousands(n),
+            _ => self.push_long(n),
         }
     }
 
@@ -133,29 +136,34 @@ impl Line {
     #[inline(always)]
     fn push_short(&mut self, n: u64)
         requires below { n < 1000 }
-        requires room { length self.old + length (decimal n) ≤ LINE_LIMIT }
-        ensures { self.new ≡ self.old ++ decimal n }
+        requires room { length self.old + BLOCK_SIZE ≤ LINE_LIMIT }
+        ensures text { self.new ≡ self.old ++ decimal n }
+        ensures short { length self.new ≤ length self.old + 3 }
     {
-        match n {
-            0..=9 => self.push_digits(n, 1),
-            10..=99 => self.push_digits(n, 2),
-            _ => self.push_digits(n, 3),
-        }
+        let (digits, count) = short_digits(n);
+        self.push_block(digits, count);
     }
 
-    /// Appends the number, which is not below 1000.
+    /// Appends the number, which is from 1000 on and below a million.
     #[inline(always)]
-    fn push_long(&mut self, n: u64)
+    fn push_thousands(&mut self, n: u64)
         requires from { 1000 ≤ n }
+        requires below { n < 1000000 }
+        requires room { length self.old + 2 * BLOCK_SIZE ≤ LINE_LIMIT }
+        ensures { self.new ≡ self.old ++ decimal n }
+    {
+        self.push_short(n / 1000);
+        self.push_block(row_of(n % 1000), 3);
+    }
+
+    /// Appends the number, which is not below a million.
+    #[inline(never)]
+    fn push_long(&mut self, n: u64)
+        requires from { 1000000 ≤ n }
         requires room { length self.old + length (decimal n) ≤ LINE_LIMIT }
         ensures { self.new ≡ self.old ++ decimal n }
     {
-        match n {
-            1000..=9999 => self.push_digits(n, 4),
-            10_000..=99_999 => self.push_digits(n, 5),
-            100_000..=999_999 => self.push_digits(n, 6),
-            _ => self.push_digits(n, n.ilog10() as usize + 1),
-        }
+        self.push_digits(n, n.ilog10() as usize + 1);
     }
 
     /// Appends the number, which has this count of digits, in place.

@@ -15,7 +15,7 @@ use Rattle.arrival_replay.specs.Replays.{is_on_the_way, next_occurrence}
 use Rattle.arrival_replay.proofs.KeptSpans.{keeps-again, keeps-told, spans-done}
 use Rattle.arrival_replay.proofs.go_to.Given.{Over}
 use Rattle.arrival_replay.proofs.go_to.Goals as goal
-use Rattle.arrival_replay.proofs.go_to.Goals.{After-happen-what, then-is_some, else-is_some}
+use Rattle.arrival_replay.proofs.go_to.Goals.{After-happen_in, then-is_some, else-is_some}
 
 pub loop-entry-init : goal.loop-entry-init
 loop-entry-init g c =
@@ -55,15 +55,15 @@ returns-in_err-tell-clause-broke g c =
     let all = g.met.W.Taker.broke_later set first first next t.told (e ∷ []) t.took c.in_err-tell.ensures.broke in
     OnErr-anyhow c.from_residual.result (BreaksOff-told (took first) broke exec.plan exec (trace set arrivals n) n arrivals 0 Start t (subst (λ e. broke (t.told ++ e ∷ [])) {y = own} same all))
 
-pub happen-what-requires-clause-later : goal.happen-what-requires-clause-later
-happen-what-requires-clause-later g c =
+pub happen_in-requires-clause-later : goal.happen_in-requires-clause-later
+happen_in-requires-clause-later g c =
     let exec = c.args.exec.now in
     let set = exec.plan.tasks in
     let l = c.loop-entry in
     due-later (TookShown (g.W.Taker.took set c.args.taker.now l.taker) exec.plan l.entry.shown) exec.plan l.exec (trace set c.args.arrivals.now c.args.slots) c.args.slots l.next c.now-time.result c.args.arrivals.now l.invariant.under_way c.now-time.ensures.time c.requires.fitting l.invariant.last c.due_arrival-due.result c.due_arrival-due.ensures
 
-pub happen-what-requires-clause-may_come : goal.happen-what-requires-clause-may_come
-happen-what-requires-clause-may_come g c =
+pub happen_in-requires-clause-may_come : goal.happen_in-requires-clause-may_come
+happen_in-requires-clause-may_come g c =
     let exec = c.args.exec.now in
     let set = exec.plan.tasks in
     let l = c.loop-entry in
@@ -74,24 +74,24 @@ tell-requires-in-loop-entry-clause-named g c =
     let exec = c.args.exec.now in
     let set = exec.plan.tasks in
     let l = c.loop-entry in
-    let named = happened-named (TookShown (g.W.Taker.took set c.args.taker.now l.taker) exec.plan l.entry.shown) exec.plan l.exec (trace set c.args.arrivals.now c.args.slots) c.args.slots l.next c.now-time.result c.args.arrivals.now l.invariant.under_way c.now-time.ensures.time c.requires.fitting l.invariant.last c.happen-what.new.exec c.due_arrival-due.result c.happen-what.result c.now.ensures.kept.plan c.due_arrival-due.ensures c.happen-what.ensures.does in
-    ap (what_in_set c.happen-what.new.exec.plan.tasks) c.renew-read.ensures.what ∙ named
+    let named = happened-named (TookShown (g.W.Taker.took set c.args.taker.now l.taker) exec.plan l.entry.shown) exec.plan l.exec (trace set c.args.arrivals.now c.args.slots) c.args.slots l.next c.now-time.result c.args.arrivals.now l.invariant.under_way c.now-time.ensures.time c.requires.fitting l.invariant.last c.happen_in.new.exec c.due_arrival-due.result c.happen_in.new.what c.now.ensures.kept.plan c.due_arrival-due.ensures c.happen_in.ensures.does in
+    ap (what_in_set c.happen_in.new.exec.plan.tasks) c.renew-read.ensures.what ∙ named
 
 -- what happened is told with its spans
-with_spans : (g : Over) (c : After-happen-what g) (shown : ShownSpans) → spans_text c.happen-what.result shown ≡ spans_text Start shown
+with_spans : (g : Over) (c : After-happen_in g) (shown : ShownSpans) → spans_text c.happen_in.new.what shown ≡ spans_text Start shown
 with_spans g c =
-    spans-done c.loop-entry.exec c.happen-what.new.exec (next_occurrence c.due_arrival-due.result) c.happen-what.result c.happen-what.ensures.does
+    spans-done c.loop-entry.exec c.happen_in.new.exec (next_occurrence c.due_arrival-due.result) c.happen_in.new.what c.happen_in.ensures.does
 
 -- where no spans were read they are those of the last entry, of which the text is kept
 pub tell-requires-in-loop-entry-clause-kept : goal.tell-requires-in-loop-entry-clause-kept
 tell-requires-in-loop-entry-clause-kept g c = λ stay.
-    let o = (goal.at.tell-requires-in-loop-entry-clause-kept g c).After-happen-what in
+    let o = (goal.at.tell-requires-in-loop-entry-clause-kept g c).After-happen_in in
     let l = c.loop-entry in
     let same = c.renew-read.ensures.kept (sym c.renew-read.ensures.told ∙ stay) in
-    keeps-again (g.W.Teller.keeps l.taker) c.now-time.result c.happen-what.result l.entry c.renew-read.new.entry same (with_spans g o) l.invariant.keeps
+    keeps-again (g.W.Teller.keeps l.taker) c.now-time.result c.happen_in.new.what l.entry c.renew-read.new.entry same (with_spans g o) l.invariant.keeps
 
 -- the next place is that after what is due
-next_place : (g : Over) (c : After-happen-what g) → place_after c.due_arrival-due.result c.loop-entry.next ≡ c.if-is_some.next
+next_place : (g : Over) (c : After-happen_in g) → place_after c.due_arrival-due.result c.loop-entry.next ≡ c.if-is_some.next
 next_place g c =
     let due = c.due_arrival-due.result in
     let next = c.loop-entry.next in
@@ -101,13 +101,13 @@ next_place g c =
     ]
 
 -- the replay was on the way
-on_the_way : (g : Over) (c : After-happen-what g) → is_on_the_way c.args.arrivals.now c.args.slots c.args.place c.loop-entry.next c.now-time.result ≡ true
+on_the_way : (g : Over) (c : After-happen_in g) → is_on_the_way c.args.arrivals.now c.args.slots c.args.place c.loop-entry.next c.now-time.result ≡ true
 on_the_way g c =
     let same : c.now.result ≡ c.now-time.result = omega (arith, c.now.ensures.time, c.now-time.ensures.time) in
     on_the_way-told c.args.arrivals.now c.args.slots c.args.place c.loop-entry.next c.now.result c.now-time.result true c.is_on_the_way.result c.is_on_the_way.ensures c.loop-entry-test.true same
 
 -- what happened is to be told
-happened : (g : Over) (c : After-happen-what g) → IsToTell (TookShown (g.W.Taker.took c.args.exec.now.plan.tasks c.args.taker.now c.loop-entry.taker) c.args.exec.now.plan c.loop-entry.entry.shown) c.args.exec.now.plan c.happen-what.new.exec (trace c.args.exec.now.plan.tasks c.args.arrivals.now c.args.slots) c.args.slots (drop c.if-is_some.next c.args.arrivals.now) c.now-time.result c.happen-what.result
+happened : (g : Over) (c : After-happen_in g) → IsToTell (TookShown (g.W.Taker.took c.args.exec.now.plan.tasks c.args.taker.now c.loop-entry.taker) c.args.exec.now.plan c.loop-entry.entry.shown) c.args.exec.now.plan c.happen_in.new.exec (trace c.args.exec.now.plan.tasks c.args.arrivals.now c.args.slots) c.args.slots (drop c.if-is_some.next c.args.arrivals.now) c.now-time.result c.happen_in.new.what
 happened g c =
     let plan = c.args.exec.now.plan in
     let l = c.loop-entry in
@@ -115,30 +115,30 @@ happened g c =
     let arrivals = c.args.arrivals.now in
     let took = TookShown (g.W.Taker.took plan.tasks c.args.taker.now l.taker) plan l.entry.shown in
     let whole = trace plan.tasks arrivals n in
-    let after = c.happen-what.new.exec in
+    let after = c.happen_in.new.exec in
     let time = c.now-time.result in
     let due = c.due_arrival-due.result in
-    let t = IsToTell-happened took plan l.exec whole n l.next time arrivals l.invariant.under_way c.now-time.ensures.time c.requires.fitting l.invariant.last after due c.happen-what.result c.due_arrival-due.ensures (on_the_way-early arrivals n c.args.place l.next time (on_the_way g c)) c.happen-what.ensures.does in
-    subst (λ k. IsToTell took plan after whole n (drop k arrivals) time c.happen-what.result) (next_place g c) t
+    let t = IsToTell-happened took plan l.exec whole n l.next time arrivals l.invariant.under_way c.now-time.ensures.time c.requires.fitting l.invariant.last after due c.happen_in.new.what c.due_arrival-due.ensures (on_the_way-early arrivals n c.args.place l.next time (on_the_way g c)) c.happen_in.ensures.does in
+    subst (λ k. IsToTell took plan after whole n (drop k arrivals) time c.happen_in.new.what) (next_place g c) t
 
 -- the last row counts the arrivals that were answered
-last_happened : (g : Over) (c : After-happen-what g) → c.happen-what.new.exec.last_row ≡ c.if-is_some.next
+last_happened : (g : Over) (c : After-happen_in g) → c.happen_in.new.exec.last_row ≡ c.if-is_some.next
 last_happened g c =
     let exec = c.args.exec.now in
     let l = c.loop-entry in
     let took = TookShown (g.W.Taker.took exec.plan.tasks c.args.taker.now l.taker) exec.plan l.entry.shown in
-    last-happened took exec.plan l.exec (trace exec.plan.tasks c.args.arrivals.now c.args.slots) c.args.slots l.next c.now-time.result c.args.arrivals.now l.invariant.under_way c.now-time.ensures.time c.requires.fitting l.invariant.last c.happen-what.new.exec c.due_arrival-due.result c.happen-what.result c.due_arrival-due.ensures c.happen-what.ensures.does
+    last-happened took exec.plan l.exec (trace exec.plan.tasks c.args.arrivals.now c.args.slots) c.args.slots l.next c.now-time.result c.args.arrivals.now l.invariant.under_way c.now-time.ensures.time c.requires.fitting l.invariant.last c.happen_in.new.exec c.due_arrival-due.result c.happen_in.new.what c.due_arrival-due.ensures c.happen_in.ensures.does
     ∙ next_place g c
 
 -- it does not pass the place
-next_within : (g : Over) (c : After-happen-what g) → c.if-is_some.next ≤ c.args.place
+next_within : (g : Over) (c : After-happen_in g) → c.if-is_some.next ≤ c.args.place
 next_within g c =
     let within = place_after-within c.args.arrivals.now c.args.slots c.args.place c.loop-entry.next c.now-time.result c.due_arrival-due.result c.due_arrival-due.ensures (on_the_way g c) c.loop-entry.invariant.within in
     subst (λ k. k ≤ c.args.place) (next_place g c) within
 
 pub loop-entry-smaller : goal.loop-entry-smaller
 loop-entry-smaller g c =
-    let o = (goal.at.loop-entry-smaller g c).After-happen-what in
+    let o = (goal.at.loop-entry-smaller g c).After-happen_in in
     let plan = c.args.exec.now.plan in
     let l = c.loop-entry in
     let n = c.args.slots in
@@ -147,18 +147,18 @@ loop-entry-smaller g c =
     let whole = trace plan.tasks arrivals n in
     let due = c.due_arrival-due.result in
     let time = c.now-time.result in
-    let later = time-happened took plan l.exec whole n l.next time arrivals l.invariant.under_way c.now-time.ensures.time c.requires.fitting l.invariant.last c.happen-what.new.exec due c.happen-what.result c.happen-what.ensures.does in
+    let later = time-happened took plan l.exec whole n l.next time arrivals l.invariant.under_way c.now-time.ensures.time c.requires.fitting l.invariant.last c.happen_in.new.exec due c.happen_in.new.what c.happen_in.ensures.does in
     let within : place_after due l.next ≤ length arrivals = omega (arith, next_place g o, next_within g o, c.requires.place) in
     let falls = left-falls due n l.next time (length arrivals) within (on_the_way-early arrivals n c.args.place l.next time (on_the_way g o)) in
     omega (arith, falls, later, next_place g o, c.now-time.ensures.time)
 
 pub loop-entry-preserved : goal.loop-entry-preserved
 loop-entry-preserved g c =
-    let o = (goal.at.loop-entry-preserved g c).After-happen-what in
+    let o = (goal.at.loop-entry-preserved g c).After-happen_in in
     let plan = c.args.exec.now.plan in
     let n = c.args.slots in
     let arrivals = c.args.arrivals.now in
-    let what = c.happen-what.result in
+    let what = c.happen_in.new.what in
     let time = c.now-time.result in
     let first = c.args.taker.now in
     let last = c.loop-entry.taker in
@@ -167,7 +167,7 @@ loop-entry-preserved g c =
     let rest = drop c.if-is_some.next arrivals in
     let t = happened g o in
     let whole = trace plan.tasks arrivals n in
-    let after = c.happen-what.new.exec in
+    let after = c.happen_in.new.exec in
     let e = c.renew-read.new.entry in
     let same = entry-renewed (took last) plan after whole n rest time what c.loop-entry.entry e t c.renew-read.ensures.read c.renew-read.ensures.kept in
     let one = subst (λ (p : PlanParts). g.W.Taker.took p.tasks last next (e ∷ [])) t.plan_is c.in_ok-tell-2.ensures.took in
@@ -182,11 +182,11 @@ loop-entry-preserved g c =
 
 pub returns-in_err-tell-2-clause-broke : goal.returns-in_err-tell-2-clause-broke
 returns-in_err-tell-2-clause-broke g c =
-    let o = (goal.at.returns-in_err-tell-2-clause-broke g c).After-happen-what in
+    let o = (goal.at.returns-in_err-tell-2-clause-broke g c).After-happen_in in
     let plan = c.args.exec.now.plan in
     let n = c.args.slots in
     let arrivals = c.args.arrivals.now in
-    let what = c.happen-what.result in
+    let what = c.happen_in.new.what in
     let time = c.now-time.result in
     let first = c.args.taker.now in
     let last = c.loop-entry.taker in
@@ -196,7 +196,7 @@ returns-in_err-tell-2-clause-broke g c =
     let rest = drop c.if-is_some.next arrivals in
     let t = happened g o in
     let whole = trace plan.tasks arrivals n in
-    let after = c.happen-what.new.exec in
+    let after = c.happen_in.new.exec in
     let e = c.renew-read.new.entry in
     let same = entry-renewed (took last) plan after whole n rest time what c.loop-entry.entry e t c.renew-read.ensures.read c.renew-read.ensures.kept in
     let one = subst (λ (p : PlanParts). g.W.Taker.broke p.tasks last next (e ∷ [])) t.plan_is c.in_err-tell-2.ensures.broke in

@@ -9,22 +9,22 @@ use Rattle.arrival_replay.proofs.tell_answer.Goals as goal
 
 pub returns-clause-entry : goal.returns-clause-entry
 returns-clause-entry g c = λ h stands.
-    let does = c.answer-what.ensures.does in
-    let what = c.answer-what.result in
-    let same = line-told c.args.exec.now c.answer-what.new.exec (arrive c.args.arrival.row c.args.arrival.event) what c.now-time.result h c.now-time.ensures.time stands does in
+    let does = c.answer.ensures.does in
+    let what = c.answer.new.what in
+    let same = line-told c.args.exec.now c.answer.new.exec (arrive c.args.arrival.row c.args.arrival.event) what c.now-time.result h c.now-time.ensures.time stands does in
     subst (Appends (g.K.Sink.written c.args.out.now) (g.K.Sink.written c.tell_line.new.out)) same (c.in_ok-tell_line.ensures.line (what ∷ h) (does.stands h stands))
 
 pub returns-in_err-tell_line-clause-part : goal.returns-in_err-tell_line-clause-part
 returns-in_err-tell_line-clause-part g c = λ h stands.
-    let does = c.answer-what.ensures.does in
-    let what = c.answer-what.result in
-    let same = line-told c.args.exec.now c.answer-what.new.exec (arrive c.args.arrival.row c.args.arrival.event) what c.now-time.result h c.now-time.ensures.time stands does in
+    let does = c.answer.ensures.does in
+    let what = c.answer.new.what in
+    let same = line-told c.args.exec.now c.answer.new.exec (arrive c.args.arrival.row c.args.arrival.event) what c.now-time.result h c.now-time.ensures.time stands does in
     OnErr-anyhow c.from_residual.result (subst (AppendsPart (g.K.Sink.written c.args.out.now) (g.K.Sink.written c.tell_line.new.out)) same (c.in_err-tell_line.ensures.part (what ∷ h) (does.stands h stands)))
 
 pub returns-clause-stands : goal.returns-clause-stands
 returns-clause-stands g c = λ h stands.
-    stands-told c.args.exec.now c.answer-what.new.exec (arrive c.args.arrival.row c.args.arrival.event) c.answer-what.result h stands c.answer-what.ensures.does
+    stands-told c.args.exec.now c.answer.new.exec (arrive c.args.arrival.row c.args.arrival.event) c.answer.new.what h stands c.answer.ensures.does
 
 pub returns-in_err-tell_line-clause-stands : goal.returns-in_err-tell_line-clause-stands
 returns-in_err-tell_line-clause-stands g c = λ h stands.
-    stands-told c.args.exec.now c.answer-what.new.exec (arrive c.args.arrival.row c.args.arrival.event) c.answer-what.result h stands c.answer-what.ensures.does
+    stands-told c.args.exec.now c.answer.new.exec (arrive c.args.arrival.row c.args.arrival.event) c.answer.new.what h stands c.answer.ensures.does

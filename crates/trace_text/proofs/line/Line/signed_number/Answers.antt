@@ -4,8 +4,8 @@ use Rattle.std.proofs.lemmas.Fmt.{length-decimal-le}
 use Rattle.trace_text.proofs.line.Line.signed_number.Goals as goal
 use Rattle.trace_text.proofs.line.Line.signed_number.Goals.{then-n-lt0, else-n-lt0}
 
-pub push_decimal-requires : goal.push_decimal-requires
-push_decimal-requires c =
+pub push_decimal-requires-clause-digits : goal.push_decimal-requires-clause-digits
+push_decimal-requires-clause-digits c =
     let digits = length-decimal-le 19 c.unsigned_abs.result (omega arith) (omega arith) (omega arith) in
     elim c.if-n-lt0.branch [
       | then-n-lt0 w ↦ omega (arith, ap length w.self-is, simp length-append at (ap length w.push.ensures))
