@@ -18,6 +18,10 @@ use std::collections::VecDeque;
 use std::marker::Model;
 use std::sync::ledger::Ledger;
 
+/// Of the jobs that have come, how many of the last are looked at one by one for the place of
+/// another.
+const LAST_FEW: usize = 16;
+
 /// Guaranteed jobs that have slots left to run, no two of one key. Contracts see them as a list,
 /// and with it how many jobs the queue has places for, at most 2^20. All times are in slots.
 ///
@@ -564,6 +568,7 @@ fn is_ready(job: &Job, now: u64, key: Key) -> bool
 
 /// Puts the job among these, of which the one that earliest deadline first takes first stands last.
 /// One step a job looked at.
+#[inline(always)]
 fn put_in_order<L: Ledger>(come: &mut MarkedJobs, job: &Job, steps: &mut Steps<L>)
     requires order { IsEarliestLast come.old.items }
     requires place { length come.old.items < come.old.places }
@@ -577,8 +582,9 @@ fn put_in_order<L: Ledger>(come: &mut MarkedJobs, job: &Job, steps: &mut Steps<L
 }
 
 /// The place of the job among these, of which the one that earliest deadline first takes first
-/// stands last: it goes before the one that stands there then, and not before the next. The search
-/// halves them. One step a job looked at.
+/// stands last: it goes before the one that stands there then, and not before the next. Mostly that
+/// is near the end, so the last few are looked at one by one, and a search halves the others. One
+/// step a job looked at.
 fn place_in_order<L: Ledger>(come: &[Job], job: &Job, steps: &mut Steps<L>) -> usize
     requires order { IsEarliestLast come.now }
     ensures within { result ≤ length come.now }
@@ -588,8 +594,33 @@ fn place_in_order<L: Ledger>(come: &[Job], job: &Job, steps: &mut Steps<L>) -> u
         → is_earlier (slice_index_or come.now (result - 1) d) job.now ≡ false }
     ensures steps { steps.old ≤ steps.new }
 {
+    let count = come.len();
+    for behind in 0..count.min(LAST_FEW) {
+        let place = count - behind;
+        steps.tick();
+        if !is_earlier(&come[place - 1], job) {
+            return place;
+        }
+    }
+    place_before(come, count.saturating_sub(LAST_FEW), job, steps)
+}
+
+/// The same, where the job goes before each from this place on. The search halves the others.
+#[inline(never)]
+fn place_before<L: Ledger>(come: &[Job], end: usize, job: &Job, steps: &mut Steps<L>) -> usize
+    requires order { IsEarliestLast come.now }
+    requires end { end ≤ length come.now }
+    requires beyond { (i : ℕ) (d : Job) → end ≤ i → i < length come.now
+        → is_earlier (slice_index_or come.now i d) job.now ≡ true }
+    ensures within { result ≤ length come.now }
+    ensures behind { (i : ℕ) (d : Job) → result ≤ i → i < length come.now
+        → is_earlier (slice_index_or come.now i d) job.now ≡ true }
+    ensures before { (d : Job) → 1 ≤ result
+        → is_earlier (slice_index_or come.now (result - 1) d) job.now ≡ false }
+    ensures steps { steps.old ≤ steps.new }
+{
     let mut low = 0;
-    let mut high = come.len();
+    let mut high = end;
     while low < high {
         let middle = low + (high - low) / 2;
         steps.tick();
