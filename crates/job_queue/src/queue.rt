@@ -3,6 +3,7 @@
 ghost use Rattle.std.specs.Prelude.{◌≡◌, ℕ, ◌+◌, ◌-◌, ◌<◌, ◌≤◌, ◌^◌, ◌&&◌, [], ◌∷◌, ◌++◌, false, true, nat_le, not, filter, find, fold, length, count_by, position, remove, reverse, slice_get, slice_index_or, None, Some, IfOk, IfSome, IsTrue};
 ghost use Rattle.std.specs.List.Sorted.{IsNonDecreasingBy};
 ghost use Rattle.std.specs.Option.{option_copied};
+ghost use Rattle.std.specs.VecDeque.{deque_capacity, deque_len};
 ghost use Rattle.slot_core.specs.declared.jobs.Job.{Job};
 ghost use Rattle.slot_core.specs.Offline.Keys.{is_earlier, is_soft, same_key};
 ghost use Rattle.slot_core.specs.Runs.Choice.{earlier_of, earliest, ready};
@@ -26,9 +27,10 @@ const LAST_FEW: usize = 16;
 /// and with it how many jobs the queue has places for, at most 2^20. All times are in slots.
 ///
 /// The listed jobs stand in order of start. A job that starts no earlier than the last of them is
-/// listed behind it; each other job stands beside, in no order. `come` takes jobs that may start
-/// out of both, and puts them in order of earliest deadline first. Places for all jobs are reserved
-/// in each part when the queue is made, so no later call takes memory.
+/// listed behind it, where one more has a place there; each other job stands beside, in no order.
+/// `come` takes jobs that may start out of both, and puts them in order of earliest deadline first.
+/// Places are reserved when the queue is made, beside and for those that have come as many as for
+/// all jobs, so no later call takes memory.
 ///
 /// A step is a job that is looked at. A search for a key looks at the jobs beside first, then at
 /// those that have come and at the listed ones from the front, and stops at the job of that key. A
@@ -44,7 +46,6 @@ pub struct JobQueue {
 
 impl Model for JobQueue {
     ghost use Rattle.std.specs.Prelude.{◌++◌, reverse, vec_capacity};
-    ghost use Rattle.std.specs.VecDeque.{deque_capacity};
     ghost use Rattle.job_queue.specs.Queues.{KeepsQueue, QueueParts};
 
     ghost Value = { QueueParts };
@@ -55,13 +56,23 @@ impl Model for JobQueue {
     } };
 
     ghost invariant = { λ q. KeepsQueue q.beside.items q.come.items q.listed.items q.capacity
-        (vec_capacity q.beside) q.come.places (deque_capacity q.listed) };
+        (vec_capacity q.beside) q.come.places };
 }
 
 impl JobQueue {
-    /// An empty queue with places for `n` jobs. Only this call takes memory: that of the places,
-    /// and 2 KB of marks.
+    /// An empty queue with places for `n` jobs, all of which may stand listed.
     pub fn with_capacity(alloc: Global, n: u32) -> Result<JobQueue, Memory>
+        requires some { 1 ≤ n }
+        requires few { n ≤ 2 ^ 20 }
+        ensures { IfOk result (λ made. made ≡ record { jobs = []; capacity = n }) }
+    {
+        JobQueue::with_listed(alloc, n, n as usize)
+    }
+
+    /// An empty queue with places for `n` jobs, of which so many may stand listed: fewer than all
+    /// where no more are listed at a time, so that jobs which pass through the list touch less
+    /// memory. Only this call takes memory: that of the places, and 2 KB of marks.
+    pub fn with_listed(alloc: Global, n: u32, listed: usize) -> Result<JobQueue, Memory>
         requires some { 1 ≤ n }
         requires few { n ≤ 2 ^ 20 }
         ensures { IfOk result (λ made. made ≡ record { jobs = []; capacity = n }) }
@@ -69,7 +80,7 @@ impl JobQueue {
         Ok(JobQueue {
             beside: Vec::with_capacity(alloc, n as usize)?,
             come: MarkedJobs::with_capacity(alloc, n as usize)?,
-            listed: VecDeque::with_capacity(alloc, n as usize)?,
+            listed: VecDeque::with_capacity(alloc, listed)?,
             capacity: n,
         })
     }
@@ -110,7 +121,7 @@ impl JobQueue {
         ensures one_step { steps.new ≡ steps.old + 1 }
     {
         steps.tick();
-        if starts_last(&self.listed, &job) {
+        if has_place(&self.listed) && starts_last(&self.listed, &job) {
             self.listed.push_back_reserved(job);
         } else {
             self.beside.push_reserved(job);
@@ -404,6 +415,13 @@ impl JobQueue {
             self.listed.remove(place - beside - come)
         }
     }
+}
+
+/// Whether one more job may be listed.
+fn has_place(listed: &VecDeque<Job>) -> bool
+    ensures { IsTrue result → deque_len listed.now < deque_capacity listed.now }
+{
+    listed.len() < listed.capacity()
 }
 
 /// Whether the job starts no earlier than each of these, which stand in order of start.
