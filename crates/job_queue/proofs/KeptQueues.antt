@@ -57,18 +57,16 @@ pub record Parts : Type 0 where
   pub listed : List Job
   pub places_beside : ℕ
   pub places_come : ℕ
-  pub places_listed : ℕ
 
 -- parts of these jobs and places
-abbrev pub parts_of : List Job → List Job → List Job → ℕ → ℕ → ℕ → Parts
-parts_of beside come listed places_beside places_come places_listed =
+abbrev pub parts_of : List Job → List Job → List Job → ℕ → ℕ → Parts
+parts_of beside come listed places_beside places_come =
     record {
       beside = beside;
       come = come;
       listed = listed;
       places_beside = places_beside;
       places_come = places_come;
-      places_listed = places_listed;
     }
 
 -- the jobs of three parts
@@ -78,11 +76,11 @@ jobs_of parts = parts.beside ++ reverse parts.come ++ parts.listed
 -- three parts are kept
 abbrev pub AreKept : ℕ → Parts → Type 0
 AreKept n parts =
-    KeepsQueue parts.beside parts.come parts.listed n parts.places_beside parts.places_come parts.places_listed
+    KeepsQueue parts.beside parts.come parts.listed n parts.places_beside parts.places_come
 
 -- so parts with the same jobs, in the orders that are due, are kept
-AreKept-same : (n : ℕ) (old new : Parts) (jobs : List Job) → AreKept n old → HaveSameItems (jobs_of new) jobs → IsQueue (queue_of jobs n) → IsEarliestLast new.come → IsNonDecreasingBy (λ (j : Job). j.est) new.listed → old.places_beside ≤ new.places_beside → old.places_come ≤ new.places_come → old.places_listed ≤ new.places_listed → AreKept n new
-AreKept-same n old new jobs kept same queue latest_first ordered beside_fits come_fits listed_fits =
+AreKept-same : (n : ℕ) (old new : Parts) (jobs : List Job) → AreKept n old → HaveSameItems (jobs_of new) jobs → IsQueue (queue_of jobs n) → IsEarliestLast new.come → IsNonDecreasingBy (λ (j : Job). j.est) new.listed → old.places_beside ≤ new.places_beside → old.places_come ≤ new.places_come → AreKept n new
+AreKept-same n old new jobs kept same queue latest_first ordered beside_fits come_fits =
     record {
       queue = IsQueue-same n (jobs_of new) jobs same queue;
       latest_first = latest_first;
@@ -90,7 +88,6 @@ AreKept-same n old new jobs kept same queue latest_first ordered beside_fits com
       small = kept.small;
       beside_fits = omega (arith, kept.beside_fits);
       come_fits = omega (arith, kept.come_fits);
-      listed_fits = omega (arith, kept.listed_fits);
     }
 
 -- the queue may take the job in
@@ -130,15 +127,15 @@ AreKept-push_beside n places old job kept may more =
     let new = record old { beside = old.beside ++ job ∷ []; places_beside = places } in
     let same : HaveSameItems (jobs_of new) (jobs_of old ++ job ∷ []) =
     λ f. omega (arith, sum_by-parts f new.beside new.come new.listed, sum_by_push f old.beside job, sum_by_push f (jobs_of old) job, sum_by-parts f old.beside old.come old.listed) in
-    AreKept-same n old new (jobs_of old ++ job ∷ []) kept same (IsQueue-push n (jobs_of old) job kept.queue may) kept.latest_first kept.ordered more (omega arith) (omega arith)
+    AreKept-same n old new (jobs_of old ++ job ∷ []) kept same (IsQueue-push n (jobs_of old) job kept.queue may) kept.latest_first kept.ordered more (omega arith)
 
 -- a queue with one more listed job
-pub AreKept-push_listed : (n places : ℕ) (old : Parts) (job : Job) → AreKept n old → MayInsert (queue_of (jobs_of old) n) job → IsNonDecreasingBy (λ (j : Job). j.est) (old.listed ++ job ∷ []) → old.places_listed ≤ places → AreKept n (record old { listed = old.listed ++ job ∷ []; places_listed = places })
-AreKept-push_listed n places old job kept may ordered more =
-    let new = record old { listed = old.listed ++ job ∷ []; places_listed = places } in
+pub AreKept-push_listed : (n : ℕ) (old : Parts) (job : Job) → AreKept n old → MayInsert (queue_of (jobs_of old) n) job → IsNonDecreasingBy (λ (j : Job). j.est) (old.listed ++ job ∷ []) → AreKept n (record old { listed = old.listed ++ job ∷ [] })
+AreKept-push_listed n old job kept may ordered =
+    let new = record old { listed = old.listed ++ job ∷ [] } in
     let same : HaveSameItems (jobs_of new) (jobs_of old ++ job ∷ []) =
     λ f. omega (arith, sum_by-parts f new.beside new.come new.listed, sum_by_push f old.listed job, sum_by_push f (jobs_of old) job, sum_by-parts f old.beside old.come old.listed) in
-    AreKept-same n old new (jobs_of old ++ job ∷ []) kept same (IsQueue-push n (jobs_of old) job kept.queue may) kept.latest_first ordered (omega arith) (omega arith) more
+    AreKept-same n old new (jobs_of old ++ job ∷ []) kept same (IsQueue-push n (jobs_of old) job kept.queue may) kept.latest_first ordered (omega arith) (omega arith)
 
 -- the parts have the same jobs after one of them has come
 pub record HasCome (job : Job) (old new : Parts) : Type 0 where
@@ -149,7 +146,6 @@ pub record HasCome (job : Job) (old new : Parts) : Type 0 where
   pub ordered : IsNonDecreasingBy (λ (j : Job). j.est) new.listed
   pub beside_fits : old.places_beside ≤ new.places_beside
   pub come_fits : old.places_come ≤ new.places_come
-  pub listed_fits : old.places_listed ≤ new.places_listed
 
 pub same-come : (job : Job) (old new : Parts) → HasCome job old new → HaveSameItems (jobs_of new) (jobs_of old)
 same-come job old new has f =
@@ -177,12 +173,11 @@ HasCome-beside n places places_come job rest come old kept left last more latest
       ordered = kept.ordered;
       beside_fits = omega (arith, stays);
       come_fits = more_places;
-      listed_fits = omega arith;
     }
 
 -- the first listed job comes
-pub HasCome-listed : (n places places_come : ℕ) (job : Job) (rest come : List Job) (old : Parts) → AreKept n old → 0 < length old.listed → rest ≡ drop 1 old.listed → job ≡ get_or old.listed 0 job → HaveSameItems come (old.come ++ job ∷ []) → IsEarliestLast come → places ≡ old.places_listed → old.places_come ≤ places_come → HasCome job old (record old { come = come; listed = rest; places_come = places_come; places_listed = places })
-HasCome-listed n places places_come job rest come old kept some left first more latest_first stays more_places =
+pub HasCome-listed : (n places_come : ℕ) (job : Job) (rest come : List Job) (old : Parts) → AreKept n old → 0 < length old.listed → rest ≡ drop 1 old.listed → job ≡ get_or old.listed 0 job → HaveSameItems come (old.come ++ job ∷ []) → IsEarliestLast come → old.places_come ≤ places_come → HasCome job old (record old { come = come; listed = rest; places_come = places_come })
+HasCome-listed n places_come job rest come old kept some left first more latest_first more_places =
     record {
       left = λ f. omega (arith, ap (sum_by f) left, sum_by-drop_more f old.listed 0 job some, ap f first);
       come = more;
@@ -190,13 +185,12 @@ HasCome-listed n places places_come job rest come old kept some left first more 
       ordered = subst (IsNonDecreasingBy (λ (j : Job). j.est)) (sym left) (IsNonDecreasingBy-drop (λ (j : Job). j.est) 1 old.listed kept.ordered);
       beside_fits = omega arith;
       come_fits = more_places;
-      listed_fits = omega (arith, stays);
     }
 
 -- so it stays a queue
 pub AreKept-come : (n : ℕ) (job : Job) (old new : Parts) → AreKept n old → HasCome job old new → AreKept n new
 AreKept-come n job old new kept has =
-    AreKept-same n old new (jobs_of old) kept (same-come job old new has) kept.queue has.latest_first has.ordered has.beside_fits has.come_fits has.listed_fits
+    AreKept-same n old new (jobs_of old) kept (same-come job old new has) kept.queue has.latest_first has.ordered has.beside_fits has.come_fits
 
 -- what holds of each item holds of those left without the one at a place
 All-remove : {X : Type 0} (P : X → Type 0) (xs : List X) (i : ℕ) → All P xs → All P (remove xs i)
@@ -244,7 +238,6 @@ pub record IsGone (i : ℕ) (old new : Parts) : Type 0 where
   pub ordered : IsNonDecreasingBy (λ (j : Job). j.est) new.listed
   pub beside_fits : new.places_beside ≡ old.places_beside
   pub come_fits : new.places_come ≡ old.places_come
-  pub listed_fits : new.places_listed ≡ old.places_listed
 
 -- the others have stayed
 pub same-gone : (i : ℕ) (old new : Parts) → IsGone i old new → HaveSameItems (jobs_of new) (remove (jobs_of old) i)
@@ -254,7 +247,7 @@ same-gone i old new gone f =
 -- so it stays a queue
 pub AreKept-gone : (n i : ℕ) (old new : Parts) → AreKept n old → IsGone i old new → AreKept n new
 AreKept-gone n i old new kept gone =
-    AreKept-same n old new (remove (jobs_of old) i) kept (same-gone i old new gone) (IsQueue-remove n (jobs_of old) i nobody gone.inside kept.queue) gone.latest_first gone.ordered (omega (arith, gone.beside_fits)) (omega (arith, gone.come_fits)) (omega (arith, gone.listed_fits))
+    AreKept-same n old new (remove (jobs_of old) i) kept (same-gone i old new gone) (IsQueue-remove n (jobs_of old) i nobody gone.inside kept.queue) gone.latest_first gone.ordered (omega (arith, gone.beside_fits)) (omega (arith, gone.come_fits))
 
 -- a job beside is gone, and the last one beside has its place
 pub IsGone-beside : (n i places : ℕ) (x : Job) (old : Parts) → AreKept n old → i < length old.beside → places ≡ old.places_beside → IsGone i old (record old { beside = swap_remove old.beside i x; places_beside = places })
@@ -268,7 +261,6 @@ IsGone-beside n i places x old kept inside stays =
       ordered = kept.ordered;
       beside_fits = stays;
       come_fits = refl;
-      listed_fits = refl;
     }
 
 -- a job that has come is gone
@@ -284,12 +276,11 @@ IsGone-come n i k places old kept past inside from_end stays =
       ordered = kept.ordered;
       beside_fits = refl;
       come_fits = stays;
-      listed_fits = refl;
     }
 
 -- a listed job is gone
-pub IsGone-listed : (n i k places : ℕ) (old : Parts) → AreKept n old → i < length (jobs_of old) → length old.beside ≤ i → length old.come ≤ i - length old.beside → k ≡ i - length old.beside - length old.come → places ≡ old.places_listed → IsGone i old (record old { listed = remove old.listed k; places_listed = places })
-IsGone-listed n i k places old kept inside past further rest stays =
+pub IsGone-listed : (n i k : ℕ) (old : Parts) → AreKept n old → i < length (jobs_of old) → length old.beside ≤ i → length old.come ≤ i - length old.beside → k ≡ i - length old.beside - length old.come → IsGone i old (record old { listed = remove old.listed k })
+IsGone-listed n i k old kept inside past further rest =
     let within : k < length old.listed = omega (arith, length-parts old.beside old.come old.listed) in
     record {
       inside = inside;
@@ -300,7 +291,6 @@ IsGone-listed n i k places old kept inside past further rest stays =
       ordered = IsNonDecreasingBy-remove (λ (j : Job). j.est) old.listed k within kept.ordered;
       beside_fits = refl;
       come_fits = refl;
-      listed_fits = stays;
     }
 
 -- a run at a place leaves sums over the keys
@@ -340,12 +330,11 @@ pub record HasRun (i : ℕ) (old new : Parts) : Type 0 where
   pub ordered : IsNonDecreasingBy (λ (j : Job). j.est) new.listed
   pub beside_fits : new.places_beside ≡ old.places_beside
   pub come_fits : new.places_come ≡ old.places_come
-  pub listed_fits : new.places_listed ≡ old.places_listed
 
 -- so it stays a queue, where that job had another slot left
 pub AreKept-run : (n i : ℕ) (old new : Parts) → AreKept n old → i < length (jobs_of old) → ((d : Job) → 1 < (get_or (jobs_of old) i d).left) → HasRun i old new → AreKept n new
 AreKept-run n i old new kept inside more has =
-    AreKept-same n old new (after_run_at i (jobs_of old)) kept (λ f. ap (sum_by f) has.jobs) (IsQueue-after_run_at n (jobs_of old) i inside more kept.queue) has.latest_first has.ordered (omega (arith, has.beside_fits)) (omega (arith, has.come_fits)) (omega (arith, has.listed_fits))
+    AreKept-same n old new (after_run_at i (jobs_of old)) kept (λ f. ap (sum_by f) has.jobs) (IsQueue-after_run_at n (jobs_of old) i inside more kept.queue) has.latest_first has.ordered (omega (arith, has.beside_fits)) (omega (arith, has.come_fits))
 
 -- a job beside has run
 pub HasRun-beside : (n i places : ℕ) (old : Parts) → AreKept n old → i < length old.beside → places ≡ old.places_beside → HasRun i old (record old { beside = after_run_at i old.beside; places_beside = places })
@@ -358,7 +347,6 @@ HasRun-beside n i places old kept inside stays =
       ordered = kept.ordered;
       beside_fits = stays;
       come_fits = refl;
-      listed_fits = refl;
     }
 
 -- a job that has come has run
@@ -375,12 +363,11 @@ HasRun-come n i k places old kept past inside from_end stays =
       ordered = kept.ordered;
       beside_fits = refl;
       come_fits = stays;
-      listed_fits = refl;
     }
 
 -- a listed job has run
-pub HasRun-listed : (n i k places : ℕ) (old : Parts) → AreKept n old → length old.beside ≤ i → length old.come ≤ i - length old.beside → k ≡ i - length old.beside - length old.come → places ≡ old.places_listed → HasRun i old (record old { listed = after_run_at k old.listed; places_listed = places })
-HasRun-listed n i k places old kept past further rest stays =
+pub HasRun-listed : (n i k : ℕ) (old : Parts) → AreKept n old → length old.beside ≤ i → length old.come ≤ i - length old.beside → k ≡ i - length old.beside - length old.come → HasRun i old (record old { listed = after_run_at k old.listed })
+HasRun-listed n i k old kept past further rest =
     let front = old.beside ++ reverse old.come in
     let long : length front ≡ length old.beside + length old.come = omega (arith, length-append old.beside (reverse old.come), length-reverse old.come) in
     let same : i - length front ≡ k = omega arith in
@@ -390,5 +377,4 @@ HasRun-listed n i k places old kept past further rest stays =
       ordered = IsNonDecreasingBy-after_run_at k old.listed kept.ordered;
       beside_fits = refl;
       come_fits = refl;
-      listed_fits = stays;
     }

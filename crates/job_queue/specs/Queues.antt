@@ -28,9 +28,9 @@ IsEarliestLast jobs =
     → is_earlier (slice_index_or jobs i d) (slice_index_or jobs k d) ≡ false
 
 -- what a queue keeps of its jobs beside, of those that have come, the earliest last, and of its
--- listed ones, in order of start: in each part places are reserved for all
+-- listed ones, in order of start: in the first two parts places are reserved for all
 pub record KeepsQueue
-    (beside come listed : List Job) (capacity places_beside places_come places_listed : ℕ)
+    (beside come listed : List Job) (capacity places_beside places_come : ℕ)
     : Type 0 where
   pub queue : IsQueue (record { jobs = beside ++ reverse come ++ listed; capacity = capacity })
   pub latest_first : IsEarliestLast come
@@ -38,7 +38,6 @@ pub record KeepsQueue
   pub small : capacity ≤ 2 ^ 20
   pub beside_fits : capacity ≤ places_beside
   pub come_fits : capacity ≤ places_come
-  pub listed_fits : capacity ≤ places_listed
 
 -- how many jobs a search for this key looks at: those up to the one of that key, or all
 abbrev pub search_steps : Key → List Job → ℕ

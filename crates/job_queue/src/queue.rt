@@ -3,6 +3,7 @@
 ghost use Rattle.std.specs.Prelude.{◌≡◌, ℕ, ◌+◌, ◌-◌, ◌<◌, ◌≤◌, ◌^◌, ◌&&◌, [], ◌∷◌, ◌++◌, false, true, nat_le, not, filter, find, fold, length, count_by, position, remove, reverse, slice_get, slice_index_or, None, Some, IfOk, IfSome, IsTrue};
 ghost use Rattle.std.specs.List.Sorted.{IsNonDecreasingBy};
 ghost use Rattle.std.specs.Option.{option_copied};
+ghost use Rattle.std.specs.VecDeque.{deque_capacity, deque_len};
 ghost use Rattle.slot_core.specs.declared.jobs.Job.{Job};
 ghost use Rattle.slot_core.specs.Offline.Keys.{is_earlier, is_soft, same_key};
 ghost use Rattle.slot_core.specs.Runs.Choice.{earlier_of, earliest, ready};
@@ -18,13 +19,18 @@ use std::collections::VecDeque;
 use std::marker::Model;
 use std::sync::ledger::Ledger;
 
+/// Of the jobs that have come, how many of the last are looked at one by one for the place of
+/// another.
+const LAST_FEW: usize = 16;
+
 /// Guaranteed jobs that have slots left to run, no two of one key. Contracts see them as a list,
 /// and with it how many jobs the queue has places for, at most 2^20. All times are in slots.
 ///
 /// The listed jobs stand in order of start. A job that starts no earlier than the last of them is
-/// listed behind it; each other job stands beside, in no order. `come` takes jobs that may start
-/// out of both, and puts them in order of earliest deadline first. Places for all jobs are reserved
-/// in each part when the queue is made, so no later call takes memory.
+/// listed behind it, where one more has a place there; each other job stands beside, in no order.
+/// `come` takes jobs that may start out of both, and puts them in order of earliest deadline first.
+/// Places are reserved when the queue is made, beside and for those that have come as many as for
+/// all jobs, so no later call takes memory.
 ///
 /// A step is a job that is looked at. A search for a key looks at the jobs beside first, then at
 /// those that have come and at the listed ones from the front, and stops at the job of that key. A
@@ -40,7 +46,6 @@ pub struct JobQueue {
 
 impl Model for JobQueue {
     ghost use Rattle.std.specs.Prelude.{◌++◌, reverse, vec_capacity};
-    ghost use Rattle.std.specs.VecDeque.{deque_capacity};
     ghost use Rattle.job_queue.specs.Queues.{KeepsQueue, QueueParts};
 
     ghost Value = { QueueParts };
@@ -51,13 +56,23 @@ impl Model for JobQueue {
     } };
 
     ghost invariant = { λ q. KeepsQueue q.beside.items q.come.items q.listed.items q.capacity
-        (vec_capacity q.beside) q.come.places (deque_capacity q.listed) };
+        (vec_capacity q.beside) q.come.places };
 }
 
 impl JobQueue {
-    /// An empty queue with places for `n` jobs. Only this call takes memory: that of the places,
-    /// and 2 KB of marks.
+    /// An empty queue with places for `n` jobs, all of which may stand listed.
     pub fn with_capacity(alloc: Global, n: u32) -> Result<JobQueue, Memory>
+        requires some { 1 ≤ n }
+        requires few { n ≤ 2 ^ 20 }
+        ensures { IfOk result (λ made. made ≡ record { jobs = []; capacity = n }) }
+    {
+        JobQueue::with_listed(alloc, n, n as usize)
+    }
+
+    /// An empty queue with places for `n` jobs, of which so many may stand listed: fewer than all
+    /// where no more are listed at a time, so that jobs which pass through the list touch less
+    /// memory. Only this call takes memory: that of the places, and 2 KB of marks.
+    pub fn with_listed(alloc: Global, n: u32, listed: usize) -> Result<JobQueue, Memory>
         requires some { 1 ≤ n }
         requires few { n ≤ 2 ^ 20 }
         ensures { IfOk result (λ made. made ≡ record { jobs = []; capacity = n }) }
@@ -65,7 +80,7 @@ impl JobQueue {
         Ok(JobQueue {
             beside: Vec::with_capacity(alloc, n as usize)?,
             come: MarkedJobs::with_capacity(alloc, n as usize)?,
-            listed: VecDeque::with_capacity(alloc, n as usize)?,
+            listed: VecDeque::with_capacity(alloc, listed)?,
             capacity: n,
         })
     }
@@ -106,7 +121,7 @@ impl JobQueue {
         ensures one_step { steps.new ≡ steps.old + 1 }
     {
         steps.tick();
-        if starts_last(&self.listed, &job) {
+        if has_place(&self.listed) && starts_last(&self.listed, &job) {
             self.listed.push_back_reserved(job);
         } else {
             self.beside.push_reserved(job);
@@ -402,6 +417,13 @@ impl JobQueue {
     }
 }
 
+/// Whether one more job may be listed.
+fn has_place(listed: &VecDeque<Job>) -> bool
+    ensures { IsTrue result → deque_len listed.now < deque_capacity listed.now }
+{
+    listed.len() < listed.capacity()
+}
+
 /// Whether the job starts no earlier than each of these, which stand in order of start.
 fn starts_last(listed: &VecDeque<Job>, job: &Job) -> bool
     requires { IsNonDecreasingBy (λ j. j.est) listed.now.items }
@@ -564,6 +586,7 @@ fn is_ready(job: &Job, now: u64, key: Key) -> bool
 
 /// Puts the job among these, of which the one that earliest deadline first takes first stands last.
 /// One step a job looked at.
+#[inline(always)]
 fn put_in_order<L: Ledger>(come: &mut MarkedJobs, job: &Job, steps: &mut Steps<L>)
     requires order { IsEarliestLast come.old.items }
     requires place { length come.old.items < come.old.places }
@@ -577,8 +600,9 @@ fn put_in_order<L: Ledger>(come: &mut MarkedJobs, job: &Job, steps: &mut Steps<L
 }
 
 /// The place of the job among these, of which the one that earliest deadline first takes first
-/// stands last: it goes before the one that stands there then, and not before the next. The search
-/// halves them. One step a job looked at.
+/// stands last: it goes before the one that stands there then, and not before the next. Mostly that
+/// is near the end, so the last few are looked at one by one, and a search halves the others. One
+/// step a job looked at.
 fn place_in_order<L: Ledger>(come: &[Job], job: &Job, steps: &mut Steps<L>) -> usize
     requires order { IsEarliestLast come.now }
     ensures within { result ≤ length come.now }
@@ -588,8 +612,33 @@ fn place_in_order<L: Ledger>(come: &[Job], job: &Job, steps: &mut Steps<L>) -> u
         → is_earlier (slice_index_or come.now (result - 1) d) job.now ≡ false }
     ensures steps { steps.old ≤ steps.new }
 {
+    let count = come.len();
+    for behind in 0..count.min(LAST_FEW) {
+        let place = count - behind;
+        steps.tick();
+        if !is_earlier(&come[place - 1], job) {
+            return place;
+        }
+    }
+    place_before(come, count.saturating_sub(LAST_FEW), job, steps)
+}
+
+/// The same, where the job goes before each from this place on. The search halves the others.
+#[inline(never)]
+fn place_before<L: Ledger>(come: &[Job], end: usize, job: &Job, steps: &mut Steps<L>) -> usize
+    requires order { IsEarliestLast come.now }
+    requires end { end ≤ length come.now }
+    requires beyond { (i : ℕ) (d : Job) → end ≤ i → i < length come.now
+        → is_earlier (slice_index_or come.now i d) job.now ≡ true }
+    ensures within { result ≤ length come.now }
+    ensures behind { (i : ℕ) (d : Job) → result ≤ i → i < length come.now
+        → is_earlier (slice_index_or come.now i d) job.now ≡ true }
+    ensures before { (d : Job) → 1 ≤ result
+        → is_earlier (slice_index_or come.now (result - 1) d) job.now ≡ false }
+    ensures steps { steps.old ≤ steps.new }
+{
     let mut low = 0;
-    let mut high = come.len();
+    let mut high = end;
     while low < high {
         let middle = low + (high - low) / 2;
         steps.tick();

@@ -18,7 +18,8 @@ use std::alloc::Global;
 use std::marker::Brand;
 use std::sync::ledger::{Blank, Ledger};
 
-/// The queue of the jobs of the first three cycles, with room for three cycles of jobs.
+/// The queue of the jobs of the first three cycles, with room for three cycles of jobs. No more
+/// jobs of the plan stand listed at a time than those of three cycles.
 pub(crate) fn first_jobs(alloc: Global, plan: &Plan) -> Result<JobQueue, Memory>
     ensures jobs { IfOk result (λ queue. HaveSameItems
         queue.jobs
@@ -39,7 +40,7 @@ fn insert_first<L: Ledger>(alloc: Global, plan: &Plan, blank: Blank) -> Result<J
     ensures capacity { IfOk result (λ queue. queue.capacity ≡ job_room plan.now.cycle) }
 {
     let mut steps: Steps<L> = Steps::new(blank);
-    let mut queue = JobQueue::with_capacity(alloc, 3 * plan.cycle())?;
+    let mut queue = JobQueue::with_listed(alloc, 3 * plan.cycle(), 3 * plan.jobs().len())?;
     for n in 0..3 {
         insert_cycle(&mut queue, plan, n, &mut steps);
     }

@@ -1,19 +1,23 @@
 -- Three cycles of jobs fit a queue for three cycles.
 use Rattle.std.proofs.Common.{arith}
 use Rattle.slot_facts.proofs.Plans.Items.{plan_cycle-bounds}
-use Rattle.scene_steps.proofs.Starts.FirstJobs.{first_cycles-apart, first_cycles-more, first_cycles-room}
+use Rattle.scene_steps.proofs.Starts.FirstJobs.{first_cycles-apart, first_cycles-more, first_cycles-room, plan_jobs-few}
 use Rattle.slot_exec.proofs.cycles.insert_first.Goals as goal
 
 pub overflow_mul-cycle : goal.overflow_mul-cycle
 overflow_mul-cycle g c =
     omega (arith, c.cycle.ensures.cycle, plan_cycle-bounds c.args.plan.now c.cycle.ensures.plan)
 
-pub with_capacity-requires-clause-some : goal.with_capacity-requires-clause-some
-with_capacity-requires-clause-some g c =
+pub overflow_mul-jobs : goal.overflow_mul-jobs
+overflow_mul-jobs g c =
+    omega (arith, plan_jobs-few c.args.plan.now c.cycle.ensures.plan, plan_cycle-bounds c.args.plan.now c.cycle.ensures.plan)
+
+pub with_listed-requires-clause-some : goal.with_listed-requires-clause-some
+with_listed-requires-clause-some g c =
     omega (arith, c.cycle.ensures.cycle, plan_cycle-bounds c.args.plan.now c.cycle.ensures.plan)
 
-pub with_capacity-requires-clause-few : goal.with_capacity-requires-clause-few
-with_capacity-requires-clause-few g c =
+pub with_listed-requires-clause-few : goal.with_listed-requires-clause-few
+with_listed-requires-clause-few g c =
     omega (arith, c.cycle.ensures.cycle, plan_cycle-bounds c.args.plan.now c.cycle.ensures.plan)
 
 pub insert_cycle-requires-clause-free : goal.insert_cycle-requires-clause-free

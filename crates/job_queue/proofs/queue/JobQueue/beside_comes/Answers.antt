@@ -2,7 +2,6 @@ use Rattle.std.proofs.Common.{◌≡◌, ℕ, ◌-◌, List, length, take, sym, 
 use Rattle.std.specs.Prelude.{slice_get, sum_by, vec_capacity}
 use Rattle.std.specs.Vec.{vec_len}
 use Rattle.std.specs.Option.{option_copied}
-use Rattle.std.specs.VecDeque.{deque_capacity}
 use Rattle.slot_core.specs.declared.jobs.Job.{Job}
 use Rattle.job_queue.specs.Queues.{QueueParts}
 use Rattle.job_queue.proofs.KeptQueues.{AreKept-come, HasCome-beside, parts_of, same-come}
@@ -10,7 +9,7 @@ use Rattle.job_queue.proofs.queue.JobQueue.beside_comes.Goals as goal
 
 pub invariant_of-self : goal.invariant_of-self
 invariant_of-self g c =
-    let old = parts_of c.self.inside.beside.items c.self.inside.come.items c.self.inside.listed.items (vec_capacity c.self.inside.beside) c.self.inside.come.places (deque_capacity c.self.inside.listed) in
+    let old = parts_of c.self.inside.beside.items c.self.inside.come.items c.self.inside.listed.items (vec_capacity c.self.inside.beside) c.self.inside.come.places in
     let last = c.last.ensures.value ∙ ap (λ (js : List Job). slice_get js (length js - 1)) c.deref.ensures.value in
     let long : vec_len c.self.inside.beside ≡ length c.self.inside.beside.items = omega arith in
     let rest = c.pop.ensures.rest ∙ ap (λ (n : ℕ). take (n - 1) c.self.inside.beside.items) long in
@@ -19,7 +18,7 @@ invariant_of-self g c =
 
 pub returns-clause-jobs : goal.returns-clause-jobs
 returns-clause-jobs g c = λ f.
-    let old = parts_of c.self.inside.beside.items c.self.inside.come.items c.self.inside.listed.items (vec_capacity c.self.inside.beside) c.self.inside.come.places (deque_capacity c.self.inside.listed) in
+    let old = parts_of c.self.inside.beside.items c.self.inside.come.items c.self.inside.listed.items (vec_capacity c.self.inside.beside) c.self.inside.come.places in
     let last = c.last.ensures.value ∙ ap (λ (js : List Job). slice_get js (length js - 1)) c.deref.ensures.value in
     let long : vec_len c.self.inside.beside ≡ length c.self.inside.beside.items = omega arith in
     let rest = c.pop.ensures.rest ∙ ap (λ (n : ℕ). take (n - 1) c.self.inside.beside.items) long in

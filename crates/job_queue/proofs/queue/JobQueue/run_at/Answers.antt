@@ -1,6 +1,5 @@
 use Rattle.std.proofs.Common.{◌≡◌, ◌-◌, ◌<◌, get_or, length, refl, sym, ap, subst, ◌∙◌, arith}
 use Rattle.std.specs.Prelude.{vec_capacity}
-use Rattle.std.specs.VecDeque.{deque_capacity}
 use Rattle.slot_core.specs.declared.jobs.Job.{Job}
 use Rattle.job_queue.specs.Queues.{QueueParts, after_run_at}
 use Rattle.job_queue.proofs.Edits.{set-after_run_at}
@@ -9,7 +8,7 @@ use Rattle.job_queue.proofs.queue.JobQueue.run_at.Goals as goal
 
 pub invariant_of-self : goal.invariant_of-self
 invariant_of-self c =
-    let old = parts_of c.self.inside.beside.items c.self.inside.come.items c.self.inside.listed.items (vec_capacity c.self.inside.beside) c.self.inside.come.places (deque_capacity c.self.inside.listed) in
+    let old = parts_of c.self.inside.beside.items c.self.inside.come.items c.self.inside.listed.items (vec_capacity c.self.inside.beside) c.self.inside.come.places in
     let long = length-parts c.self.inside.beside.items c.self.inside.come.items c.self.inside.listed.items in
     let jobs = ap (λ (q : QueueParts). length q.jobs) c.self.view_is in
     let more = subst (λ (q : QueueParts). (d : Job) → 1 < (get_or q.jobs c.args.place d).left) (sym c.self.view_is) c.requires.more in
@@ -21,7 +20,7 @@ invariant_of-self c =
 
 pub returns-then-place-beside-clause-jobs : goal.returns-then-place-beside-clause-jobs
 returns-then-place-beside-clause-jobs c =
-    let old = parts_of c.self.inside.beside.items c.self.inside.come.items c.self.inside.listed.items (vec_capacity c.self.inside.beside) c.self.inside.come.places (deque_capacity c.self.inside.listed) in
+    let old = parts_of c.self.inside.beside.items c.self.inside.come.items c.self.inside.listed.items (vec_capacity c.self.inside.beside) c.self.inside.come.places in
     let run = HasRun-beside c.self.inside.capacity c.args.place (vec_capacity c.self.inside.beside) old c.self.invariant (omega arith) refl in
     let set = set-after_run_at c.args.place c.self.inside.beside.items c.index_mut.result.now (omega arith) c.index_mut.ensures.value in
     rw set (run.jobs ∙ ap (λ (q : QueueParts). after_run_at c.args.place q.jobs) c.self.view_is)
@@ -29,7 +28,7 @@ returns-then-place-beside-clause-jobs c =
 pub run-requires-clause-more : goal.run-requires-clause-more
 run-requires-clause-more c = λ d.
     let left = λ (j : Job). j.left in
-    let old = parts_of c.self.inside.beside.items c.self.inside.come.items c.self.inside.listed.items (vec_capacity c.self.inside.beside) c.self.inside.come.places (deque_capacity c.self.inside.listed) in
+    let old = parts_of c.self.inside.beside.items c.self.inside.come.items c.self.inside.listed.items (vec_capacity c.self.inside.beside) c.self.inside.come.places in
     let in_beside : length c.self.inside.beside.items ≡ c.len-beside.result = omega arith in
     let in_come : length c.self.inside.come.items ≡ c.len-come.result = omega arith in
     let more = subst (λ (q : QueueParts). (d : Job) → 1 < (get_or q.jobs c.args.place d).left) (sym c.self.view_is) c.requires.more in
@@ -39,7 +38,7 @@ run-requires-clause-more c = λ d.
 
 pub invariant_of-self-then-place-beside-2 : goal.invariant_of-self-then-place-beside-2
 invariant_of-self-then-place-beside-2 c =
-    let old = parts_of c.self.inside.beside.items c.self.inside.come.items c.self.inside.listed.items (vec_capacity c.self.inside.beside) c.self.inside.come.places (deque_capacity c.self.inside.listed) in
+    let old = parts_of c.self.inside.beside.items c.self.inside.come.items c.self.inside.listed.items (vec_capacity c.self.inside.beside) c.self.inside.come.places in
     let in_beside : length c.self.inside.beside.items ≡ c.len-beside.result = omega arith in
     let in_come : length c.self.inside.come.items ≡ c.len-come.result = omega arith in
     let long = length-parts c.self.inside.beside.items c.self.inside.come.items c.self.inside.listed.items in
@@ -53,7 +52,7 @@ invariant_of-self-then-place-beside-2 c =
 
 pub returns-then-place-beside-2-clause-jobs : goal.returns-then-place-beside-2-clause-jobs
 returns-then-place-beside-2-clause-jobs c =
-    let old = parts_of c.self.inside.beside.items c.self.inside.come.items c.self.inside.listed.items (vec_capacity c.self.inside.beside) c.self.inside.come.places (deque_capacity c.self.inside.listed) in
+    let old = parts_of c.self.inside.beside.items c.self.inside.come.items c.self.inside.listed.items (vec_capacity c.self.inside.beside) c.self.inside.come.places in
     let in_beside : length c.self.inside.beside.items ≡ c.len-beside.result = omega arith in
     let in_come : length c.self.inside.come.items ≡ c.len-come.result = omega arith in
     let k = c.len-come.result - 1 - (c.args.place - c.len-beside.result) in
@@ -64,7 +63,7 @@ pub overflow_sub-index_mut-else-place-beside-2 : goal.overflow_sub-index_mut-els
 overflow_sub-index_mut-else-place-beside-2 c =
     let left = λ (j : Job). j.left in
     let job = c.index_mut-else-place-beside-2.result.now in
-    let old = parts_of c.self.inside.beside.items c.self.inside.come.items c.self.inside.listed.items (vec_capacity c.self.inside.beside) c.self.inside.come.places (deque_capacity c.self.inside.listed) in
+    let old = parts_of c.self.inside.beside.items c.self.inside.come.items c.self.inside.listed.items (vec_capacity c.self.inside.beside) c.self.inside.come.places in
     let in_beside : length c.self.inside.beside.items ≡ c.len-beside.result = omega arith in
     let in_come : length c.self.inside.come.items ≡ c.len-come.result = omega arith in
     let more = subst (λ (q : QueueParts). (d : Job) → 1 < (get_or q.jobs c.args.place d).left) (sym c.self.view_is) c.requires.more in
@@ -74,14 +73,14 @@ overflow_sub-index_mut-else-place-beside-2 c =
 
 pub invariant_of-self-else-place-beside-2 : goal.invariant_of-self-else-place-beside-2
 invariant_of-self-else-place-beside-2 c =
-    let old = parts_of c.self.inside.beside.items c.self.inside.come.items c.self.inside.listed.items (vec_capacity c.self.inside.beside) c.self.inside.come.places (deque_capacity c.self.inside.listed) in
+    let old = parts_of c.self.inside.beside.items c.self.inside.come.items c.self.inside.listed.items (vec_capacity c.self.inside.beside) c.self.inside.come.places in
     let in_beside : length c.self.inside.beside.items ≡ c.len-beside.result = omega arith in
     let in_come : length c.self.inside.come.items ≡ c.len-come.result = omega arith in
     let long = length-parts c.self.inside.beside.items c.self.inside.come.items c.self.inside.listed.items in
     let jobs = ap (λ (q : QueueParts). length q.jobs) c.self.view_is in
     let more = subst (λ (q : QueueParts). (d : Job) → 1 < (get_or q.jobs c.args.place d).left) (sym c.self.view_is) c.requires.more in
     let k = c.args.place - c.len-beside.result - c.len-come.result in
-    let run = HasRun-listed c.self.inside.capacity c.args.place k (deque_capacity c.self.inside.listed) old c.self.invariant (omega arith) (omega arith) (omega arith) refl in
+    let run = HasRun-listed c.self.inside.capacity c.args.place k old c.self.invariant (omega arith) (omega arith) (omega arith) in
     let set = set-after_run_at k c.self.inside.listed.items c.index_mut-else-place-beside-2.result.now (omega (arith, long, jobs)) c.index_mut-else-place-beside-2.ensures.value in
     rw
     set
@@ -89,12 +88,12 @@ invariant_of-self-else-place-beside-2 c =
 
 pub returns-else-place-beside-2-clause-jobs : goal.returns-else-place-beside-2-clause-jobs
 returns-else-place-beside-2-clause-jobs c =
-    let old = parts_of c.self.inside.beside.items c.self.inside.come.items c.self.inside.listed.items (vec_capacity c.self.inside.beside) c.self.inside.come.places (deque_capacity c.self.inside.listed) in
+    let old = parts_of c.self.inside.beside.items c.self.inside.come.items c.self.inside.listed.items (vec_capacity c.self.inside.beside) c.self.inside.come.places in
     let in_beside : length c.self.inside.beside.items ≡ c.len-beside.result = omega arith in
     let in_come : length c.self.inside.come.items ≡ c.len-come.result = omega arith in
     let long = length-parts c.self.inside.beside.items c.self.inside.come.items c.self.inside.listed.items in
     let jobs = ap (λ (q : QueueParts). length q.jobs) c.self.view_is in
     let k = c.args.place - c.len-beside.result - c.len-come.result in
-    let run = HasRun-listed c.self.inside.capacity c.args.place k (deque_capacity c.self.inside.listed) old c.self.invariant (omega arith) (omega arith) (omega arith) refl in
+    let run = HasRun-listed c.self.inside.capacity c.args.place k old c.self.invariant (omega arith) (omega arith) (omega arith) in
     let set = set-after_run_at k c.self.inside.listed.items c.index_mut-else-place-beside-2.result.now (omega (arith, long, jobs)) c.index_mut-else-place-beside-2.ensures.value in
     rw set (run.jobs ∙ ap (λ (q : QueueParts). after_run_at c.args.place q.jobs) c.self.view_is)
