@@ -346,8 +346,8 @@ pub fn happen<T: SpareTable, L: Ledger>(
     what
 }
 
-/// `happen`, which writes what it was into this place at once: a copy of what was just written by
-/// parts waits for them.
+/// `happen`, which writes what it was into this place at once: a copy, in large pieces, of what was
+/// just written in small ones waits for them.
 #[inline(always)]
 fn happen_in<T: SpareTable, L: Ledger>(
     exec: &mut Exec<T>,

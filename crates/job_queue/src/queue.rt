@@ -29,8 +29,8 @@ const LAST_FEW: usize = 16;
 /// The listed jobs stand in order of start. A job that starts no earlier than the last of them is
 /// listed behind it, where one more has a place there; each other job stands beside, in no order.
 /// `come` takes jobs that may start out of both, and puts them in order of earliest deadline first.
-/// Places are reserved when the queue is made, beside and for those that have come as many as for
-/// all jobs, so no later call takes memory.
+/// Places are reserved when the queue is made: beside and for those that have come as many as for
+/// all jobs, and in the list as many as were asked for. So no later call takes memory.
 ///
 /// A step is a job that is looked at. A search for a key looks at the jobs beside first, then at
 /// those that have come and at the listed ones from the front, and stops at the job of that key. A
@@ -71,7 +71,7 @@ impl JobQueue {
 
     /// An empty queue with places for `n` jobs, of which so many may stand listed: fewer than all
     /// where no more are listed at a time, so that jobs which pass through the list touch less
-    /// memory. Only this call takes memory: that of the places, and 2 KB of marks.
+    /// memory. Only this call and `with_capacity` take memory: that of the places, and 2 KB of marks.
     pub fn with_listed(alloc: Global, n: u32, listed: usize) -> Result<JobQueue, Memory>
         requires some { 1 ≤ n }
         requires few { n ≤ 2 ^ 20 }
@@ -110,7 +110,7 @@ impl JobQueue {
         *self.job(i as usize)
     }
 
-    /// Adds a job. One step: it looks at the last listed job.
+    /// Adds a job. One step: it looks at the last listed job, where one more may be listed.
     pub fn insert<L: Ledger>(&mut self, job: Job, steps: &mut Steps<L>)
         requires free { length self.old.jobs < self.old.capacity }
         requires fresh { count_by (λ j. same_key j.key job.key) self.old.jobs ≡ 0 }

@@ -15,7 +15,7 @@ use std::io::Write;
 use std::process::ExitCode;
 use std::rt::{Env, Files};
 
-/// More bytes than any one table of a run takes.
+/// More bytes than any table of a run takes, and any file but a recorded trace.
 const HEAP_SIZE: usize = 16 << 20;
 
 /// Runs over these streams and the arguments and files of the host, and gives the number of the
@@ -73,7 +73,7 @@ where
 /// Takes a block that nothing is written to, and gives it back. The C library's allocator then
 /// takes all smaller blocks from one heap, and keeps what they give back: so the tables of a run
 /// lie where its files were read, in memory that the system has handed over already. Where there is
-/// no such block, nothing is lost.
+/// no such block its answer is dropped, since nothing hangs on it.
 fn keep_given_back(alloc: Global) {
     let block = Vec::<u8>::with_capacity(alloc, HEAP_SIZE);
     drop(block);

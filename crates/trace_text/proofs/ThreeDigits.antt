@@ -4,7 +4,7 @@ use lib.Ieee.Fits.{and_l, and_r}
 use Rattle.std.proofs.lemmas.Bool.{cases_lt}
 use Rattle.std.proofs.lemmas.List.{take-take, drop-drop, drop-take}
 use Rattle.std.proofs.lemmas.Fmt.{decimal_digit, decimal_step}
-use Rattle.trace_text.specs.Threes.{row_of, three_digits, zeros_before}
+use Rattle.trace_text.specs.Threes.{block_of, three_digits, zeros_before}
 use Rattle.trace_text.specs.declared.threes.TheConstants.{THREES}
 
 -- these four bytes are what the table has of a number
@@ -16,7 +16,7 @@ abbrev are_rows : ℕ → List ℕ → Bool
 are_rows n (a ∷ b ∷ c ∷ d ∷ rest) = is_row n a b c d && are_rows (suc n) rest
 are_rows n rest = true
 
-row-same : (n a b c d : ℕ) → T (is_row n a b c d) → a ∷ b ∷ c ∷ d ∷ [] ≡ row_of n
+row-same : (n a b c d : ℕ) → T (is_row n a b c d) → a ∷ b ∷ c ∷ d ∷ [] ≡ block_of n
 row-same n a b c d is =
     let x = 48 + n / 100 in
     let y = 48 + n / 10 % 10 in
@@ -28,27 +28,27 @@ row-same n a b c d is =
     ∙ ap (λ v. x ∷ y ∷ v ∷ d ∷ []) (eqb→eq c z (and_l (eqb c z) (eqb d (48 + zeros_before n)) second))
     ∙ ap (λ v. x ∷ y ∷ z ∷ v ∷ []) (eqb→eq d (48 + zeros_before n) (and_r (eqb c z) (eqb d (48 + zeros_before n)) second))
 
-row-at : (n k : ℕ) (xs : List ℕ) → T (are_rows n xs) → 4 * k + 4 ≤ length xs → take 4 (drop (4 * k) xs) ≡ row_of (n + k)
+row-at : (n k : ℕ) (xs : List ℕ) → T (are_rows n xs) → 4 * k + 4 ≤ length xs → take 4 (drop (4 * k) xs) ≡ block_of (n + k)
 row-at n k [] is within = absurd (omega arith)
 row-at n k (a ∷ []) is within = absurd (omega arith)
 row-at n k (a ∷ b ∷ []) is within = absurd (omega arith)
 row-at n k (a ∷ b ∷ c ∷ []) is within = absurd (omega arith)
 row-at n zero (a ∷ b ∷ c ∷ d ∷ rest) is within =
     let same : n ≡ n + 0 = omega arith in
-    row-same n a b c d (and_l (is_row n a b c d) _ is) ∙ ap row_of same
+    row-same n a b c d (and_l (is_row n a b c d) _ is) ∙ ap block_of same
 row-at n (suc k) (a ∷ b ∷ c ∷ d ∷ rest) is within =
     let place : 4 * suc k ≡ suc (suc (suc (suc (4 * k)))) = omega arith in
     let same : suc n + k ≡ n + suc k = omega arith in
     ap (λ m. take 4 (drop m (a ∷ b ∷ c ∷ d ∷ rest))) place
     ∙ row-at (suc n) k rest (and_r (is_row n a b c d) _ is) (omega (arith, within))
-    ∙ ap row_of same
+    ∙ ap block_of same
 
 -- the table has each number below 1000
-pub table-row : (n : ℕ) → n < 1000 → take 4 (drop (4 * n) THREES) ≡ row_of n
+pub table-row : (n : ℕ) → n < 1000 → take 4 (drop (4 * n) THREES) ≡ block_of n
 table-row n below =
     let full : length THREES ≡ 4000 = refl in
     let same : 0 + n ≡ n = omega arith in
-    row-at 0 n THREES tt (omega (arith, full)) ∙ ap row_of same
+    row-at 0 n THREES tt (omega (arith, full)) ∙ ap block_of same
 
 -- the digits after the zeros are those of the number
 pub told-digits : (n : ℕ) → n < 1000 → drop (zeros_before n) (three_digits n) ≡ decimal n

@@ -7,7 +7,7 @@ ghost use Rattle.trace_text.specs.declared.line.TheConstants.{COPY_SIZE};
 ghost use Rattle.trace_text.specs.declared.threes.TheConstants.{BLOCK_SIZE};
 
 use crate::LINE_LIMIT;
-use crate::threes::{BLOCK_SIZE, row_of, short_digits};
+use crate::threes::{BLOCK_SIZE, block_of, short_digits};
 use itoa::write_digits;
 use std::marker::Model;
 
@@ -153,7 +153,7 @@ impl Line {
         ensures { self.new ≡ self.old ++ decimal n }
     {
         self.push_short(n / 1000);
-        self.push_block(row_of(n % 1000), 3);
+        self.push_block(block_of(n % 1000), 3);
     }
 
     /// Appends the number, which is not below a million.

@@ -1,7 +1,7 @@
 //! The digits of numbers below 1000.
 
 ghost use Rattle.std.specs.Prelude.{◌≡◌, ◌≤◌, ◌<◌, ◌+◌, ◌*◌, decimal, drop, length, take};
-ghost use Rattle.trace_text.specs.Threes.{row_of};
+ghost use Rattle.trace_text.specs.Threes.{block_of};
 ghost use Rattle.trace_text.specs.declared.threes.TheConstants.{THREES};
 
 /// Bytes that the table has of a number: its three digits, and one more.
@@ -71,22 +71,22 @@ fn block_at(place: usize) -> [u8; BLOCK_SIZE]
     block
 }
 
-/// What the table has of the number.
+/// The block that the table has of the number.
 #[inline(always)]
-pub(crate) fn row_of(n: u64) -> [u8; BLOCK_SIZE]
+pub(crate) fn block_of(n: u64) -> [u8; BLOCK_SIZE]
     requires { n < 1000 }
-    ensures { result ≡ row_of n }
+    ensures { result ≡ block_of n }
 {
     block_at(n as usize * BLOCK_SIZE)
 }
 
-/// The digits of the number that are told, and any bytes after them: and how many they are.
+/// The digits of the number, with other bytes after them, and how many digits there are.
 #[inline(always)]
 pub(crate) fn short_digits(n: u64) -> ([u8; BLOCK_SIZE], usize)
     requires { n < 1000 }
     ensures few { result.1 ≤ 3 }
     ensures digits { take result.1 result.0 ≡ decimal n }
 {
-    let zeros = usize::from(row_of(n)[3]) - usize::from(b'0');
+    let zeros = usize::from(block_of(n)[3]) - usize::from(b'0');
     (block_at(n as usize * BLOCK_SIZE + zeros), 3 - zeros)
 }

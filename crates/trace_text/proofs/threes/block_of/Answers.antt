@@ -2,7 +2,7 @@
 use Rattle.std.proofs.Common.{◌≡◌, ◌*◌, ap, ◌∙◌, arith, drop, take}
 use Rattle.trace_text.specs.declared.threes.TheConstants.{THREES}
 use Rattle.trace_text.proofs.ThreeDigits.{table-row}
-use Rattle.trace_text.proofs.threes.row_of.Goals as goal
+use Rattle.trace_text.proofs.threes.block_of.Goals as goal
 
 pub returns : goal.returns
 returns c =
