@@ -15,8 +15,8 @@ use std::io::Write;
 use std::process::ExitCode;
 use std::rt::{Env, Files};
 
-/// More bytes than any table of a run takes, and any file but a recorded trace.
-const HEAP_SIZE: usize = 16 << 20;
+/// More bytes than any table of a replay takes, and than its arrivals do as a file or a list.
+const HEAP_SIZE: usize = 4 << 20;
 
 /// Runs over these streams and the arguments and files of the host, and gives the number of the
 /// status. Where memory ran out before `run`, that number alone tells it, and nothing is printed.
