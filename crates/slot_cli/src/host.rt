@@ -15,7 +15,7 @@ use std::io::Write;
 use std::process::ExitCode;
 use std::rt::{Env, Files};
 
-/// More bytes than any table of a replay takes, and than its arrivals do as a file or a list.
+/// As many bytes as an arrivals file may have, and more than any table of a replay takes.
 const HEAP_SIZE: usize = 4 << 20;
 
 /// Runs over these streams and the arguments and files of the host, and gives the number of the
