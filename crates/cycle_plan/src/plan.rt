@@ -138,8 +138,8 @@ pub fn counterexample(alloc: Global, tasks: &TaskSet) -> Result<Option<Window>, 
     }
 }
 
-/// The offline jobs of the first cycle of a sound and feasible set, by deadline and then by key, and
-/// the same jobs by start, or the counterexample to its feasibility.
+/// The offline jobs of the first cycle of a sound and feasible set, by deadline and then by key,
+/// and the same jobs by start, or the counterexample to its feasibility.
 fn feasible_jobs(
     alloc: Global,
     tasks: &TaskSet,

@@ -261,9 +261,8 @@ IsKnown-same need other a last known same h =
 pub AreKnown-same : (need other : ℕ → ℕ) (a last : ℕ) (bounds : Bounds) → ((b : ℕ) → a < b → b ≤ last → other b ≡ need b) → AreKnown need a last bounds → AreKnown other a last bounds
 AreKnown-same need other a last bounds same h =
     record {
-      far = IsKnown-same need other a last bounds.far same h.far;
-      near = IsKnown-same need other a last bounds.near same h.near;
-      fresh = IsKnown-same need other a last bounds.fresh same h.fresh;
+      sought = IsKnown-same need other a last bounds.sought same h.sought;
+      before = IsKnown-same need other a last bounds.before same h.before;
     }
 
 -- the search in the tables is the search among the windows

@@ -87,8 +87,8 @@ failing_in ends arrivals a b =
     let needed = needed_in ends arrivals a b in
     if nat_lt (b - a) needed then Some (record { from = a; until = b; demand = needed }) else None
 
--- the known end is not past the last, and each window from a that ends after it, and by the last, has
--- at least the known slots more than it needs
+-- the known end is not past the last, and each window from a that ends after it, and by the last,
+-- has at least the known slots more than it needs
 pub record IsKnown (need : ℕ → ℕ) (a last : ℕ) (known : Known) : Type 0 where
   pub after : known.after ≤ last
   pub spare :
@@ -96,6 +96,5 @@ pub record IsKnown (need : ℕ → ℕ) (a last : ℕ) (known : Known) : Type 0 
 
 -- all that is known of the windows from a holds
 pub record AreKnown (need : ℕ → ℕ) (a last : ℕ) (bounds : Bounds) : Type 0 where
-  pub far : IsKnown need a last bounds.far
-  pub near : IsKnown need a last bounds.near
-  pub fresh : IsKnown need a last bounds.fresh
+  pub sought : IsKnown need a last bounds.sought
+  pub before : IsKnown need a last bounds.before

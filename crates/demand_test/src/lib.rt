@@ -65,7 +65,11 @@ pub fn test(
     if cycle == 0 {
         return Ok(Verdict::Fits);
     }
-    Ok(test_jobs(alloc, jobs, sporadics, cycle)?)
+    // Jobs in the order of their starts are not copied.
+    if are_in_order(jobs) {
+        return test_ordered(alloc, jobs, sporadics, cycle);
+    }
+    test_sorted(alloc, jobs, sporadics, cycle)
 }
 
 /// Whether the jobs are in the order of their starts.
@@ -78,26 +82,6 @@ fn are_in_order(jobs: &[Job]) -> bool
         }
     }
     true
-}
-
-/// The test of a cycle that is not empty. Jobs in the order of their starts are not copied.
-fn test_jobs(
-    alloc: Global,
-    jobs: &[Job],
-    sporadics: &[Sporadic],
-    cycle: u32,
-) -> Result<Verdict, Memory>
-    requires positive { 0 < cycle }
-    requires cycle { cycle ≤ SLOT_LIMIT }
-    requires within { All (λ (j : Job). j.dl ≤ cycle) jobs.now }
-    requires fits { window_demand jobs.now sporadics.now cycle 0 cycle ≤ cycle }
-    ensures { IfOk result
-        (λ v. v ≡ verdict_of (counterexample_in jobs.now sporadics.now cycle)) }
-{
-    if are_in_order(jobs) {
-        return test_ordered(alloc, jobs, sporadics, cycle);
-    }
-    test_sorted(alloc, jobs, sporadics, cycle)
 }
 
 /// The test of a copy of the jobs, in the order of their starts.

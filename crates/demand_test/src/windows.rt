@@ -24,13 +24,12 @@ struct Known {
     spare: u64,
 }
 
-/// What is known of the windows from one start, by three ways: from a search for windows with slots
-/// to spare, from the starts since the last one without, and from the start before.
+/// What is known of the windows from one start, by two ways: `sought` from a search for windows
+/// with slots to spare, and `before` from the start before, from which no window fails.
 #[derive(Clone, Copy)]
 struct Bounds {
-    far: Known,
-    near: Known,
-    fresh: Known,
+    sought: Known,
+    before: Known,
 }
 
 /// The number of jobs at the front that start by `from`.
@@ -49,10 +48,7 @@ fn arriving_in(arrivals: &[u64], slots: usize) -> u64
     ensures value { result ≡ slice_index arrivals.now slots }
     ensures small { result < 2 ^ 63 }
 {
-    match arrivals.get(slots) {
-        Some(needed) => *needed,
-        None => 0,
-    }
+    arrivals.get(slots).copied().unwrap_or(0)
 }
 
 /// The slots that the window needs.
@@ -142,13 +138,12 @@ fn slots_of(jobs: &[Job]) -> u64
     jobs.iter().map(|job| u64::from(job.declared)).sum()
 }
 
-/// The latest deadline of the jobs, or `least` where it is later.
-fn latest_of(jobs: &[Job], least: usize) -> usize
-    ensures least { least ≤ result }
-    ensures among { (m : ℕ) → least ≤ m → All (λ (j : Job). j.dl ≤ m) jobs.now → result ≤ m }
+/// The latest deadline of the jobs, or 0 where there is none.
+fn latest_of(jobs: &[Job]) -> usize
+    ensures among { (m : ℕ) → All (λ (j : Job). j.dl ≤ m) jobs.now → result ≤ m }
     ensures latest { All (λ (j : Job). j.dl ≤ result) jobs.now }
 {
-    let mut latest = least;
+    let mut latest = 0usize;
     for job in jobs {
         latest = latest.max(job.dl as usize);
     }
@@ -189,31 +184,12 @@ fn renewed(bounds: Bounds, ends: &Ends, arrivals: &[u64], from: usize, last: usi
     requires known { AreKnown (needed_in ends.now arrivals.now from) from last bounds }
     ensures { AreKnown (needed_in ends.now arrivals.now from) from last result }
 {
-    if bounds.far.spare > 0 {
+    if bounds.sought.spare > 0 {
         return bounds;
     }
     Bounds {
-        far: known_beyond(ends, arrivals, from, last),
-        near: bounds.near,
-        fresh: bounds.fresh,
-    }
-}
-
-/// What is known, where no window from `from` fails: where the known windows have no slot to spare,
-/// that holds of all.
-fn held(known: Known, from: usize) -> Known
-    ensures { (need : ℕ → ℕ) (last : ℕ)
-        → from ≤ last
-        → IsKnown need from last known
-        → ((b : ℕ) → from < b → b ≤ last → need b ≤ b - from)
-        → IsKnown need from last result }
-{
-    if known.spare > 0 {
-        return known;
-    }
-    Known {
-        after: from,
-        spare: 0,
+        sought: known_beyond(ends, arrivals, from, last),
+        before: bounds.before,
     }
 }
 
@@ -247,11 +223,7 @@ fn least_after(bounds: &Bounds) -> usize
     ensures known { (need : ℕ → ℕ) (from last : ℕ) → AreKnown need from last bounds.now
         → (b : ℕ) → result < b → from < b → b ≤ last → need b ≤ b - from }
 {
-    bounds
-        .far
-        .after
-        .min(bounds.near.after)
-        .min(bounds.fresh.after)
+    bounds.sought.after.min(bounds.before.after)
 }
 
 /// What is known of the windows from the next start, where no window from `from` fails and these
@@ -268,15 +240,14 @@ fn next_bounds(bounds: &Bounds, from: usize, last: usize, started: &[Job]) -> Bo
         → AreKnown next (from + 1) last result }
 {
     let slots = slots_of(started);
-    let latest = latest_of(started, 0);
+    let latest = latest_of(started);
     let here = Known {
         after: from,
         spare: 0,
     };
     Bounds {
-        far: next_known(bounds.far, slots, latest, last),
-        near: next_known(held(bounds.near, from), slots, latest, last),
-        fresh: next_known(here, slots, latest, last),
+        sought: next_known(bounds.sought, slots, latest, last),
+        before: next_known(here, slots, latest, last),
     }
 }
 
@@ -289,9 +260,8 @@ fn nothing_known(last: usize) -> Bounds
         spare: 0,
     };
     Bounds {
-        far: known,
-        near: known,
-        fresh: known,
+        sought: known,
+        before: known,
     }
 }
 
@@ -318,14 +288,14 @@ pub(crate) fn first_failing(
     let mut bounds = nothing_known(last);
     let mut rest = jobs;
     for from in 0..cycle {
-        let known = renewed(bounds, &ends, arrivals, from as usize, last);
-        let failing = failing_from(&ends, arrivals, from as usize, least_after(&known));
+        bounds = renewed(bounds, &ends, arrivals, from as usize, last);
+        let failing = failing_from(&ends, arrivals, from as usize, least_after(&bounds));
         if failing.is_some() {
             return Ok(failing);
         }
         let (started, others) = rest.split_at(count_started(rest, from));
         ends.pass_all(started, last);
-        bounds = next_bounds(&known, from as usize, last, started);
+        bounds = next_bounds(&bounds, from as usize, last, started);
         rest = others;
     }
     Ok(None)

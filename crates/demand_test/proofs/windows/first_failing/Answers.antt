@@ -50,12 +50,12 @@ loop-from-init c =
       known = c.nothing_known-bounds.ensures (window_demand c.args.jobs.now c.args.sporadics.now c.args.cycle 0) 0;
     }
 
-pub renewed-known-requires-clause-readable : goal.renewed-known-requires-clause-readable
-renewed-known-requires-clause-readable c =
+pub renewed-bounds-requires-clause-readable : goal.renewed-bounds-requires-clause-readable
+renewed-bounds-requires-clause-readable c =
     AreReadable-from_AreTables c.args.jobs.now c.loop-from.rest.now c.args.sporadics.now c.args.cycle c.loop-from.from c.loop-from.ends c.items-arrivals.result.now c.loop-from.invariant.tables c.requires.cycle c.requires.few
 
-pub renewed-known-requires-clause-rising : goal.renewed-known-requires-clause-rising
-renewed-known-requires-clause-rising c =
+pub renewed-bounds-requires-clause-rising : goal.renewed-bounds-requires-clause-rising
+renewed-bounds-requires-clause-rising c =
     let jobs = c.args.jobs.now in
     let rest = c.loop-from.rest.now in
     let ss = c.args.sporadics.now in
@@ -71,8 +71,8 @@ renewed-known-requires-clause-rising c =
       window_demand-rises jobs rest ss cycle a tables.started b d tables.start (omega arith) later,
     )
 
-pub renewed-known-requires-clause-known : goal.renewed-known-requires-clause-known
-renewed-known-requires-clause-known c =
+pub renewed-bounds-requires-clause-known : goal.renewed-bounds-requires-clause-known
+renewed-bounds-requires-clause-known c =
     let jobs = c.args.jobs.now in
     let ss = c.args.sporadics.now in
     let cycle = c.args.cycle in
@@ -84,7 +84,7 @@ pub failing_from-failing-requires-clause-last : goal.failing_from-failing-requir
 failing_from-failing-requires-clause-last c =
     let tables = c.loop-from.invariant.tables in
     let len = tables.passed.len in
-    omega (arith, c.least_after.ensures.within _ _ _ c.renewed-known.ensures)
+    omega (arith, c.least_after.ensures.within _ _ _ c.renewed-bounds.ensures)
 
 pub failing_from-failing-requires-clause-readable : goal.failing_from-failing-requires-clause-readable
 failing_from-failing-requires-clause-readable c =
@@ -112,7 +112,7 @@ pub failing_from-failing-requires-clause-known : goal.failing_from-failing-requi
 failing_from-failing-requires-clause-known c =
     let tables = c.loop-from.invariant.tables in
     let len = tables.passed.len in
-    λ b past low high. c.least_after.ensures.known _ _ _ c.renewed-known.ensures b past low (omega arith)
+    λ b past low high. c.least_after.ensures.known _ _ _ c.renewed-bounds.ensures b past low (omega arith)
 
 pub returns-then-is_some : goal.returns-then-is_some
 returns-then-is_some c =
@@ -187,7 +187,7 @@ loop-from-preserved c =
     let next : AreTables jobs others ss cycle (a + 1) c.pass_all.new.self c.items-arrivals.result.now = AreTables-next jobs rest front others ss cycle a n c.loop-from.ends c.pass_all.new.self c.items-arrivals.result.now c.requires.ordered tables c.count_started.ensures.count c.split_at.ensures.front c.split_at.ensures.back c.pass_all.ensures none in
     record {
       tables = next;
-      known = c.next_bounds-bounds.ensures (window_demand jobs ss cycle a) (window_demand jobs ss cycle (a + 1)) (AreKnown-same (needed_in c.loop-from.ends c.items-arrivals.result.now a) (window_demand jobs ss cycle a) a (2 * cycle) c.renewed-known.result (λ b low high. sym (needs b low high)) c.renewed-known.ensures) (λ b low high. fits-from_first_failing jobs ss cycle a none b low high) (λ b low high. omega (
+      known = c.next_bounds-bounds.ensures (window_demand jobs ss cycle a) (window_demand jobs ss cycle (a + 1)) (AreKnown-same (needed_in c.loop-from.ends c.items-arrivals.result.now a) (window_demand jobs ss cycle a) a (2 * cycle) c.renewed-bounds.result (λ b low high. sym (needs b low high)) c.renewed-bounds.ensures) (λ b low high. fits-from_first_failing jobs ss cycle a none b low high) (λ b low high. omega (
         arith,
         window_demand-next jobs rest others ss cycle a tables.started n b start next_start c.split_at.ensures.back c.loop-from-test.true,
         ap (λ xs. ending_by first_end xs b) c.split_at.ensures.front,

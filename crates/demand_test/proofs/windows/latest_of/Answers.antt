@@ -19,8 +19,7 @@ pub loop-job-preserved : goal.loop-job-preserved
 loop-job-preserved c =
     let inv = c.loop-job.invariant in
     record {
-      least = omega (arith, inv.least);
-      among = λ m low all. later_among c.args.jobs.now c.loop-job.job-index c.loop-job.latest _ m _ c.loop-job-test.true c.max-latest.ensures (inv.among m low all) all;
+      among = λ m all. later_among c.args.jobs.now c.loop-job.job-index c.loop-job.latest _ m _ c.loop-job-test.true c.max-latest.ensures (inv.among m all) all;
       seen = later_seen c.args.jobs.now c.loop-job.job-index c.loop-job.latest _ _ c.loop-job-test.true c.max-latest.ensures inv.seen;
     }
 

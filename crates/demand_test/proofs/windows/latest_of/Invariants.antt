@@ -6,7 +6,6 @@ use Rattle.demand_test.proofs.windows.latest_of.Given as goal
 abbrev pub invariant-loop-job : goal.invariant-loop-job
 invariant-loop-job l =
     record {
-      least : l.least ≤ l.latest;
-      among : (m : ℕ) → l.least ≤ m → All (λ (j : Job). j.dl ≤ m) l.jobs → l.latest ≤ m;
+      among : (m : ℕ) → All (λ (j : Job). j.dl ≤ m) l.jobs → l.latest ≤ m;
       seen : All (λ (j : Job). j.dl ≤ l.latest) (take l.job-index l.jobs);
     }

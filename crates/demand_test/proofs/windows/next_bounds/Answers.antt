@@ -5,15 +5,11 @@ use Rattle.demand_test.proofs.windows.next_bounds.Goals as goal
 
 pub next_known-requires : goal.next_known-requires
 next_known-requires c =
-    record { latest = c.latest_of-latest.ensures.among c.args.last (omega arith) c.requires.within }
+    record { latest = c.latest_of-latest.ensures.among c.args.last c.requires.within }
 
 pub next_known-requires-2 : goal.next_known-requires-2
 next_known-requires-2 c =
-    record { latest = c.latest_of-latest.ensures.among c.args.last (omega arith) c.requires.within }
-
-pub next_known-requires-3 : goal.next_known-requires-3
-next_known-requires-3 c =
-    record { latest = c.latest_of-latest.ensures.among c.args.last (omega arith) c.requires.within }
+    record { latest = c.latest_of-latest.ensures.among c.args.last c.requires.within }
 
 pub returns : goal.returns
 returns c =
@@ -24,9 +20,8 @@ returns c =
     let all = ending_by-all first_end c.args.started.now b (λ k d within. let due = c.latest_of-latest.ensures.latest k d within in omega arith) in
     omega (arith, moves b low high) in
     record {
-      far = c.next_known.ensures need next from known.far moved;
-      near = c.next_known-2.ensures need next from (c.held.ensures need c.args.last (omega arith) known.near fits) moved;
-      fresh = c.next_known-3.ensures need next from (record {
+      sought = c.next_known.ensures need next from known.sought moved;
+      before = c.next_known-2.ensures need next from (record {
         after = omega arith;
         spare = λ b past low high. omega (arith, fits b low high);
       }) moved;

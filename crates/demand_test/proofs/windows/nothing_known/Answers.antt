@@ -13,7 +13,6 @@ IsKnown-none need a last =
 pub returns : goal.returns
 returns c =
     λ need from. record {
-      far = IsKnown-none need from c.args.last;
-      near = IsKnown-none need from c.args.last;
-      fresh = IsKnown-none need from c.args.last;
+      sought = IsKnown-none need from c.args.last;
+      before = IsKnown-none need from c.args.last;
     }
