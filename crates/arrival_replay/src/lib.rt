@@ -23,9 +23,7 @@ mod teller;
 use crate::silent::Silent;
 use crate::teller::{Each, Teller};
 use interval_row::SpareTable;
-use slot_core::{
-    Arrival, Done, Entry, Event, Failed, Firm, Gone, Ran, Shown, Spo, Steps, Taker, What,
-};
+use slot_core::{Arrival, Done, Entry, Event, Failed, Firm, Gone, Shown, Spo, Steps, Taker, What};
 use slot_exec::Exec;
 use slot_io::Sink;
 use std::marker::Brand;
@@ -362,7 +360,7 @@ fn happen_in<T: SpareTable, L: Ledger>(
 {
     match due {
         Some(arrival) => answer(exec, arrival, what, steps),
-        None => pass(exec, what, steps),
+        None => exec.slot_into(what, steps),
     }
 }
 
@@ -388,18 +386,6 @@ fn answer<T: SpareTable, L: Ledger>(
         }
         Event::Done(key) => *what = What::Done(row, key, exec.done(row, key, steps)),
         Event::Withdraw(firm) => *what = What::Withdraw(row, firm, exec.withdraw(row, firm, steps)),
-    }
-}
-
-/// A slot passes, and what ran is told in this place.
-#[inline(always)]
-fn pass<T: SpareTable, L: Ledger>(exec: &mut Exec<T>, what: &mut What, steps: &mut Steps<L>)
-    requires { exec.old.scene.time < 2 ^ 32 }
-    ensures does { Does exec.old exec.new slot what.new }
-{
-    match exec.slot(steps) {
-        Ran::Idle => *what = What::Idle,
-        Ran::Key(key) => *what = What::Run(key),
     }
 }
 

@@ -1,39 +1,17 @@
--- Lifts that are passed, and the slice of them that a loop writes.
-use Rattle.std.proofs.Common.{◌≡◌, ℕ, zero, suc, ◌+◌, ◌-◌, ◌≤◌, ◌<◌, ℤ, ◌+ℤ◌, ◌≤ℤ◌, w64, ◌==◌, Bool, true, false, List, ◌++◌, length, take, drop, set, get_or, slice_get, Some, refl, sym, ap, subst, ◌∙◌, add-zero, arith, inl, inr}
+-- Lifts that are passed, one after the other.
+use Rattle.std.proofs.Common.{◌≡◌, ℕ, zero, suc, ◌+◌, ◌-◌, ◌≤◌, ◌<◌, ℤ, ◌+ℤ◌, ◌≤ℤ◌, w64, ◌==◌, Bool, true, false, List, set, get_or, slice_get, Some, refl, sym, ap, subst, ◌∙◌, add-zero, arith, inl, inr}
 use Rattle.std.proofs.Math.Nat.{eq-or-lt_of_le}
 use Rattle.std.proofs.Math.IntN.{+ℤ_assoc}
 use Rattle.std.proofs.lemmas.Bool.{ne_eqb}
 use Rattle.std.proofs.lemmas.Int.{int_wrap-add_left, int_wrap-add_right}
-use Rattle.std.proofs.lemmas.List.{get_or-set_other, get_or-append_right, get_or_append_left, get_or-take, get_or-drop, set-append_left, set-append_right, length-take-le}
+use Rattle.std.proofs.lemmas.List.{get_or-set_other}
 use Rattle.std.proofs.lemmas.Option.{get_or_from_slice_get}
 use Rattle.std.specs.Bool.{if◌then◌else◌}
 use Rattle.std.specs.Int.{int_wrap}
-use borrow.Rule.Slice.PartMut.{post_of, put_mid}
 use Rattle.node_chain.specs.declared.marks.Lift.{Lift}
 use Rattle.node_chain.specs.declared.marks.Mark.{Mark}
 use Rattle.node_chain.specs.Laps.{blank_lift, blank_mark, lift_over}
 use Rattle.node_chain.specs.Passes.{lift_passed, lift_raised, lifts_passed, spans_ending}
-
--- what an item of a part is in the whole list
-pub part-at : {X : Type 0} (a e k : ℕ) (xs ys : List X) (d : X) → xs ≡ ys → a + k < e → get_or (take (e - a) (drop a xs)) k d ≡ get_or ys (a + k) d
-part-at a e k xs ys d same within =
-    get_or-take (e - a) (drop a xs) k d (omega (arith, within)) ∙ get_or-drop a xs k d ∙ ap (λ zs. get_or zs (a + k) d) same
-
--- an item of a part that is put in
-pub put-at : {X : Type 0} (a n k : ℕ) (xs ys : List X) (d : X) → a ≤ length xs → k < length ys → get_or (put_mid a n xs ys) (a + k) d ≡ get_or ys k d
-put-at a n k xs ys d low within =
-    let same : a + k - a ≡ k = omega arith in
-    get_or-append_right (take a xs) (ys ++ post_of a n xs) a (a + k) d (length-take-le a xs low) (omega arith)
-    ∙ ap (λ i. get_or (ys ++ post_of a n xs) i d) same ∙ get_or_append_left ys (post_of a n xs) d k within
-
--- a write to a part that is put in is a write to the whole
-pub put-set : {X : Type 0} (a n k : ℕ) (xs ys : List X) (y : X) → a ≤ length xs → k < length ys → put_mid a n xs (set ys k y) ≡ set (put_mid a n xs ys) (a + k) y
-put-set a n k xs ys y low within =
-    let same : a + k - a ≡ k = omega arith in
-    sym (
-    set-append_right (take a xs) (ys ++ post_of a n xs) a (a + k) y (length-take-le a xs low) (omega arith)
-    ∙ ap (λ i. take a xs ++ set (ys ++ post_of a n xs) i y) same ∙ ap (λ zs. take a xs ++ zs) (set-append_left ys (post_of a n xs) k y within)
-    )
 
 -- a test for none, where there are some
 some-of : {X : Type 0} (n : ℕ) (x y : X) → 1 ≤ n → (if n == 0 then x else y) ≡ y
@@ -103,40 +81,31 @@ AreUnder-next limit marks lifts low end one rest i mark lift from below at over 
   | inr above ↦ rest i mark lift above below at over some
 ]
 
--- a part of the lifts, put in, where those after one of its indexes are passed
-module _ (more : ℤ) (marks : List Mark) (xs ys : List Lift) (a e k : ℕ)
-    (rising : a ≤ e) (within : e ≤ length xs) (long : length ys ≡ e - a) (below : k < e - a)
-    (was : put_mid a (e - a) xs ys ≡ lifts_passed more marks (a + k + 1) (e - (a + k + 1)) xs) where
+-- lifts, where those after one of the indexes are passed
+module _ (more : ℤ) (marks : List Mark) (xs ys : List Lift) (k e : ℕ) (was : ys ≡ lifts_passed more marks (k + 1) (e - (k + 1)) xs) where
   -- the index after it
-  next : suc (a + k) ≡ a + k + 1
+  next : suc k ≡ k + 1
   next = omega arith
 
   -- what is known, at that index
-  past : put_mid a (e - a) xs ys ≡ lifts_passed more marks (suc (a + k)) (e - suc (a + k)) xs
+  past : ys ≡ lifts_passed more marks (suc k) (e - suc k) xs
   past = was ∙ ap (λ n. lifts_passed more marks n (e - n) xs) (sym next)
 
   -- the lift at the index is as it was
-  pub lift-kept : (d : Lift) → get_or ys k d ≡ get_or xs (a + k) d
-  lift-kept d =
-      sym (put-at a (e - a) k xs ys d (omega (arith, rising, within)) (omega (arith, long, below)))
-      ∙ ap (λ zs. get_or zs (a + k) d) past ∙ passed-below more marks (suc (a + k)) (e - suc (a + k)) (a + k) xs d (omega arith)
+  pub lift-kept : (d : Lift) → get_or ys k d ≡ get_or xs k d
+  lift-kept d = ap (λ zs. get_or zs k d) past ∙ passed-below more marks (suc k) (e - suc k) k xs d (omega arith)
 
-  -- it stays where no span ends
-  pub stays : (get_or marks (a + k) blank_mark).count ≡ 0 → put_mid a (e - a) xs ys ≡ lifts_passed more marks (a + k) (e - (a + k)) xs
-  stays none =
-      let whole = lifts_passed more marks (suc (a + k)) (e - suc (a + k)) xs in
-      past ∙ ap (λ n. if n == 0 then whole else set whole (a + k) (lift_raised more (get_or whole (a + k) blank_lift))) (sym none)
-      ∙ sym (passed-next more marks (a + k) e xs (omega (arith, below)))
+  module _ (below : k < e) where
+    -- it stays where no span ends
+    pub stays : (get_or marks k blank_mark).count ≡ 0 → ys ≡ lifts_passed more marks k (e - k) xs
+    stays none =
+        let whole = lifts_passed more marks (suc k) (e - suc k) xs in
+        past ∙ ap (λ n. if n == 0 then whole else set whole k (lift_raised more (get_or whole k blank_lift))) (sym none) ∙ sym (passed-next more marks k e xs below)
 
-  -- it is passed where one ends
-  pub passes : (y : Lift) → 1 ≤ (get_or marks (a + k) blank_mark).count → y ≡ lift_raised more (get_or ys k blank_lift)
-      → put_mid a (e - a) xs (set ys k y) ≡ lifts_passed more marks (a + k) (e - (a + k)) xs
-  passes y some is =
-      let whole = lifts_passed more marks (suc (a + k)) (e - suc (a + k)) xs in
-      let low : a ≤ length xs = omega (arith, rising, within) in
-      let inside : k < length ys = omega (arith, long, below) in
-      let own = sym (put-at a (e - a) k xs ys blank_lift low inside) ∙ ap (λ zs. get_or zs (a + k) blank_lift) past in
-      put-set a (e - a) k xs ys y low inside
-      ∙ (λ i. set (past i) (a + k) ((is ∙ ap (lift_raised more) own) i))
-      ∙ sym (some-of (get_or marks (a + k) blank_mark).count whole (set whole (a + k) (lift_raised more (get_or whole (a + k) blank_lift))) some)
-      ∙ sym (passed-next more marks (a + k) e xs (omega (arith, below)))
+    -- it is passed where one ends
+    pub passes : (y : Lift) → 1 ≤ (get_or marks k blank_mark).count → y ≡ lift_raised more (get_or ys k blank_lift) → set ys k y ≡ lifts_passed more marks k (e - k) xs
+    passes y some is =
+        let whole = lifts_passed more marks (suc k) (e - suc k) xs in
+        (λ i. set (past i) k ((is ∙ ap (λ zs. lift_raised more (get_or zs k blank_lift)) past) i))
+        ∙ sym (some-of (get_or marks k blank_mark).count whole (set whole k (lift_raised more (get_or whole k blank_lift))) some)
+        ∙ sym (passed-next more marks k e xs below)

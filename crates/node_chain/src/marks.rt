@@ -173,21 +173,21 @@ impl Marks {
         ensures count { result.count
             ≡ spans_ending self.old.marks result.index (end - result.index) }
     {
-        let counts = &self.counts.as_slice()[first as usize..end as usize];
-        let tops = &self.tops.as_slice()[first as usize..end as usize];
-        let adds = &mut self.adds.as_mut_slice()[first as usize..end as usize];
+        let counts = self.counts.as_slice();
+        let tops = self.tops.as_slice();
+        let adds = self.adds.as_mut_slice();
         let mut count = 0;
-        for left in (0..counts.len()).rev() {
-            let spans = counts[left];
+        for index in (first as usize..end as usize).rev() {
+            let spans = counts[index];
             if spans != 0 {
-                let add = adds[left];
-                if pass.limit < tops[left].wrapping_add(add) {
+                let add = adds[index];
+                if pass.limit < tops[index].wrapping_add(add) {
                     return Passed {
-                        index: first + left as u32 + 1,
+                        index: index as u32 + 1,
                         count,
                     };
                 }
-                adds[left] = add.wrapping_add(pass.more);
+                adds[index] = add.wrapping_add(pass.more);
                 count += u64::from(spans);
             }
         }

@@ -44,7 +44,7 @@ use interval_row::SpareTable;
 use job_queue::JobQueue;
 use slot_core::{
     Done, Firm, Gone, Job, Key, Memory, Ran, SHOWN_LIMIT, Shown, Soft, SoftJob, Span, Spo, Steps,
-    TaskSet,
+    TaskSet, What,
 };
 use sporadic_reserve::Reserve;
 use std::alloc::Global;
@@ -418,6 +418,25 @@ impl<T: SpareTable> Exec<T> {
         ensures time { self.new.scene.time ≡ self.old.scene.time + 1 }
         ensures steps { steps.old ≤ steps.new }
     {
+        let mut what = What::Idle;
+        self.slot_into(&mut what, steps);
+        match what {
+            What::Run(key) => Ran::Key(key),
+            _ => Ran::Idle,
+        }
+    }
+
+    /// `slot`, which writes what an entry tells of it into this place at once: a copy, in large
+    /// pieces, of what was just written in small ones waits for them.
+    pub fn slot_into<L: Ledger>(&mut self, what: &mut What, steps: &mut Steps<L>)
+        requires { self.old.scene.time < 2 ^ 32 }
+        ensures does { Does self.old self.new slot what.new }
+        ensures told { what.new ≡ told_of_slot
+            (choice self.old.plan.tasks.sporadics self.old.plan.cycle self.old.scene) }
+        ensures row { self.new.last_row ≡ self.old.last_row }
+        ensures time { self.new.scene.time ≡ self.old.scene.time + 1 }
+        ensures steps { steps.old ≤ steps.new }
+    {
         let room = Remembered {
             free: self.free,
             tight: self.tight,
@@ -443,6 +462,6 @@ impl<T: SpareTable> Exec<T> {
         self.free = room.free;
         self.tight = room.tight;
         self.due = room.due;
-        chosen.ran()
+        *what = chosen.told();
     }
 }

@@ -3,6 +3,7 @@
 ghost use Rattle.std.specs.Prelude.{◌≡◌, ◌≤◌, length};
 ghost use Rattle.slot_core.specs.Runs.Choice.{earliest, ready};
 ghost use Rattle.slot_core.specs.Runs.Matches.{HaveSameItems};
+ghost use Rattle.slot_core.specs.Runs.Traces.{told_of_slot};
 ghost use Rattle.interval_row.specs.Tables.{spans_of_pairs};
 ghost use Rattle.guarantee.specs.Offers.{soft_fits};
 ghost use Rattle.slot_exec.specs.Rooms.{MaySearch, RemembersSpans};
@@ -12,7 +13,7 @@ use crate::rooms::{Remembered, may_run};
 use circular_buffer::HeapCircularBuffer;
 use interval_row::SpareTable;
 use job_queue::JobQueue;
-use slot_core::{Job, Key, Ran, SoftJob, Steps};
+use slot_core::{Job, Key, SoftJob, Steps, What};
 use sporadic_reserve::Reserve;
 use std::sync::ledger::Ledger;
 
@@ -28,14 +29,14 @@ pub enum Chosen {
 }
 
 impl Chosen {
-    /// What runs.
-    pub(crate) fn ran(self) -> Ran
-        ensures { result ≡ ran_of self }
+    /// What an entry tells of it.
+    pub(crate) fn told(self) -> What
+        ensures { result ≡ told_of_slot (ran_of self) }
     {
         match self {
-            Chosen::Nothing => Ran::Idle,
-            Chosen::Soft(row) => Ran::Key(Key::Soft(row)),
-            Chosen::Guaranteed(job) => Ran::Key(job.key),
+            Chosen::Nothing => What::Idle,
+            Chosen::Soft(row) => What::Run(Key::Soft(row)),
+            Chosen::Guaranteed(job) => What::Run(job.key),
         }
     }
 }

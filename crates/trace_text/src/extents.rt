@@ -32,11 +32,14 @@ pub(crate) const END_LIMIT: usize = 1 + DECIMAL_LIMIT + 1;
 
 /// What writes spans.
 pub(crate) trait SpanWriter {
-    /// Appends the extent of the span, after a space and before a colon, and its spare capacity.
-    fn push_span(&mut self, line: &mut Line, span: &Span)
-        requires { length line.old + SPAN_LIMIT ≤ LINE_LIMIT }
+    /// Appends the extent of the span, after a space and before a colon, and its spare capacity, to
+    /// a line of this length. Returns its length afterwards.
+    fn push_span(&mut self, line: &mut Line, len: usize, span: &Span) -> usize
+        requires len { len ≡ length line.old }
+        requires room { length line.old + SPAN_LIMIT ≤ LINE_LIMIT }
         ensures text { line.new ≡ line.old ++ extent_text span.now.start span.now.end
             ++ signed_decimal span.now.spare }
+        ensures length { result ≡ length line.new }
         ensures short { length line.new ≤ length line.old + SPAN_LIMIT };
 
     /// The same for the first span of a line, which mostly was shown with no such start before.
@@ -79,13 +82,14 @@ fn push_end(line: &mut Line, end: u64)
 pub(crate) struct Anew;
 
 impl SpanWriter for Anew {
-    fn push_span(&mut self, line: &mut Line, span: &Span) {
-        push_extent(line, span);
-        line.signed_number(span.spare);
+    fn push_span(&mut self, line: &mut Line, _len: usize, span: &Span) -> usize {
+        self.push_first(line, span);
+        line.bytes().len()
     }
 
     fn push_first(&mut self, line: &mut Line, span: &Span) {
-        self.push_span(line, span);
+        push_extent(line, span);
+        line.signed_number(span.spare);
     }
 
     fn push_more(&mut self, line: &mut Line, more: u32) {
@@ -146,15 +150,18 @@ impl ExtentCell {
         self.start == span.start && self.end == span.end
     }
 
-    /// Appends the text, and then that of a spare capacity.
+    /// Appends the text, and then that of a spare capacity, to a line of this length. Returns its
+    /// length afterwards.
     #[inline]
-    fn push_with(&self, spare: &SpareCell, line: &mut Line)
-        requires { length line.old + SPAN_LIMIT ≤ LINE_LIMIT }
+    fn push_with(&self, spare: &SpareCell, line: &mut Line, len: usize) -> usize
+        requires len { len ≡ length line.old }
+        requires room { length line.old + SPAN_LIMIT ≤ LINE_LIMIT }
         ensures text { line.new ≡ line.old ++ extent_text self.now.0 self.now.1
             ++ signed_decimal spare.now }
+        ensures length { result ≡ length line.new }
         ensures short { length line.new ≤ length line.old + SPAN_LIMIT }
     {
-        line.push_blocks(self.bytes, self.len, spare.bytes, spare.len);
+        line.push_blocks(len, self.bytes, self.len, spare.bytes, spare.len)
     }
 
     /// Appends the extent of the span, and keeps its text.
@@ -339,15 +346,15 @@ fn spare_place(spare: i64) -> usize
 
 impl SpanWriter for Cells {
     #[inline]
-    fn push_span(&mut self, line: &mut Line, span: &Span) {
+    fn push_span(&mut self, line: &mut Line, len: usize, span: &Span) -> usize {
         let Cells { extents, spares } = &*self;
         let extent = &extents[extent_place(span)];
         let spare = &spares[spare_place(span.spare)];
         if extent.is_of(span) && spare.is_of(span.spare) {
-            extent.push_with(spare, line);
-        } else {
-            self.push_anew(line, span);
+            return extent.push_with(spare, line, len);
         }
+        self.push_anew(line, span);
+        line.bytes().len()
     }
 
     /// The text of its extent is not kept: mostly the next line shows it with another start or not

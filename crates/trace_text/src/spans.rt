@@ -10,13 +10,15 @@ use crate::extents::SpanWriter;
 use crate::line::Line;
 use slot_core::{Shown, Span};
 
-/// Appends a space and the span.
-fn push_span<W: SpanWriter>(line: &mut Line, writer: &mut W, span: &Span)
-    requires { length line.old + SPAN_LIMIT ≤ LINE_LIMIT }
+/// Appends a space and the span to a line of this length. Returns its length afterwards.
+fn push_span<W: SpanWriter>(line: &mut Line, len: usize, writer: &mut W, span: &Span) -> usize
+    requires len { len ≡ length line.old }
+    requires room { length line.old + SPAN_LIMIT ≤ LINE_LIMIT }
     ensures text { line.new ≡ line.old ++ 32 ∷ span_text span.now }
+    ensures length { result ≡ length line.new }
     ensures short { length line.new ≤ length line.old + SPAN_LIMIT }
 {
-    writer.push_span(line, span);
+    writer.push_span(line, len, span)
 }
 
 /// Appends a space and the first span.
@@ -36,8 +38,9 @@ fn push_others<W: SpanWriter>(line: &mut Line, writer: &mut W, spans: &[Span])
     ensures text { line.new ≡ line.old ++ flat_map (λ (s : Span). 32 ∷ span_text s) spans.now }
     ensures short { length line.new ≤ length line.old + (SHOWN_LIMIT - 1) * SPAN_LIMIT }
 {
+    let mut len = line.bytes().len();
     for span in spans {
-        push_span(line, writer, span);
+        len = push_span(line, len, writer, span);
     }
 }
 
