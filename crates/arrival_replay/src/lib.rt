@@ -360,7 +360,7 @@ fn happen_in<T: SpareTable, L: Ledger>(
 {
     match due {
         Some(arrival) => answer(exec, arrival, what, steps),
-        None => exec.slot_into(what, steps),
+        None => exec.slot_in(what, steps),
     }
 }
 

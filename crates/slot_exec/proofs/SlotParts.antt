@@ -155,13 +155,13 @@ module _ {plan : PlanParts} {time : ℕ} {rows : List Span} {jobs : List Job} (r
         Does-parts =
             Does-slot exec next (choice_of exec) is.plan is.stands refl refl scene-step.0 refl
 
-        -- so it does from what is seen before it, with what is seen to run
-        pub Does-seen : (before : Executive) (ran : Ran) → exec ≡ before → ran ≡ ran_of chosen → Does before next slot (told_of_slot ran)
-        Does-seen before ran seen runs =
+        -- so it does from what is seen before it, with what is chosen
+        pub Does-seen : (before : Executive) → exec ≡ before → Does before next slot (told_of_slot (ran_of chosen))
+        Does-seen before seen =
             subst
-            (λ (e : Executive). Does e next slot (told_of_slot ran))
+            (λ (e : Executive). Does e next slot (told_of_slot (ran_of chosen)))
             seen
-            (subst (λ r. Does exec next slot (told_of_slot r)) (sym (runs ∙ ran_of-parts)) Does-parts)
+            (subst (λ r. Does exec next slot (told_of_slot r)) (sym ran_of-parts) Does-parts)
 
         -- and the parts agree after it
         pub IsExecutive-parts : (room : Remembered) (turned : Bool) → RemembersSpans rows reserve time room → turned ≡ ((run_time + 1) % plan.cycle == 0) → time < 2 ^ 32 → IsExecutive next next_rows reserve.sporadics limit capacity most (room_after chosen turned room)

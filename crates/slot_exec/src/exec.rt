@@ -419,16 +419,15 @@ impl<T: SpareTable> Exec<T> {
         ensures steps { steps.old ≤ steps.new }
     {
         let mut what = What::Idle;
-        self.slot_into(&mut what, steps);
+        self.slot_in(&mut what, steps);
         match what {
             What::Run(key) => Ran::Key(key),
             _ => Ran::Idle,
         }
     }
 
-    /// `slot`, which writes what an entry tells of it into this place at once: a copy, in large
-    /// pieces, of what was just written in small ones waits for them.
-    pub fn slot_into<L: Ledger>(&mut self, what: &mut What, steps: &mut Steps<L>)
+    /// `slot`, but what an entry tells of it is written into this place, without a copy.
+    pub fn slot_in<L: Ledger>(&mut self, what: &mut What, steps: &mut Steps<L>)
         requires { self.old.scene.time < 2 ^ 32 }
         ensures does { Does self.old self.new slot what.new }
         ensures told { what.new ≡ told_of_slot

@@ -35,14 +35,15 @@ pub(crate) trait SpanWriter {
     /// Appends the extent of the span, after a space and before a colon, and its spare capacity, to
     /// a line of this length. Returns its length afterwards.
     fn push_span(&mut self, line: &mut Line, len: usize, span: &Span) -> usize
-        requires len { len ≡ length line.old }
+        requires length { len ≡ length line.old }
         requires room { length line.old + SPAN_LIMIT ≤ LINE_LIMIT }
         ensures text { line.new ≡ line.old ++ extent_text span.now.start span.now.end
             ++ signed_decimal span.now.spare }
         ensures length { result ≡ length line.new }
         ensures short { length line.new ≤ length line.old + SPAN_LIMIT };
 
-    /// The same for the first span of a line, which mostly was shown with no such start before.
+    /// The same for the first span of a line, but no length is handed over or returned. Mostly no
+    /// span with such a start was shown before.
     fn push_first(&mut self, line: &mut Line, span: &Span)
         requires { length line.old + SPAN_LIMIT ≤ LINE_LIMIT }
         ensures text { line.new ≡ line.old ++ extent_text span.now.start span.now.end
@@ -154,7 +155,7 @@ impl ExtentCell {
     /// length afterwards.
     #[inline]
     fn push_with(&self, spare: &SpareCell, line: &mut Line, len: usize) -> usize
-        requires len { len ≡ length line.old }
+        requires length { len ≡ length line.old }
         requires room { length line.old + SPAN_LIMIT ≤ LINE_LIMIT }
         ensures text { line.new ≡ line.old ++ extent_text self.now.0 self.now.1
             ++ signed_decimal spare.now }

@@ -76,26 +76,26 @@ impl Line {
     }
 
     /// Appends the first `count` bytes of one block and then the first `more` of another, for all
-    /// of which there is room, to a line of the length `start`. Returns its length afterwards, so
-    /// that who appends many has no need to read it from the line each time.
+    /// of which there is room, to a line of this length. Returns its length afterwards, so that who
+    /// appends many has no need to read it from the line each time.
     #[inline]
     pub(crate) fn push_blocks<const N: usize, const M: usize>(
         &mut self,
-        start: usize,
+        len: usize,
         first: [u8; N],
         count: usize,
         second: [u8; M],
         more: usize,
     ) -> usize
-        requires start { start ≡ length self.old }
+        requires length { len ≡ length self.old }
         requires first { count ≤ N }
         requires second { more ≤ M }
         requires room { length self.old + N + M ≤ LINE_LIMIT }
         ensures text { self.new ≡ self.old ++ take count first.entry ++ take more second.entry }
         ensures length { result ≡ length self.new }
     {
-        let middle = start + count;
-        self.bytes[start..start + N].copy_from_slice(&first);
+        let middle = len + count;
+        self.bytes[len..len + N].copy_from_slice(&first);
         self.bytes[middle..middle + M].copy_from_slice(&second);
         self.len = middle + more;
         middle + more

@@ -12,7 +12,7 @@ use slot_core::{Shown, Span};
 
 /// Appends a space and the span to a line of this length. Returns its length afterwards.
 fn push_span<W: SpanWriter>(line: &mut Line, len: usize, writer: &mut W, span: &Span) -> usize
-    requires len { len ≡ length line.old }
+    requires length { len ≡ length line.old }
     requires room { length line.old + SPAN_LIMIT ≤ LINE_LIMIT }
     ensures text { line.new ≡ line.old ++ 32 ∷ span_text span.now }
     ensures length { result ≡ length line.new }

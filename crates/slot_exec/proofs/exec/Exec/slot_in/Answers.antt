@@ -1,10 +1,10 @@
 -- A slot: what is chosen may run, the next cycle finds room, and the parts become those of the step.
-use Rattle.std.proofs.Common.{◌<◌, ◌^◌, refl, ap, ◌∙◌, arith}
+use Rattle.std.proofs.Common.{◌<◌, ◌^◌, ap, ◌∙◌, arith}
 use Rattle.slot_core.specs.Keeping.Executives.{Executive}
 use Rattle.slot_core.specs.Runs.Traces.{told_of_slot}
 use Rattle.slot_exec.proofs.SlotChoice.{choice_of}
 use Rattle.slot_exec.proofs.SlotParts.{Does-seen, end-near, HasPlaces-parts, IsExecutive-parts, MayRun-parts, next_slot-before_end, ran_of-parts, RemembersSpans-parts, run_end-horizon, slot-before_end}
-use Rattle.slot_exec.proofs.exec.Exec.slot_into.Goals as goal
+use Rattle.slot_exec.proofs.exec.Exec.slot_in.Goals as goal
 
 pub choose-chosen-requires : goal.choose-chosen-requires
 choose-chosen-requires g c =
@@ -47,7 +47,7 @@ returns-clause-does g c =
     let ran = c.run.ensures in
     let passed = c.pass-turned.ensures in
     rw c.told.ensures
-    (Does-seen c.self.inside.reserve c.self.invariant c.choose-chosen.result.0 c.choose-chosen.ensures.chosen _ _ c.run.new.queue.jobs ran.time ran.spans ran.jobs _ _ c.pass-turned.new.queue.jobs _ passed.time passed.spans passed.jobs ran.soft _ _ c.self.view_is refl)
+    (Does-seen c.self.inside.reserve c.self.invariant c.choose-chosen.result.0 c.choose-chosen.ensures.chosen _ _ c.run.new.queue.jobs ran.time ran.spans ran.jobs _ _ c.pass-turned.new.queue.jobs _ passed.time passed.spans passed.jobs ran.soft _ c.self.view_is)
 
 pub returns-clause-told : goal.returns-clause-told
 returns-clause-told g c =
