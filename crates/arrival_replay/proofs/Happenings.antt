@@ -9,7 +9,6 @@ use Rattle.slot_core.specs.declared.TheConstants.{ARRIVAL_LIMIT}
 use Rattle.slot_core.specs.declared.tasks.TaskSet.{TaskSet}
 use Rattle.slot_core.specs.declared.events.Arrival.{Arrival}
 use Rattle.slot_core.specs.declared.events.Entry.{Entry}
-use Rattle.slot_core.specs.declared.events.Event.{Event}
 use Rattle.slot_core.specs.declared.events.What.{What}
 use Rattle.slot_core.specs.Runs.Arrivals.{are_fitting, arrivals_follow, event_may_come, event_names_known, what_in_set}
 use Rattle.slot_core.specs.Runs.Choice.{choice}
@@ -254,17 +253,6 @@ module _ (Took : List Entry → Type 0) (plan : PlanParts) (before : Executive) 
       let legal = subst (λ c. IsLegal p.tasks c so_far) is_plan.cycle u.stands.legal in
       let plan_is = ap (λ (p : PlanParts). what_in_set p.tasks what) does.plan in
       plan_is ∙ (ap (what_in_set p.tasks) told ∙ told-named p.tasks so_far (next_occurrence due) legal named)
-
--- what is told of an arrival that may come and names what is known lies in the set
-pub answered-named : (before after : Executive) (row : ℕ) (event : Event) (what : What) → IsPlan before.plan → event_may_come before.plan.tasks event ≡ true → event_names_known before.plan.tasks event ≡ true → Does before after (arrive row event) what → what_in_set after.plan.tasks what ≡ true
-answered-named before after row event what is_plan may named does =
-    let p = before.plan in
-    let h = does.some.0 in
-    let stands = does.some.1 in
-    let told : what ≡ told_of p.tasks (cycle_of p.tasks) h (arrive row event) = does.told h stands ∙ ap (λ c. told_of p.tasks c h (arrive row event)) is_plan.cycle in
-    let legal = subst (λ c. IsLegal p.tasks c h) is_plan.cycle stands.legal in
-    let plan_is = ap (λ (p : PlanParts). what_in_set p.tasks what) does.plan in
-    plan_is ∙ (ap (what_in_set p.tasks) told ∙ told-named p.tasks h (arrive row event) legal (may, named))
 
 -- what an executive does, it does at each history for which it stands: the line that is told is that
 -- of the entry

@@ -26,12 +26,6 @@ module _ (nodes : List Node) where
   id-place (x ∷ xs) zero id e = ap (λ (o : Option NodeId). Some (number o)) e
   id-place (x ∷ xs) (suc i) id e = id-place xs i id e
 
-  -- the id of the place at an index
-  pub place-id : (xs : List ℕ) (i x : ℕ) → slice_get xs i ≡ Some x → id_at (pairs_of nodes xs) i ≡ Some (named x)
-  place-id [] i x e = cc
-  place-id (y ∷ ys) zero x e = ap (λ k. Some (named k)) (some-same y x e)
-  place-id (y ∷ ys) (suc i) x e = place-id ys i x e
-
   -- the span of the place at an index
   pub place-span : (xs : List ℕ) (i x : ℕ) → slice_get xs i ≡ Some x → span_at (pairs_of nodes xs) i ≡ Some (span_of nodes x)
   place-span [] i x e = cc
@@ -77,11 +71,6 @@ module _ (nodes : List Node) where
       ap (λ k. id_of (prev_of nodes k)) (sym (some-same y q e)) ∙ ap id_of l.2.1 ∙ id_of-place x (not_ends x (y ∷ ys) none)
   prev-id p (x ∷ y ∷ ys) (suc i) q r l none e = prev-id x (y ∷ ys) i q r l.2 (less x (y ∷ ys) none) e
 
-  -- the first has none before it
-  pub prev-first : (xs : List ℕ) (q r : ℕ) → AreLinked nodes 0 xs r → slice_get xs 0 ≡ Some q → id_of (prev_of nodes q) ≡ None
-  prev-first [] q r l e = cc
-  prev-first (x ∷ xs) q r l e = id_of-ends (prev_of nodes q) (ap (prev_of nodes) (sym (some-same x q e)) ∙ l.1)
-
   -- the last is before the end
   pub last-id : (p : ℕ) (xs : List ℕ) (q i : ℕ) → AreLinked nodes p xs q → times 0 xs ≡ 0 → suc i ≡ length xs
       → id_of (prev_of nodes q) ≡ id_at (pairs_of nodes xs) i
@@ -90,11 +79,6 @@ module _ (nodes : List Node) where
   last-id p (x ∷ []) q (suc i) l none e = absurd (omega (arith, e))
   last-id p (x ∷ y ∷ ys) q zero l none e = absurd (omega (arith, e))
   last-id p (x ∷ y ∷ ys) q (suc i) l none e = last-id x (y ∷ ys) q i l.2 (less x (y ∷ ys) none) (omega (arith, e))
-
-  -- an empty chain has no last span
-  pub last-none : (xs : List ℕ) → AreLinked nodes 0 xs 0 → pairs_of nodes xs ≡ [] → id_of (prev_of nodes 0) ≡ None
-  last-none [] l e = id_of-ends (prev_of nodes 0) l.1
-  last-none (x ∷ xs) l e = cc
 
 module _ (old new : List Node) where
   -- places whose spans stay have the same pairs

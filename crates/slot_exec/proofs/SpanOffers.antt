@@ -1,15 +1,12 @@
 -- The tests over the spans of a proper scene are those of the model.
-use Rattle.std.proofs.Common.{◌≡◌, ℕ, ◌+◌, ◌-◌, ◌≤◌, List, map, Option, Some, None, refl, sym, ap, ap₂, ◌∙◌, arith}
+use Rattle.std.proofs.Common.{◌≡◌, ℕ, ◌+◌, ◌-◌, List, map, ap, ap₂, ◌∙◌}
 use Rattle.std.specs.Prelude.{find, not, nat_lt}
 use Rattle.std.specs.Option.{option_map_or}
 use Rattle.std.specs.List.{list_all, range_with_len}
-use Rattle.slot_core.specs.declared.jobs.Evidence.{Evidence}
 use Rattle.slot_core.specs.declared.tasks.Sporadic.{Sporadic}
-use Rattle.slot_core.specs.declared.events.Firm.TheVariants.{Accepted, NoRoom}
 use Rattle.slot_core.specs.Feasibility.Sporadics.{sporadic_demand}
-use Rattle.std.proofs.lemmas.Bool.{ne_eqb, le-ltb}
 use Rattle.spare_capacity.specs.Recurrence.{last_end}
-use Rattle.slot_core.specs.Runs.Answers.{first_overload, evidence_at, firm_answer}
+use Rattle.slot_core.specs.Runs.Answers.{first_overload, evidence_at}
 use Rattle.slot_core.specs.Runs.Choice.{soft_may_run}
 use Rattle.slot_core.specs.Runs.Demand.{is_overloaded, need_by}
 use Rattle.slot_core.specs.Runs.Scenes.{Scene, horizon}
@@ -67,32 +64,3 @@ answer_to-proper sporadics cycle scene reserve slots deadline proper tasks nexts
     let evidence = λ (x : ℕ). evidence-proper sporadics cycle scene reserve slots x proper tasks nexts in
     let first = first_short-proper sporadics cycle scene reserve slots deadline proper tasks nexts in
     λ i. option_map_or (λ x. Refuse (evidence x i)) (first i) Accept
-
--- an offer within reach is answered by the first time that is too short
-firm_answer-in_reach : (sporadics : List Sporadic) (cycle : ℕ) (scene : Scene) (slots within : ℕ) → 1 ≤ within → within ≤ cycle → firm_answer sporadics cycle scene slots within ≡ option_map_or (λ x. NoRoom (evidence_at sporadics scene slots x)) (first_overload sporadics cycle scene slots (scene.time + within)) Accepted
-firm_answer-in_reach sporadics cycle scene slots within some near =
-    rw (ne_eqb within 0 (λ e. absurd (omega arith)), le-ltb cycle within near) refl
-
--- where no time is too short both accept
-accepted-by_first : (evidence : ℕ → Evidence) (o : Option ℕ) → option_map_or (λ x. Refuse (evidence x)) o Accept ≡ Accept → option_map_or (λ x. NoRoom (evidence x)) o Accepted ≡ Accepted
-accepted-by_first evidence None e = refl
-accepted-by_first evidence (Some x) e = absurd (cc e)
-
--- where one is both refuse with its evidence
-refused-by_first : (evidence : ℕ → Evidence) (o : Option ℕ) (shown : Evidence) → option_map_or (λ x. Refuse (evidence x)) o Accept ≡ Refuse shown → option_map_or (λ x. NoRoom (evidence x)) o Accepted ≡ NoRoom shown
-refused-by_first evidence None shown e = absurd (cc e)
-refused-by_first evidence (Some x) shown e =
-    let same : evidence x ≡ shown = cc e in
-    ap NoRoom same
-
--- what the spans accept the model accepts
-pub accepted-by_spans : (sporadics : List Sporadic) (cycle : ℕ) (scene : Scene) (reserve : Reserved) (slots within : ℕ) → 1 ≤ within → within ≤ cycle → IsProperScene cycle scene → reserve.sporadics ≡ map without_name sporadics → reserve.nexts ≡ scene.nexts → answer_to (spans_of cycle scene) reserve scene.time slots (scene.time + within) ≡ Accept → firm_answer sporadics cycle scene slots within ≡ Accepted
-accepted-by_spans sporadics cycle scene reserve slots within some near proper tasks nexts accepts =
-    let same = answer_to-proper sporadics cycle scene reserve slots (scene.time + within) proper tasks nexts in
-    firm_answer-in_reach sporadics cycle scene slots within some near ∙ accepted-by_first (evidence_at sporadics scene slots) (first_overload sporadics cycle scene slots (scene.time + within)) (sym same ∙ accepts)
-
--- and what they refuse it refuses, with the same evidence
-pub refused-by_spans : (sporadics : List Sporadic) (cycle : ℕ) (scene : Scene) (reserve : Reserved) (slots within : ℕ) (shown : Evidence) → 1 ≤ within → within ≤ cycle → IsProperScene cycle scene → reserve.sporadics ≡ map without_name sporadics → reserve.nexts ≡ scene.nexts → answer_to (spans_of cycle scene) reserve scene.time slots (scene.time + within) ≡ Refuse shown → firm_answer sporadics cycle scene slots within ≡ NoRoom shown
-refused-by_spans sporadics cycle scene reserve slots within shown some near proper tasks nexts refuses =
-    let same = answer_to-proper sporadics cycle scene reserve slots (scene.time + within) proper tasks nexts in
-    firm_answer-in_reach sporadics cycle scene slots within some near ∙ refused-by_first (evidence_at sporadics scene slots) (first_overload sporadics cycle scene slots (scene.time + within)) shown (sym same ∙ refuses)

@@ -1,6 +1,6 @@
 //! The executive and its events.
 
-ghost use Rattle.std.specs.Prelude.{◌≡◌, ◌≢◌, ◌↔◌, ◌⊎◌, ℕ, ◌+◌, ◌*◌, ◌≤◌, ◌<◌, ◌^◌, pos, ◌≤ℤ◌, [], Some, None, IfOk, IsTrue, true, Contains, count_by, length, map, slice_get, slice_index, slice_set};
+ghost use Rattle.std.specs.Prelude.{◌≡◌, ◌≢◌, ◌↔◌, ◌⊎◌, ℕ, ◌+◌, ◌*◌, ◌≤◌, ◌<◌, ◌^◌, pos, ◌≤ℤ◌, [], Some, IfOk, IsTrue, true, Contains, count_by, length, map, slice_get, slice_index, slice_set};
 ghost use Rattle.slot_core.specs.declared.TheConstants.{OFFER_LIMIT};
 ghost use Rattle.slot_core.specs.declared.events.Event.{Event};
 ghost use Rattle.slot_core.specs.declared.events.What.{What};

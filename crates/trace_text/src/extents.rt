@@ -1,7 +1,7 @@
 //! The extents of spans, which are their starts and ends, and their spare capacities, as texts that
 //! are kept from line to line.
 
-ghost use Rattle.std.specs.Prelude.{◌≡◌, ◌≤◌, ◌<◌, ◌+◌, ◌++◌, ◌∷◌, decimal, drop, length, true};
+ghost use Rattle.std.specs.Prelude.{◌≡◌, ◌≤◌, ◌<◌, ◌+◌, ◌++◌, decimal, drop, length, true};
 ghost use Rattle.std.specs.Fmt.{signed_decimal};
 ghost use Rattle.trace_text.specs.declared.TheConstants.{DECIMAL_LIMIT, EXTENT_LIMIT, LINE_LIMIT, SPAN_LIMIT};
 ghost use Rattle.trace_text.specs.declared.extents.TheConstants.{END_LIMIT, EXTENT_COUNT, EXTENT_SIZE, SPARE_COUNT, SPARE_SIZE};
