@@ -1,6 +1,7 @@
 //! What an executive consists of, and how often offers and soft work read its table.
 
-ghost use Rattle.std.specs.Prelude.{◌≡◌, ◌<◌, true};
+ghost use Rattle.std.specs.Prelude.{◌≡◌, ◌≤◌, ◌<◌, true};
+ghost use Rattle.slot_core.specs.declared.TheConstants.{OFFER_LIMIT};
 ghost use Rattle.slot_core.specs.Sets.Ranges.{is_sound};
 
 use crate::Exec;
@@ -82,9 +83,8 @@ fn reads<R: Abort, L: Ledger, T: SpareTable>(
     requires parts { blank.parts ≡ L.parts }
     requires some { 0 < L.parts }
 {
+    let mut exec: Exec<ReadTable<T>> = start(alloc, flight_set(alloc)?)?;
     let mut steps: Steps<L> = Steps::new(blank);
-    let plan = make_plan(alloc, flight_set(alloc)?).ok().ok_or("no plan")?;
-    let mut exec: Exec<ReadTable<T>> = Exec::start(alloc, plan)?;
     expect_reads(rt, &mut exec, &mut steps);
     Ok(())
 }
@@ -106,31 +106,64 @@ fn expect_reads<R: Abort, L: Ledger, T: SpareTable>(
     assert!(rt; (shown.spans().len(), exec.table.reads.get()) == (8, 8));
 
     exec.table.reads.set(0);
-    assert!(rt; offered(exec, steps) == Some(Firm::Accepted));
+    assert!(rt; offered(exec, 9, 20, steps) == Some(Firm::Accepted));
     assert!(rt; (2..=43).contains(&exec.table.reads.get()));
 }
 
-/// What the first arrival, that offer, is answered.
-fn offered<T: SpareTable, L: Ledger>(exec: &mut Exec<T>, steps: &mut Steps<L>) -> Option<Firm> {
+/// What the first arrival, an offer of so many slots within so many, is answered.
+fn offered<T: SpareTable, L: Ledger>(
+    exec: &mut Exec<T>,
+    slots: u32,
+    within: u32,
+    steps: &mut Steps<L>,
+) -> Option<Firm>
+    requires some { 1 ≤ slots }
+    requires few { slots ≤ OFFER_LIMIT }
+    requires near { within ≤ OFFER_LIMIT }
+{
     if exec.last_row() != 0 {
         return None;
     }
-    Some(exec.firm(1, 9, 20, steps))
+    Some(exec.firm(1, slots, within, steps))
+}
+
+/// What soft work of 3 slots in this row is answered.
+fn asked<T: SpareTable>(exec: &mut Exec<T>, row: u32) -> Option<Soft> {
+    if row <= exec.last_row() {
+        return None;
+    }
+    Some(exec.soft(row, 3))
 }
 
 #[test]
 fn waiting_soft_work_is_searched_for_once(rt: HostRuntime) -> Result<(), Fail> {
-    searches::<HostRuntime, Brand>(&rt, rt.alloc(), Blank::new(1))
+    searches::<HostRuntime, Brand, RowTable>(&rt, rt.alloc(), Blank::new(1))
+}
+
+/// Over the set with an alarm.
+fn searches<R: Abort, L: Ledger, T: SpareTable>(
+    rt: &R,
+    alloc: Global,
+    blank: Blank,
+) -> Result<(), Fail>
+    requires name { blank.name ≡ L.name }
+    requires parts { blank.parts ≡ L.parts }
+    requires some { 0 < L.parts }
+{
+    let mut exec: Exec<ReadTable<T>> = start(alloc, alarm_set(alloc)?)?;
+    let mut steps: Steps<L> = Steps::new(blank);
+    expect_searches(rt, &mut exec, &mut steps);
+    Ok(())
 }
 
 /// A cycle of 8 slots with 3 of jobs, 4 of an offer and 1 held for an alarm that does not come.
 /// Soft work may run in slot 6, from which on no alarm is due by 8. For each slot: whether soft
 /// work runs, and whether spans are read.
-fn searches<R: Abort, L: Ledger>(rt: &R, alloc: Global, blank: Blank) -> Result<(), Fail>
-    requires name { blank.name ≡ L.name }
-    requires parts { blank.parts ≡ L.parts }
-    requires some { 0 < L.parts }
-{
+fn expect_searches<R: Abort, L: Ledger, T: SpareTable>(
+    rt: &R,
+    exec: &mut Exec<ReadTable<T>>,
+    steps: &mut Steps<L>,
+) {
     let slots = [
         (false, true),
         (false, false),
@@ -141,40 +174,48 @@ fn searches<R: Abort, L: Ledger>(rt: &R, alloc: Global, blank: Blank) -> Result<
         (true, true),
         (false, false),
     ];
-    let mut steps: Steps<L> = Steps::new(blank);
-    let plan = make_plan(alloc, alarm_set(alloc)?).ok().ok_or("no plan")?;
-    let mut exec: Exec<ReadTable<RowTable>> = Exec::start(alloc, plan)?;
-    assert!(rt; exec.firm(1, 4, 8, &mut steps) == Firm::Accepted);
-    assert!(rt; exec.soft(2, 3) == Soft::Taken);
-    expect_slots(rt, &mut exec, 2, &slots, &mut steps);
-    Ok(())
+    assert!(rt; offered(exec, 4, 8, steps) == Some(Firm::Accepted));
+    assert!(rt; asked(exec, 2) == Some(Soft::Taken));
+    expect_slots(rt, exec, 2, &slots, steps);
 }
 
 #[test]
 fn free_slots_are_remembered(rt: HostRuntime) -> Result<(), Fail> {
-    remembers::<HostRuntime, Brand>(&rt, rt.alloc(), Blank::new(1))
+    remembers::<HostRuntime, Brand, RowTable>(&rt, rt.alloc(), Blank::new(1))
 }
 
-/// The same cycle without the offer. By 3, when an alarm of slot 1 would be due, two slots are free
-/// at 0, so the search at 0 serves slot 1 too; at 2 two are free again by 5.
-fn remembers<R: Abort, L: Ledger>(rt: &R, alloc: Global, blank: Blank) -> Result<(), Fail>
+/// Over the same set.
+fn remembers<R: Abort, L: Ledger, T: SpareTable>(
+    rt: &R,
+    alloc: Global,
+    blank: Blank,
+) -> Result<(), Fail>
     requires name { blank.name ≡ L.name }
     requires parts { blank.parts ≡ L.parts }
     requires some { 0 < L.parts }
 {
+    let mut exec: Exec<ReadTable<T>> = start(alloc, alarm_set(alloc)?)?;
     let mut steps: Steps<L> = Steps::new(blank);
-    let plan = make_plan(alloc, alarm_set(alloc)?).ok().ok_or("no plan")?;
-    let mut exec: Exec<ReadTable<RowTable>> = Exec::start(alloc, plan)?;
-    assert!(rt; exec.soft(1, 3) == Soft::Taken);
-    let slots = [(true, true), (true, false), (true, true)];
-    expect_slots(rt, &mut exec, 1, &slots, &mut steps);
+    expect_remembered(rt, &mut exec, &mut steps);
     Ok(())
 }
 
-/// For each slot: whether the soft work of this row runs, and whether spans are read.
-fn expect_slots<R: Abort, L: Ledger>(
+/// The same cycle without the offer. By 3, when an alarm of slot 1 would be due, two slots are free
+/// at 0, so the search at 0 serves slot 1 too; at 2 two are free again by 5.
+fn expect_remembered<R: Abort, L: Ledger, T: SpareTable>(
     rt: &R,
-    exec: &mut Exec<ReadTable<RowTable>>,
+    exec: &mut Exec<ReadTable<T>>,
+    steps: &mut Steps<L>,
+) {
+    let slots = [(true, true), (true, false), (true, true)];
+    assert!(rt; asked(exec, 1) == Some(Soft::Taken));
+    expect_slots(rt, exec, 1, &slots, steps);
+}
+
+/// For each slot: whether the soft work of this row runs, and whether spans are read.
+fn expect_slots<R: Abort, L: Ledger, T: SpareTable>(
+    rt: &R,
+    exec: &mut Exec<ReadTable<T>>,
     row: u32,
     slots: &[(bool, bool)],
     steps: &mut Steps<L>,
