@@ -1,12 +1,73 @@
 //! Spots and fronts of a table, against what a plain list says.
 
-ghost use Rattle.std.specs.Prelude.{◌≡◌, ◌≤◌, ◌<◌, length};
+ghost use Rattle.std.specs.Prelude.{◌≡◌, ◌<◌};
 ghost use Rattle.interval_row.specs.Tables.{spans_of_pairs, IsFront};
 
-use interval_row::{Front, SpareTable};
-use slot_core::{Span, Steps};
+use crate::tables::span;
+use interval_row::{ChainTable, Front, SpareTable};
+use slot_core::{Memory, Span, Steps};
+use std::alloc::Global;
+use std::marker::Brand;
 use std::process::Abort;
-use std::sync::ledger::Ledger;
+use std::sync::ledger::{Blank, Ledger};
+use std::test::Fail;
+
+// Where spans are shorter than a page on average, all that end in the pages before are told.
+#[test]
+fn pages_before_are_told(rt: HostRuntime) -> Result<(), Fail> {
+    let near = near_of_short(rt.alloc())?;
+    assert!(rt; near == Some((127, 127)));
+    Ok(())
+}
+
+/// Of a table whose spans end at 2, 4, .. 400 with a slot of work each.
+fn near_of_short(alloc: Global) -> Result<Option<(u32, u64)>, Memory> {
+    let table = ChainTable::with_room(alloc, &[span(0, 2, 1, 1)], 200, 200)?;
+    Ok(near_300(&table))
+}
+
+/// How many spans are told to end before slot 300, and what is due in them.
+fn near_300<T: SpareTable>(table: &T) -> Option<(u32, u64)> {
+    if 300 <= table.time() || table.last_end() < 300 {
+        return None;
+    }
+    let near = table.near(300);
+    Some((near.count, near.works))
+}
+
+// Pages whose times leave room are passed whole: of spans that end at 3, 6, .. 600 with a slot of
+// work each, those from 256 to 575.
+#[test]
+fn pages_with_room_are_passed(rt: HostRuntime) -> Result<(), Fail> {
+    let passed = passed_of_short::<Brand>(rt.alloc(), Blank::new(1))?;
+    assert!(rt; passed == Some((85, 191)));
+    Ok(())
+}
+
+fn passed_of_short<L: Ledger>(alloc: Global, blank: Blank) -> Result<Option<(u32, u32)>, Memory>
+    requires name { blank.name ≡ L.name }
+    requires parts { blank.parts ≡ L.parts }
+    requires some { 0 < L.parts }
+{
+    let table = ChainTable::with_room(alloc, &[span(0, 3, 1, 2)], 200, 200)?;
+    let mut steps: Steps<L> = Steps::new(blank);
+    Ok(counts_passed(&table, &mut steps))
+}
+
+/// How many spans end in the pages before slot 300, and how many are passed from there to 600 where
+/// 100 slots are asked for.
+fn counts_passed<T: SpareTable, L: Ledger>(table: &T, steps: &mut Steps<L>) -> Option<(u32, u32)> {
+    if 300 <= table.time() || table.last_end() < 600 {
+        return None;
+    }
+    let front = table.near(300);
+    if table.count() <= front.count {
+        return None;
+    }
+    let span = table.read(table.spot(front.count), steps);
+    let passed = table.skip(front, span, 600, 100);
+    Some((front.count, passed.count))
+}
 
 /// Spots and fronts at times that a word draws, against the list of the table's spans.
 pub(crate) fn expect_fronts<R: Abort, T: SpareTable, L: Ledger>(

@@ -62,7 +62,8 @@ fn expect<T: SpareTable, R: Abort, L: Ledger>(
     }
 }
 
-fn span(start: u64, end: u64, work: u64, spare: i64) -> Span
+/// The span of these numbers.
+pub(crate) fn span(start: u64, end: u64, work: u64, spare: i64) -> Span
     ensures { result ≡ record { start = start; end = end; work = work; spare = spare } }
 {
     Span {

@@ -7,7 +7,7 @@ use crate::lifted::Lifted;
 use crate::pages::Times;
 use crate::span_table::ChainTable;
 use crate::store::Store;
-use crate::table::{Front, SpareTable};
+use crate::table::SpareTable;
 use node_chain::Chain;
 use slot_core::{Span, Steps};
 use std::alloc::Global;
@@ -29,51 +29,6 @@ fn fields_are_whole(rt: HostRuntime) -> Result<(), Fail> {
         (1, 0, 4, 0)
     );
     Ok(())
-}
-
-// Where spans are shorter than a page on average, all that end in the pages before are told.
-#[test]
-fn pages_before_are_told(rt: HostRuntime) -> Result<(), Fail> {
-    let table = ChainTable::with_room(rt.alloc(), &[span(0, 2, 1, 1)], 200, 200)?;
-    let mut near = Front { count: 0, works: 0 };
-    if table.time() < 300 && 300 <= table.last_end() {
-        near = table.near(300);
-    }
-    assert_eq!(rt; (near.count, near.works), (127, 127));
-    Ok(())
-}
-
-// Pages whose times leave room are passed whole: of spans that end at 3, 6, .. 600 with a slot of
-// work each, those from 256 to 575.
-#[test]
-fn pages_with_room_are_passed(rt: HostRuntime) -> Result<(), Fail> {
-    passes_pages::<HostRuntime, Brand>(&rt, rt.alloc(), Blank::new(1))
-}
-
-fn passes_pages<R: Abort, L: Ledger>(rt: &R, alloc: Global, blank: Blank) -> Result<(), Fail>
-    requires name { blank.name ≡ L.name }
-    requires parts { blank.parts ≡ L.parts }
-    requires some { 0 < L.parts }
-{
-    let mut steps: Steps<L> = Steps::new(blank);
-    let table = ChainTable::with_room(alloc, &[span(0, 3, 1, 2)], 200, 200)?;
-    assert!(rt; counts_passed(&table, &mut steps) == Some((85, 191)));
-    Ok(())
-}
-
-/// How many spans end in the pages before slot 300, and how many are passed from there to 600 where
-/// 100 slots are asked for.
-fn counts_passed<L: Ledger>(table: &ChainTable, steps: &mut Steps<L>) -> Option<(u32, u32)> {
-    if 300 <= table.time() || table.last_end() < 600 {
-        return None;
-    }
-    let front = table.near(300);
-    if table.count() <= front.count {
-        return None;
-    }
-    let span = table.read(table.spot(front.count), steps);
-    let passed = table.skip(front, span, 600, 100);
-    Some((front.count, passed.count))
 }
 
 // Where so much is due at the last end that no span can give more, the pages before are told to

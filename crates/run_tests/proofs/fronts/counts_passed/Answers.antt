@@ -1,4 +1,4 @@
-use Rattle.interval_row.proofs.span_table.tests.counts_passed.Goals as goal
+use Rattle.run_tests.proofs.fronts.counts_passed.Goals as goal
 
 pub read-span-requires : goal.read-span-requires
 read-span-requires g c = (c.near-front.result.count, c.spot.ensures)
