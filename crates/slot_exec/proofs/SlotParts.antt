@@ -3,7 +3,6 @@ use Rattle.std.proofs.Common.{◌≡◌, ℕ, ◌+◌, ◌/◌, ◌%◌, ◌^◌
 use Rattle.slot_core.specs.declared.jobs.Job.{Job}
 use Rattle.slot_core.specs.declared.jobs.SoftJob.{SoftJob}
 use Rattle.slot_core.specs.declared.jobs.Span.{Span}
-use Rattle.slot_core.specs.declared.events.Ran.{Ran}
 use Rattle.slot_core.specs.Runs.Choice.{earliest, ready}
 use Rattle.slot_core.specs.Keeping.Executives.{Does, Executive}
 use Rattle.slot_core.specs.Runs.Matches.{HaveSameItems, IsSameScene}

@@ -26,7 +26,7 @@ use Rattle.slot_facts.proofs.Lawful.Data.{lawful-as_data}
 use Rattle.slot_facts.proofs.Lists.Members.{Has-from_list_any, list_any-from_Has, passes_from_list_all}
 use Rattle.slot_facts.proofs.Lists.SameItems.{same-sym, passes-same, all-same}
 use Rattle.slot_facts.proofs.Lists.Tests.{same_tests, list_all-from_Has}
-use Rattle.scene_steps.specs.Steps.{scene_after, after_ran}
+use Rattle.scene_steps.specs.Steps.{scene_after}
 use Rattle.scene_steps.proofs.Facts.AnySlots.{remaining-apart}
 use Rattle.scene_steps.proofs.Model.Lawful.{scene-follows_answer, scene-follows_ran}
 use Rattle.scene_steps.proofs.Same.SameAnswers.{answer-same}
