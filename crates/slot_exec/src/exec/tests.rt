@@ -135,35 +135,10 @@ fn asked<T: SpareTable>(exec: &mut Exec<T>, row: u32) -> Option<Soft> {
     Some(exec.soft(row, 3))
 }
 
+/// A cycle of 8 slots with 3 of jobs, 4 of an offer and 1 held for an alarm that does not come.
+/// Soft work may run in slot 6, from which on no alarm is due by 8.
 #[test]
 fn waiting_soft_work_is_searched_for_once(rt: HostRuntime) -> Result<(), Fail> {
-    searches::<HostRuntime, Brand, RowTable>(&rt, rt.alloc(), Blank::new(1))
-}
-
-/// Over the set with an alarm.
-fn searches<R: Abort, L: Ledger, T: SpareTable>(
-    rt: &R,
-    alloc: Global,
-    blank: Blank,
-) -> Result<(), Fail>
-    requires name { blank.name ≡ L.name }
-    requires parts { blank.parts ≡ L.parts }
-    requires some { 0 < L.parts }
-{
-    let mut exec: Exec<ReadTable<T>> = start(alloc, alarm_set(alloc)?)?;
-    let mut steps: Steps<L> = Steps::new(blank);
-    expect_searches(rt, &mut exec, &mut steps);
-    Ok(())
-}
-
-/// A cycle of 8 slots with 3 of jobs, 4 of an offer and 1 held for an alarm that does not come.
-/// Soft work may run in slot 6, from which on no alarm is due by 8. For each slot: whether soft
-/// work runs, and whether spans are read.
-fn expect_searches<R: Abort, L: Ledger, T: SpareTable>(
-    rt: &R,
-    exec: &mut Exec<ReadTable<T>>,
-    steps: &mut Steps<L>,
-) {
     let slots = [
         (false, true),
         (false, false),
@@ -174,21 +149,24 @@ fn expect_searches<R: Abort, L: Ledger, T: SpareTable>(
         (true, true),
         (false, false),
     ];
-    assert!(rt; offered(exec, 4, 8, steps) == Some(Firm::Accepted));
-    assert!(rt; asked(exec, 2) == Some(Soft::Taken));
-    expect_slots(rt, exec, 2, &slots, steps);
+    searches::<HostRuntime, Brand, RowTable>(&rt, rt.alloc(), Blank::new(1), true, &slots)
 }
 
+/// The same cycle without the offer. By 3, when an alarm of slot 1 would be due, two slots are free
+/// at 0, so the search at 0 serves slot 1 too; at 2 two are free again by 5.
 #[test]
 fn free_slots_are_remembered(rt: HostRuntime) -> Result<(), Fail> {
-    remembers::<HostRuntime, Brand, RowTable>(&rt, rt.alloc(), Blank::new(1))
+    let slots = [(true, true), (true, false), (true, true)];
+    searches::<HostRuntime, Brand, RowTable>(&rt, rt.alloc(), Blank::new(1), false, &slots)
 }
 
-/// Over the same set.
-fn remembers<R: Abort, L: Ledger, T: SpareTable>(
+/// Over the set with an alarm, with an offer before the soft work or without.
+fn searches<R: Abort, L: Ledger, T: SpareTable>(
     rt: &R,
     alloc: Global,
     blank: Blank,
+    offer: bool,
+    slots: &[(bool, bool)],
 ) -> Result<(), Fail>
     requires name { blank.name ≡ L.name }
     requires parts { blank.parts ≡ L.parts }
@@ -196,23 +174,14 @@ fn remembers<R: Abort, L: Ledger, T: SpareTable>(
 {
     let mut exec: Exec<ReadTable<T>> = start(alloc, alarm_set(alloc)?)?;
     let mut steps: Steps<L> = Steps::new(blank);
-    expect_remembered(rt, &mut exec, &mut steps);
+    if offer {
+        assert!(rt; offered(&mut exec, 4, 8, &mut steps) == Some(Firm::Accepted));
+    }
+    expect_slots(rt, &mut exec, 1 + u32::from(offer), slots, &mut steps);
     Ok(())
 }
 
-/// The same cycle without the offer. By 3, when an alarm of slot 1 would be due, two slots are free
-/// at 0, so the search at 0 serves slot 1 too; at 2 two are free again by 5.
-fn expect_remembered<R: Abort, L: Ledger, T: SpareTable>(
-    rt: &R,
-    exec: &mut Exec<ReadTable<T>>,
-    steps: &mut Steps<L>,
-) {
-    let slots = [(true, true), (true, false), (true, true)];
-    assert!(rt; asked(exec, 1) == Some(Soft::Taken));
-    expect_slots(rt, exec, 1, &slots, steps);
-}
-
-/// For each slot: whether the soft work of this row runs, and whether spans are read.
+/// Soft work comes in this row. For each slot: whether it runs, and whether spans are read.
 fn expect_slots<R: Abort, L: Ledger, T: SpareTable>(
     rt: &R,
     exec: &mut Exec<ReadTable<T>>,
@@ -220,6 +189,7 @@ fn expect_slots<R: Abort, L: Ledger, T: SpareTable>(
     slots: &[(bool, bool)],
     steps: &mut Steps<L>,
 ) {
+    assert!(rt; asked(exec, row) == Some(Soft::Taken));
     for &(runs, reads) in slots {
         exec.table.reads.set(0);
         let ran = slot(exec, steps) == Some(Ran::Key(Key::Soft(row)));

@@ -1,5 +1,5 @@
 use Rattle.slot_exec.proofs.exec.tests.free_slots_are_remembered.Given as goal
 
 -- the steps are counted in the ledger of the blank
-abbrev pub ghosts-remembers : goal.ghosts-remembers
-ghosts-remembers g a = record { name = a.blank.name; parts = a.blank.parts }
+abbrev pub ghosts-searches : goal.ghosts-searches
+ghosts-searches g a = record { name = a.blank.name; parts = a.blank.parts }
