@@ -22,8 +22,7 @@
  * of another one, `ss_open` computes the plan again, and `ss_close` gives back all that it keeps: so
  * each of the three takes longer for a longer cycle. A firm or sporadic arrival, an early end, a
  * withdrawal and a slot go along the jobs that remain and the spans ahead, three cycles of them at
- * most, and `ss_get_span` passes the spans before its place; the others take no longer for a longer
- * cycle.
+ * most; the others take no longer for a longer cycle.
  *
  * What the caller owes:
  * - No pointer is null, and each points to what its type says, or to so many bytes as the number
