@@ -174,21 +174,23 @@ fn searches<R: Abort, L: Ledger, T: SpareTable>(
 {
     let mut exec: Exec<ReadTable<T>> = start(alloc, alarm_set(alloc)?)?;
     let mut steps: Steps<L> = Steps::new(blank);
-    if offer {
-        assert!(rt; offered(&mut exec, 4, 8, &mut steps) == Some(Firm::Accepted));
-    }
-    expect_slots(rt, &mut exec, 1 + u32::from(offer), slots, &mut steps);
+    expect_slots(rt, &mut exec, offer, slots, &mut steps);
     Ok(())
 }
 
-/// Soft work comes in this row. For each slot: whether it runs, and whether spans are read.
+/// Soft work comes, in the first row or after an offer. For each slot: whether it runs, and whether
+/// spans are read.
 fn expect_slots<R: Abort, L: Ledger, T: SpareTable>(
     rt: &R,
     exec: &mut Exec<ReadTable<T>>,
-    row: u32,
+    offer: bool,
     slots: &[(bool, bool)],
     steps: &mut Steps<L>,
 ) {
+    if offer {
+        assert!(rt; offered(exec, 4, 8, steps) == Some(Firm::Accepted));
+    }
+    let row = 1 + u32::from(offer);
     assert!(rt; asked(exec, row) == Some(Soft::Taken));
     for &(runs, reads) in slots {
         exec.table.reads.set(0);
