@@ -226,6 +226,37 @@ module _ (words : List ℕ) (count place : ℕ) (s : Span) (all : length words �
   pub span-put : nodes_of spanned_there count ≡ with_span place s (nodes_of words count)
   span-put = nodes-set words spanned_there count place own lt here_now others_stay
 
+-- links are put alone
+module _ (words : List ℕ) (count place next prev : ℕ) (all : length words ≡ node_words * count) (lt : place < count)
+    (small : next < 2 ^ 32) where
+  abbrev linked_there : List ℕ
+  linked_there = slice_set words place (links_word next prev)
+
+  abbrev linked : Node
+  linked = record (node_at (nodes_of words count) place) { next = next; prev = prev }
+
+  span_kept : (q : ℕ) → span_in linked_there (span_place count q) ≡ span_in words (span_place count q)
+  span_kept q =
+      same-span words linked_there (span_place count q)
+      (λ k four. word-there words place (links_word next prev) (span_place count q + k) (λ e. omega (arith, e, lt)))
+
+  here_linked : node_in linked_there count place ≡ linked
+  here_linked =
+      let word = word-here words place (links_word next prev) (omega (arith, lt, all)) in
+      let next_now : word_at linked_there place % 2 ^ 32 ≡ next = ap (λ w. w % 2 ^ 32) word ∙ links-next next prev small in
+      let prev_now : word_at linked_there place / 2 ^ 32 ≡ prev = ap (λ w. w / 2 ^ 32) word ∙ links-prev next prev small in
+      let span = span_kept place ∙ sym (ap (λ (n : Node). n.span) (node-at words count place lt)) in
+      λ k. record { next = next_now k; prev = prev_now k; span = span k }
+
+  others_linked : (q : ℕ) → q < count → (q ≡ place → ⊥) → node_in linked_there count q ≡ node_in words count q
+  others_linked q less off =
+      let word = word-there words place (links_word next prev) q off in
+      let span = span_kept q in
+      λ k. record { next = word k % 2 ^ 32; prev = word k / 2 ^ 32; span = span k }
+
+  pub links-put : nodes_of linked_there count ≡ slice_set (nodes_of words count) place linked
+  links-put = nodes-set words linked_there count place linked lt here_linked others_linked
+
 -- a capacity is put alone
 module _ (words : List ℕ) (i : ℕ) (spare : ℤ) where
   -- the other words of the span are those that stand there

@@ -97,6 +97,15 @@ impl Block {
         self.words.put(place as usize, links);
     }
 
+    /// Puts the links of the node at a place. Its span is not written.
+    pub(crate) fn set_links(&mut self, place: u32, next: u32, prev: u32)
+        requires { place < length self.old }
+        ensures { self.new ≡ slice_set
+            self.old place (record (node_at self.old place) { next = next; prev = prev }) }
+    {
+        self.words.put(place as usize, links_word(next, prev));
+    }
+
     /// Puts a span at a place. The links there are not written.
     pub(crate) fn set_span(&mut self, place: u32, span: Span)
         requires { place < length self.old }

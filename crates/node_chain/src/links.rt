@@ -62,20 +62,20 @@ pub(crate) fn part<L: Ledger>(block: &mut Block, unused: u32, steps: &mut Steps<
     node
 }
 
-/// The node at `place` comes before the one at `next`.
+/// The node at `place` comes before the one at `next`. Its span is not written.
 pub(crate) fn set_next(block: &mut Block, place: u32, next: u32)
     requires { place < length block.old }
     ensures { block.new ≡ with_next place next block.old }
 {
     let node = block.node(place);
-    block.set(place, Node { next, ..node });
+    block.set_links(place, next, node.prev);
 }
 
-/// The node at `place` comes after the one at `prev`.
+/// The node at `place` comes after the one at `prev`. Its span is not written.
 fn set_prev(block: &mut Block, place: u32, prev: u32)
     requires { place < length block.old }
     ensures { block.new ≡ with_prev place prev block.old }
 {
     let node = block.node(place);
-    block.set(place, Node { prev, ..node });
+    block.set_links(place, node.next, prev);
 }
