@@ -10,7 +10,8 @@ ghost use Rattle.trace_text.specs.declared.TheConstants.{KEY_LIMIT, LINE_LIMIT};
 use crate::line::Line;
 use slot_core::{Graph, Key, Name, TaskSet};
 
-/// Appends the name. A name of two bytes, as many have, gets code of its own without a loop.
+/// Appends the name. A name of two or three bytes, as many have, gets code of its own without a
+/// loop.
 fn push_name(line: &mut Line, name: &Name)
     requires { length line.old + NAME_LIMIT ≤ LINE_LIMIT }
     ensures text { line.new ≡ line.old ++ name.now }
@@ -18,6 +19,7 @@ fn push_name(line: &mut Line, name: &Name)
 {
     match name.bytes() {
         [first, second] => line.push(&[*first, *second]),
+        [first, second, third] => line.push(&[*first, *second, *third]),
         bytes => line.push(bytes),
     }
 }
