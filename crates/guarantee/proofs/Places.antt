@@ -5,7 +5,7 @@ use Rattle.std.specs.Int.{int_min}
 use Rattle.std.proofs.lemmas.Bool.{cases_lt}
 use Rattle.std.proofs.lemmas.Int.{ints, clamps}
 use Rattle.std.proofs.lemmas.List.Sums.{sum_by-cons}
-use Rattle.std.proofs.lemmas.Option.{get_or_from_slice_get, slice_get_within}
+use Rattle.std.proofs.lemmas.Option.{get_or_from_slice_get, same_Some, slice_get_within}
 use Rattle.slot_core.specs.declared.jobs.Span.{Span}
 use Rattle.spare_capacity.specs.PlanSpans.{AreProper}
 use Rattle.spare_capacity.specs.Recurrence.{filled, last_end, FollowOn}
@@ -72,6 +72,16 @@ least-at t (suc i) (r ∷ spans) s follow full at =
           let is = rest.reached.3 in
           (x, low, rest.reached.2, omega (arith, ints, stands.after, follow.0, follow.1));
     }
+
+-- a span that ends before a time is one of so many
+pub ended-before : (t x i : ℕ) (spans : List Span) (s : Span) → FollowOn t spans → slice_get spans i ≡ Some s → s.end < x → i < ends_before x spans
+ended-before t x i [] s follow at early = absurd (omega (arith, slice_get_within [] i s at))
+ended-before t x zero (r ∷ rs) s follow at early =
+    let same : r ≡ s = same_Some r s at in
+    omega (arith, ends_before-ended x r rs (omega (arith, early, ap (λ (q : Span). q.end) same)))
+ended-before t x (suc i) (r ∷ rs) s follow at early =
+    let first : r.end < x = omega (arith, early, start-at r.end i rs s follow.4 at, rises-at r.end i rs s follow.4 at) in
+    omega (arith, ends_before-ended x r rs first, ended-before r.end x i rs s follow.4 at early)
 
 -- after no more spans than end before a time, a span starts before it
 pub start-before : (t i x : ℕ) (spans : List Span) (s : Span) → FollowOn t spans → slice_get spans i ≡ Some s → t < x → i ≤ ends_before x spans → s.start < x

@@ -15,7 +15,7 @@ use Rattle.interval_row.proofs.CutTimes.{ends_before-within}
 use Rattle.interval_row.proofs.ShortTimes.{last-at, next-at, order-at, works-next, works-small}
 use Rattle.guarantee.specs.declared.walk.SpanPlace.{SpanPlace}
 use Rattle.guarantee.specs.Places.{IsPlace, MayPass}
-use Rattle.guarantee.proofs.Places.{spare-small, start-before, Stands, Stands-at, work_until-small}
+use Rattle.guarantee.proofs.Places.{spare-small, Stands, Stands-at, work_until-small}
 use Rattle.guarantee.proofs.Segments.{Looks, Looks-end, Looks-inside}
 
 -- there are as many spans as pairs
@@ -98,14 +98,10 @@ pub later-after : (t : ℕ) (pairs : List (Spot × Span)) (place later : SpanPla
 later-after t pairs place later follow is there more =
     order-at t place.index later.index (spans_of_pairs pairs) place.span later.span follow is.span there.span more
 
--- no more spans than end before a time up to the last end are not all, and the next starts before it
+-- no more spans than end before a time up to the last end are not all
 pub near-within : (t x count : ℕ) (pairs : List (Spot × Span)) → FollowOn t (spans_of_pairs pairs) → t < x → x ≤ last_end t (spans_of_pairs pairs) → count ≤ ends_before x (spans_of_pairs pairs) → count < length pairs
 near-within t x count pairs follow after within few =
     omega (arith, few, ends_before-within t x (spans_of_pairs pairs) follow after within, length-spans_of_pairs pairs)
-
-pub near-early : (t x count : ℕ) (pairs : List (Spot × Span)) (place : SpanPlace) → FollowOn t (spans_of_pairs pairs) → t < x → IsPlace pairs place → place.index ≡ count → count ≤ ends_before x (spans_of_pairs pairs) → place.span.start < x
-near-early t x count pairs place follow after is at few =
-    start-before t place.index x (spans_of_pairs pairs) place.span follow is.span after (omega arith)
 
 -- a place is after the spans before it
 pub IsFront-place : (pairs : List (Spot × Span)) (place : SpanPlace) (front : Front) → IsPlace pairs place → front ≡ record { count = place.index; works = place.due } → IsFront (spans_of_pairs pairs) front

@@ -40,30 +40,23 @@ pub(crate) fn place_of<T: SpareTable, L: Ledger>(
     ensures steps { steps.old ≤ steps.new }
     ensures few_steps { steps.new ≤ steps.old + result.index + 1 }
 {
-    let mut place = place_near(table, time, steps);
-    while place.span.end < time {
-        let Some(later) = after(table, place, steps) else {
-            return place;
-        };
-        place = later;
-    }
-    place
-}
-
-/// The place of a span that starts before a time, as near to it as the table tells. One read.
-#[inline(always)]
-fn place_near<T: SpareTable, L: Ledger>(table: &T, time: u64, steps: &mut Steps<L>) -> SpanPlace
-    requires after { T.time table.now < time }
-    requires within { time ≤ last_end (T.time table.now) (spans_of_pairs (T.pairs table.now)) }
-    ensures table { IsTable (T.time table.now) (T.pairs table.now) (T.limit table.now) }
-    ensures place { IsPlace (T.pairs table.now) result }
-    ensures early { result.span.start < time }
-    ensures one_step { steps.new ≡ steps.old + 1 }
-{
-    // (so that the prover knows what every table is)
-    let _count = table.count();
+    let count = table.count();
     let front = table.near(time);
-    place_at(table, front, steps)
+    let mut due = front.works;
+    for index in front.count..count {
+        let at = table.spot(index);
+        let span = table.read(at, steps);
+        if time <= span.end {
+            return SpanPlace {
+                at,
+                due,
+                index,
+                span,
+            };
+        }
+        due += span.work;
+    }
+    unreachable!()
 }
 
 /// The place after some of the first spans. One read.
@@ -151,12 +144,15 @@ pub(crate) fn after<T: SpareTable, L: Ledger>(
         (steps.new ≡ steps.old)
         (λ later. steps.new ≡ steps.old + 1) }
 {
-    // (so that the prover knows what every table is)
-    let _count = table.count();
-    let at = table.next(place.at)?;
+    let count = table.count();
+    let index = place.index + 1;
+    if count <= index {
+        return None;
+    }
+    let at = table.spot(index);
     Some(SpanPlace {
         at,
-        index: place.index + 1,
+        index,
         span: table.read(at, steps),
         due: place.due + place.span.work,
     })

@@ -1,24 +1,54 @@
-use Rattle.std.proofs.Common.{arith}
-use Rattle.guarantee.proofs.Tables.{last-ends, later-start}
+use Rattle.std.proofs.Common.{◌<◌, arith}
+use Rattle.interval_row.proofs.ShortTimes.{works-next}
+use Rattle.interval_row.specs.Tables.{spans_of_pairs}
+use Rattle.guarantee.specs.Places.{IsPlace}
+use Rattle.guarantee.proofs.Places.{ended-before, start-before}
+use Rattle.guarantee.proofs.Tables.{length-spans_of_pairs, near-within, IsSeen-place}
+use Rattle.guarantee.proofs.walk.place_of.Given.{Over}
 use Rattle.guarantee.proofs.walk.place_of.Goals as goal
+use Rattle.guarantee.proofs.walk.place_of.Goals.{After-read-span}
 
-pub loop-place-preserved : goal.loop-place-preserved
-loop-place-preserved g c =
+-- the place of the span that is read
+place : (g : Over) (c : After-read-span g) → IsPlace (g.T.SpareTable.pairs c.args.table.now) (record { at = c.spot-at.result; due = c.loop-index.due; index = c.loop-index.index; span = c.read-span.result })
+place g c = record {
+  within = omega (arith, c.loop-index-test.true, c.count-count.ensures.count);
+  spot = c.spot-at.ensures;
+  span = c.read-span.ensures.span c.loop-index.index c.spot-at.ensures;
+  due = c.loop-index.invariant.front.works;
+}
+
+pub returns-then-time-span-clause-early : goal.returns-then-time-span-clause-early
+returns-then-time-span-clause-early g c =
+    let t = g.T.SpareTable.time c.args.table.now in
+    let spans = spans_of_pairs (g.T.SpareTable.pairs c.args.table.now) in
+    let here = place g (goal.at.returns-then-time-span-clause-early g c).After-read-span in
+    start-before t c.loop-index.index c.args.time spans c.read-span.result c.count-count.ensures.table.consecutive here.span c.requires.after c.loop-index.invariant.early
+
+pub overflow_add-due : goal.overflow_add-due
+overflow_add-due g c =
+    let here = place g (goal.at.overflow_add-due g c).After-read-span in
+    let seen = IsSeen-place c.count-count.ensures.table here in
+    omega (arith, seen.small, seen.stands.work)
+
+pub loop-index-preserved : goal.loop-index-preserved
+loop-index-preserved g c =
     let t = g.T.SpareTable.time c.args.table.now in
     let pairs = g.T.SpareTable.pairs c.args.table.now in
-    let later = c.in-Some.ensures in
-    let inv = c.loop-place.invariant in
-    let start = later-start t pairs c.loop-place.place c.in-Some.later c.place_near-place.ensures.table.consecutive inv.place later.place later.last in
+    let spans = spans_of_pairs pairs in
+    let here = place g (goal.at.loop-index-preserved g c).After-read-span in
+    let ended : c.read-span.result.end < c.args.time = omega (arith, c.if-time-span.false) in
     record {
-      place = later.place;
-      early = omega arith;
-      rose = omega (arith, inv.rose, later.steps);
-      steps = omega (arith, inv.steps, later.steps, later.last);
+      front = record {
+        few = omega (arith, here.within, length-spans_of_pairs pairs);
+        works = omega (arith, here.due, works-next c.loop-index.index spans c.read-span.result here.span);
+      };
+      early = omega (arith, ended-before t c.args.time c.loop-index.index spans c.read-span.result c.count-count.ensures.table.consecutive here.span ended);
+      rose = omega (arith, c.loop-index.invariant.rose, c.read-span.ensures.one_step);
+      steps = omega (arith, c.loop-index.invariant.steps, c.read-span.ensures.one_step);
     }
 
-pub returns-in_default-clause-reached : goal.returns-in_default-clause-reached
-returns-in_default-clause-reached g c =
+pub unreachable-requires : goal.unreachable-requires
+unreachable-requires g c =
     let t = g.T.SpareTable.time c.args.table.now in
     let pairs = g.T.SpareTable.pairs c.args.table.now in
-    let end = last-ends t pairs c.loop-place.place c.loop-place.invariant.place c.in_default.ensures.last in
-    omega (arith, c.requires.within)
+    omega (arith, c.loop-index-test.false, c.count-count.ensures.count, near-within t c.args.time c.loop-index.index pairs c.count-count.ensures.table.consecutive c.requires.after c.requires.within c.loop-index.invariant.early)

@@ -1,15 +1,13 @@
-use Rattle.std.proofs.Common.{◌+◌, ◌-◌, ◌≤◌, ◌<◌, length}
-use Rattle.guarantee.specs.Places.{IsPlace}
+use Rattle.std.proofs.Common.{◌+◌, ◌≤◌}
+use Rattle.interval_row.specs.Changes.{ends_before}
+use Rattle.interval_row.specs.Tables.{spans_of_pairs, IsFront}
 use Rattle.guarantee.proofs.walk.place_of.Given as goal
 
--- a place whose span starts before the time
-abbrev pub invariant-loop-place : goal.invariant-loop-place
-invariant-loop-place g l = record {
-  place : IsPlace (g.T.SpareTable.pairs l.table) l.place;
-  early : l.place.span.start < l.time;
+-- the spans before this one are due, and all end before the time
+abbrev pub invariant-loop-index : goal.invariant-loop-index
+invariant-loop-index g l = record {
+  front : IsFront (spans_of_pairs (g.T.SpareTable.pairs l.table)) (record { count = l.index; works = l.due });
+  early : l.index ≤ ends_before l.time (spans_of_pairs (g.T.SpareTable.pairs l.table));
   rose : l.fn.steps ≤ l.steps;
-  steps : l.steps ≤ l.fn.steps + l.place.index + 1;
+  steps : l.steps ≤ l.fn.steps + l.index;
 }
-
-abbrev pub decreases-loop-place : goal.decreases-loop-place
-decreases-loop-place g l = length (g.T.SpareTable.pairs l.table) - l.place.index
