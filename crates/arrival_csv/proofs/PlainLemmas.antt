@@ -110,7 +110,7 @@ unfolding next_record
 records-end = records-step st.StartRecord [] refl
 
 -- a text that starts with a row has that row and those of the bytes after it
-records-row : (c : ℕ) (text : List ℕ) (fields : List (List ℕ)) (rest : List ℕ) → c ≢ 10 → c ≢ 13 → next_record default_config st.StartField [] [] (c ∷ text) ≡ Some (fields, st.StartRecord, rest) → records default_config (c ∷ text) ≡ fields ∷ records default_config rest
+pub records-row : (c : ℕ) (text : List ℕ) (fields : List (List ℕ)) (rest : List ℕ) → c ≢ 10 → c ≢ 13 → next_record default_config st.StartField [] [] (c ∷ text) ≡ Some (fields, st.StartRecord, rest) → records default_config (c ∷ text) ≡ fields ∷ records default_config rest
 unfolding next_record
 records-row c text fields rest line return goes =
     let begins : next_record default_config st.StartRecord [] [] (c ∷ text) ≡ next_record default_config st.StartField [] [] (c ∷ text) = rw (ne_eqb c 10 line, ne_eqb c 13 return) refl in

@@ -1,4 +1,5 @@
 pub mod Kinds
+pub mod Quick
 pub mod Reading
 pub mod Rows
 pub mod SoFar

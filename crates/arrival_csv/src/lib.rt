@@ -11,6 +11,7 @@ ghost use Rattle.arrival_faults.specs.declared.faults.ArrivalFault.TheVariants.{
 
 mod kinds;
 mod plain;
+mod quick;
 mod reader;
 mod row;
 mod rows;
@@ -20,6 +21,7 @@ pub use arrival_faults::ArrivalFault;
 use csv::ByteRecord;
 pub use kinds::Kind;
 use plain::{Next, is_unmarked, next_plain};
+use quick::quick_row;
 use reader::{next_row, reader_of};
 use row::Row;
 pub use rows::{done_of, firm_of, soft_of, sporadic_of, withdraw_of};
@@ -54,7 +56,7 @@ pub fn read_arrivals(
 }
 
 /// The arrivals that the bytes write, which start with no byte order mark, unless only a reader of
-/// quotes and returns can tell.
+/// quotes and returns can tell. A row that is well-formed is read in one pass.
 fn read_plain(
     alloc: Global,
     bytes: &[u8],
@@ -71,6 +73,11 @@ fn read_plain(
     let mut so_far = SoFar::none(alloc);
     let mut left = bytes;
     loop {
+        if let Some(quick) = quick_row(tasks, left) {
+            so_far.take_event(slots, u64::from(quick.slot), quick.event)?;
+            left = quick.rest;
+            continue;
+        }
         match next_plain(left) {
             Next::End => return Ok(Some(so_far.arrivals)),
             Next::Row(row, rest) => {

@@ -18,7 +18,8 @@ pub(crate) enum Next<'a> {
 }
 
 /// A field of a text, and what ends it.
-enum Cut<'a> {
+#[derive(Clone, Copy)]
+pub(crate) enum Cut<'a> {
     /// The last field of its row, and the bytes after the row.
     Last(&'a [u8], &'a [u8]),
     /// A field with a comma after it, and the place after that.
@@ -126,7 +127,7 @@ fn after_four<'a>(first: &'a [u8], second: &'a [u8], text: &'a [u8], start: usiz
 }
 
 /// The field that starts at this place of the text, and what ends it.
-fn cut_field(text: &[u8], start: usize) -> Cut<'_>
+pub(crate) fn cut_field(text: &[u8], start: usize) -> Cut<'_>
     requires { start ≤ length text.now }
     ensures { IsCutOf text.now start result }
 {

@@ -2,6 +2,7 @@
 
 ghost use Rattle.std.specs.Prelude.{List, ℕ, ◌≡◌, ◌≤◌, true, drop, Ok, Err, IfOk, MatchResult};
 ghost use Rattle.slot_core.specs.Sets.Ranges.{is_sound};
+ghost use Rattle.arrival_csv.specs.Quick.{arrival_in_turn};
 ghost use Rattle.arrival_csv.specs.Rows.{IsRowOf};
 ghost use Rattle.arrival_csv.specs.Reading.{arrival_of, done_of, event_of, firm_of, first_fields, one_field, slot_in_turn, slots_of, soft_of, sporadic_of, two_fields, withdraw_of};
 
@@ -32,6 +33,25 @@ pub(crate) fn arrival_of(
     let kind = Kind::of(word).ok_or(ArrivalFault::UnknownKind(row))?;
     let event = event_of(tasks, row, kind, fields)?;
     let slot = slot_in_turn(slots, row, before, u64::from(number))?;
+    Ok(Arrival { row, slot, event })
+}
+
+/// The arrival of a row that writes this slot and event, where the row before has that slot.
+#[inline(always)]
+pub(crate) fn arrival_in_turn(
+    slots: u64,
+    row: u32,
+    before: u64,
+    slot: u64,
+    event: Event,
+) -> Result<Arrival, ArrivalFault>
+    ensures reading { result ≡ arrival_in_turn slots row before slot event }
+    ensures few { IfOk result (λ arrival. row ≤ ARRIVAL_LIMIT) }
+{
+    if row > ARRIVAL_LIMIT {
+        return Err(ArrivalFault::TooMany);
+    }
+    let slot = slot_in_turn(slots, row, before, slot)?;
     Ok(Arrival { row, slot, event })
 }
 
