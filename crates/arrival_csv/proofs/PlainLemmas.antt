@@ -6,9 +6,7 @@ use Rattle.std.proofs.lemmas.List.{append-nil, drop-drop, drop_all, drop_more}
 use Rattle.csv.specs.declared.parser.State.TheVariants as st
 use Rattle.csv.specs.Machine.{next_record}
 use Rattle.csv.specs.Reading.{default_config, records, records_from, records_next, strip_bom}
-use Rattle.arrival_csv.specs.declared.plain.Next.{Next}
-use Rattle.arrival_csv.specs.declared.plain.Next.TheVariants as next
-use Rattle.arrival_csv.specs.Rows.{ends_field, IsNextAfter, IsNextAt, IsNextOf}
+use Rattle.arrival_csv.specs.Rows.{ends_field}
 use Rattle.arrival_csv.proofs.RecordLemmas.{records-step}
 
 -- a byte that ends no field is none of these
@@ -87,18 +85,6 @@ unfolding next_record
 field-at_line fields text start end is inside line =
     field-between fields text (10 ∷ drop (end + 1) text) start end is (drop_more text end 0 inside ∙ ap (λ c. c ∷ drop (end + 1) text) line) refl
 
--- a field before a comma has another after it
-pub field-at_comma : (fields : List (List ℕ)) (text : List ℕ) (start end : ℕ) → IsEnd text start end → end < length text → get_or text end 0 ≡ 44 → next_record default_config st.StartField fields [] (drop start text) ≡ next_record default_config st.StartField (fields ++ (between text start end ∷ [])) [] (drop (end + 1) text)
-unfolding next_record
-field-at_comma fields text start end is inside comma =
-    field-between fields text (44 ∷ drop (end + 1) text) start end is (drop_more text end 0 inside ∙ ap (λ c. c ∷ drop (end + 1) text) comma) refl
-
--- what is left after a field of a row is left after those before it
-pub IsNextAfter-more : (before more : List (List ℕ)) (text rest : List ℕ) (found : Next) → next_record default_config st.StartField before [] text ≡ next_record default_config st.StartField more [] rest → IsNextAfter more rest found → IsNextAfter before text found
-IsNextAfter-more before more text rest next.End same after = after
-IsNextAfter-more before more text rest (next.Row row left) same (fields, told, goes) = (fields, told, same ∙ goes)
-IsNextAfter-more before more text rest next.Other same after = tt
-
 -- an empty line is no row
 pub records-empty_line : (text : List ℕ) → records default_config (10 ∷ text) ≡ records default_config text
 unfolding next_record
@@ -115,13 +101,6 @@ unfolding next_record
 records-row c text fields rest line return goes =
     let begins : next_record default_config st.StartRecord [] [] (c ∷ text) ≡ next_record default_config st.StartField [] [] (c ∷ text) = rw (ne_eqb c 10 line, ne_eqb c 13 return) refl in
     records-step st.StartRecord (c ∷ text) refl ∙ ap (records_next (λ s2 ys. records_from default_config (length ys + 1) s2 ys)) (begins ∙ goes)
-
--- what stands at the start of a text is what stands where its first row starts
-pub IsNextOf-from_row : (whole text : List ℕ) (c : ℕ) (rest : List ℕ) (found : Next) → records default_config whole ≡ records default_config text → text ≡ c ∷ rest → c ≢ 10 → c ≢ 13 → IsNextAt text found → IsNextOf whole found
-IsNextOf-from_row whole text c rest next.End same is line return at = absurd at
-IsNextOf-from_row whole text c rest (next.Row row after) same is line return (fields, told, goes) =
-    (fields, told, same ∙ ap (records default_config) is ∙ records-row c rest fields after.now line return (rw is at goes))
-IsNextOf-from_row whole text c rest next.Other same is line return at = tt
 
 -- an empty text has no byte order mark
 pub strip_bom-empty : (text : List ℕ) → text ≡ [] → strip_bom text ≡ text

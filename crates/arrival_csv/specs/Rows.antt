@@ -1,16 +1,12 @@
 -- The rows that a reader or a text has left, and the fields of a row.
-use Rattle.std.specs.Prelude.{◌≡◌, ⊤, ℕ, ◌+◌, ◌<◌, ◌≤◌, Bool, false, ◌==◌, ◌||◌, List, ◌∷◌, ◌++◌, [], drop, length, Some}
+use Rattle.std.specs.Prelude.{◌≡◌, ℕ, ◌+◌, Bool, false, ◌==◌, ◌||◌, List, ◌∷◌, ◌++◌, [], drop, length, Some}
 use Rattle.std.specs.Bool.{MatchBool}
 use Rattle.std.specs.Borrow.{Bor}
 use Rattle.csv.specs.Machine.{ends_at_end, next_record}
-use Rattle.csv.specs.Reading.{Ready, source_of, reader_config, reader_state, reader_trim, default_config, records, records_from}
+use Rattle.csv.specs.Reading.{Ready, source_of, reader_config, reader_state, reader_trim, default_config, records_from}
 use Rattle.csv.specs.declared.parser.State.TheVariants as st
 use Rattle.csv.specs.declared.reader.Reader.{Reader}
 use Rattle.csv.specs.declared.reader.Trim.TheVariants as trim
-use Rattle.arrival_csv.specs.declared.plain.Cut.{Cut}
-use Rattle.arrival_csv.specs.declared.plain.Cut.TheVariants as cut
-use Rattle.arrival_csv.specs.declared.plain.Next.{Next}
-use Rattle.arrival_csv.specs.declared.plain.Next.TheVariants as next
 use Rattle.arrival_csv.specs.declared.row.Row.{Row}
 use Rattle.arrival_csv.specs.declared.row.Row.TheVariants.{Empty, One, Two, Three, Four, Longer}
 
@@ -49,34 +45,9 @@ IsRowOf (Longer a b) fields = IsLonger a.now b.now fields
 abbrev pub ends_field : ℕ → Bool
 ends_field byte = (byte == 44) || (byte == 10) || (byte == 34) || (byte == 13)
 
--- what stands at the start of this text: no row, or a row and the bytes after it, unless only a
--- reader of quotes and returns can tell
-abbrev pub IsNextOf : List ℕ → Next → Type 0
-IsNextOf text next.End = records default_config text ≡ []
-IsNextOf text (next.Row row rest) = (fields : List (List ℕ)) × IsRowOf row fields
-    × (records default_config text ≡ fields ∷ records default_config rest.now)
-IsNextOf text next.Other = ⊤
-
--- the same, where the text starts a field of a row after these fields
-abbrev pub IsNextAfter : List (List ℕ) → List ℕ → Next → Type 0
-IsNextAfter before text next.End = ⊥
-IsNextAfter before text (next.Row row rest) = (fields : List (List ℕ)) × IsRowOf row fields
-    × (next_record default_config st.StartField before [] text
-    ≡ Some (fields, st.StartRecord, rest.now))
-IsNextAfter before text next.Other = ⊤
-
--- the same, where the text starts a row
-abbrev pub IsNextAt : List ℕ → Next → Type 0
-IsNextAt text next = IsNextAfter [] text next
-
--- this is the field that starts at this place of a text, and what ends it, whatever fields of the
--- row are before it
-abbrev pub IsCutOf : List ℕ → ℕ → Cut → Type 0
-IsCutOf text start (cut.Last field rest) = (before : List (List ℕ))
+-- the field that starts at this place of the text is this one, whatever fields of its row are before
+-- it, and ends the row: the rest is after it
+abbrev pub IsLastField : List ℕ → ℕ → List ℕ → List ℕ → Type 0
+IsLastField text start field rest = (before : List (List ℕ))
     → next_record default_config st.StartField before [] (drop start text)
-    ≡ Some (before ++ (field.now ∷ []), st.StartRecord, rest.now)
-IsCutOf text start (cut.Comma field next) = (start < next) × (next ≤ length text)
-    × ((before : List (List ℕ))
-    → next_record default_config st.StartField before [] (drop start text)
-    ≡ next_record default_config st.StartField (before ++ (field.now ∷ [])) [] (drop next text))
-IsCutOf text start cut.Other = ⊤
+    ≡ Some (before ++ (field ∷ []), st.StartRecord, rest)

@@ -20,7 +20,7 @@ mod so_far;
 pub use arrival_faults::ArrivalFault;
 use csv::ByteRecord;
 pub use kinds::Kind;
-use plain::{Next, is_unmarked, next_plain};
+use plain::{after_empty_lines, is_unmarked};
 use quick::quick_row;
 use reader::{next_row, reader_of};
 use row::Row;
@@ -55,8 +55,8 @@ pub fn read_arrivals(
     read_records(alloc, bytes, slots, tasks)
 }
 
-/// The arrivals that the bytes write, which start with no byte order mark, unless only a reader of
-/// quotes and returns can tell. A row that is well-formed is read in one pass.
+/// The arrivals that the bytes write, which start with no byte order mark, where each row is
+/// well-formed and nothing is quoted.
 fn read_plain(
     alloc: Global,
     bytes: &[u8],
@@ -73,19 +73,15 @@ fn read_plain(
     let mut so_far = SoFar::none(alloc);
     let mut left = bytes;
     loop {
-        if let Some(quick) = quick_row(tasks, left) {
-            so_far.take_event(slots, u64::from(quick.slot), quick.event)?;
-            left = quick.rest;
-            continue;
+        let text = after_empty_lines(left);
+        if text.is_empty() {
+            return Ok(Some(so_far.arrivals));
         }
-        match next_plain(left) {
-            Next::End => return Ok(Some(so_far.arrivals)),
-            Next::Row(row, rest) => {
-                so_far.take(tasks, slots, &row)?;
-                left = rest;
-            }
-            Next::Other => return Ok(None),
-        }
+        let Some(row) = quick_row(tasks, text) else {
+            return Ok(None);
+        };
+        so_far.take_event(slots, u64::from(row.slot), row.event)?;
+        left = row.rest;
     }
 }
 

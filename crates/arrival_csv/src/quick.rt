@@ -1,4 +1,4 @@
-//! The rows of a text that are well-formed, read in one pass. Any other row is left to `plain`.
+//! The rows of a text that are well-formed, read in one pass.
 
 ghost use Rattle.std.specs.Prelude.{List, ℕ, ◌≡◌, ◌≤◌, true, IfSome, length};
 ghost use Rattle.slot_core.specs.declared.tasks.TaskSet.{TaskSet};
@@ -7,7 +7,7 @@ ghost use Rattle.arrival_csv.specs.declared.kinds.Kind.TheVariants.{Soft, Firm, 
 ghost use Rattle.arrival_csv.specs.Quick.{AreDigitsAt, EndsRow, GoesOn, IsKindAt, IsNumberAt, StartsWithEvent, StartsWithRow};
 
 use crate::kinds::Kind;
-use crate::plain::{Cut, cut_field};
+use crate::plain::last_field;
 use key_texts::{DIGIT_LIMIT, key_of, sporadic_named};
 use slot_core::{ARRIVAL_LIMIT, Event, NUMBER_LIMIT, OFFER_LIMIT, TaskSet};
 
@@ -134,9 +134,7 @@ fn quick_sporadic<'a>(tasks: &TaskSet, text: &'a [u8], start: usize) -> Option<Q
     ensures { IfSome result (λ told.
         StartsWithEvent tasks.now Sporadic text.now start told.event told.rest.now) }
 {
-    let Cut::Last(name, rest) = cut_field(text, start) else {
-        return None;
-    };
+    let (name, rest) = last_field(text, start)?;
     let index = sporadic_named(tasks.sporadics.items(), name)?;
     let event = Event::Sporadic(index as u8);
     Some(QuickEvent { event, rest })
@@ -149,9 +147,7 @@ fn quick_done<'a>(tasks: &TaskSet, text: &'a [u8], start: usize) -> Option<Quick
     ensures { IfSome result (λ told.
         StartsWithEvent tasks.now Done text.now start told.event told.rest.now) }
 {
-    let Cut::Last(key, rest) = cut_field(text, start) else {
-        return None;
-    };
+    let (key, rest) = last_field(text, start)?;
     let event = Event::Done(key_of(tasks, key)?);
     Some(QuickEvent { event, rest })
 }
