@@ -48,8 +48,7 @@ EndsRow text place rest = (before : List (List ℕ)) (field : List ℕ)
     → next_record default_config st.InField before field (drop place text)
     ≡ Some (before ++ (field ∷ []), st.StartRecord, rest)
 
--- at this place of the text starts the third field of a row of this kind, and the row ends before
--- the rest: its fields from there on write this event
+-- the fields from this place on, the last of their row, write this event; the rest is after it
 abbrev pub StartsWithEvent : TaskSet → Kind → List ℕ → ℕ → Event → List ℕ → Type 0
 StartsWithEvent set kind text start event rest = (fields : List (List ℕ))
     × ((before : List (List ℕ))
@@ -57,19 +56,19 @@ StartsWithEvent set kind text start event rest = (fields : List (List ℕ))
     ≡ Some (before ++ fields, st.StartRecord, rest))
     × ((row : ℕ) → event_of set row kind fields ≡ Ok event)
 
--- the arrival of a row that writes this event, in a slot that is told, where the row before has one
+-- the arrival of a row that writes this slot and event, after a row of the slot `before`
 abbrev pub arrival_in_turn : ℕ → ℕ → ℕ → ℕ → Event → Read Arrival
-arrival_in_turn slots number before told event = do
+arrival_in_turn slots number before slot event = do
   row ← limited_row number
-  slot ← slot_in_turn slots row before told
-  Ok (record { row = row; slot = slot; event = event })
+  at ← slot_in_turn slots row before slot
+  Ok (record { row = row; slot = at; event = event })
 
 -- a row of these fields writes this slot and this event
 abbrev pub WritesEvent : TaskSet → List (List ℕ) → ℕ → Event → Type 0
 WritesEvent set fields slot event = (slots row before : ℕ)
     → arrival_of set slots row before fields ≡ arrival_in_turn slots row before slot event
 
--- the text starts with a row that writes this slot and this event, and the rest is after it
+-- the first row of the text writes this slot and event, and its other rows are those of the rest
 abbrev pub StartsWithRow : TaskSet → List ℕ → ℕ → Event → List ℕ → Type 0
 StartsWithRow set text slot event rest = (fields : List (List ℕ))
     × (records default_config text ≡ fields ∷ records default_config rest)

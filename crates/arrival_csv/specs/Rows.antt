@@ -1,4 +1,4 @@
--- The rows that a reader or a text has left, and the fields of a row.
+-- The rows that a reader has left, and the fields of a row.
 use Rattle.std.specs.Prelude.{◌≡◌, ℕ, ◌+◌, Bool, false, ◌==◌, ◌||◌, List, ◌∷◌, ◌++◌, [], drop, length, Some}
 use Rattle.std.specs.Bool.{MatchBool}
 use Rattle.std.specs.Borrow.{Bor}
@@ -45,8 +45,7 @@ IsRowOf (Longer a b) fields = IsLonger a.now b.now fields
 abbrev pub ends_field : ℕ → Bool
 ends_field byte = (byte == 44) || (byte == 10) || (byte == 34) || (byte == 13)
 
--- the field that starts at this place of the text is this one, whatever fields of its row are before
--- it, and ends the row: the rest is after it
+-- the field that starts at this place is this one and the last of its row; the rest is after it
 abbrev pub IsLastField : List ℕ → ℕ → List ℕ → List ℕ → Type 0
 IsLastField text start field rest = (before : List (List ℕ))
     → next_record default_config st.StartField before [] (drop start text)

@@ -55,8 +55,10 @@ pub fn read_arrivals(
     read_records(alloc, bytes, slots, tasks)
 }
 
-/// The arrivals that the bytes write, which start with no byte order mark, where each row is
-/// well-formed and nothing is quoted.
+/// The arrivals that the bytes write, which start with no byte order mark, where each row writes an
+/// arrival without a quote or a carriage return; or the first fault of number, order and end of
+/// rows. It stands apart, so that its loop keeps its numbers in registers.
+#[inline(never)]
 fn read_plain(
     alloc: Global,
     bytes: &[u8],

@@ -1,6 +1,6 @@
 //! The rows of a text that are well-formed, read in one pass.
 
-ghost use Rattle.std.specs.Prelude.{List, ℕ, ◌≡◌, ◌≤◌, true, IfSome, length};
+ghost use Rattle.std.specs.Prelude.{◌≡◌, ◌≤◌, true, IfSome, length};
 ghost use Rattle.slot_core.specs.declared.tasks.TaskSet.{TaskSet};
 ghost use Rattle.slot_core.specs.Sets.Ranges.{is_sound};
 ghost use Rattle.arrival_csv.specs.declared.kinds.Kind.TheVariants.{Soft, Firm, Sporadic, Done, Withdraw};
@@ -49,7 +49,7 @@ struct DigitsAt {
     end: usize,
 }
 
-/// The row at the start of the text, where it is well-formed and has nothing before it.
+/// The row at the start of the text, where it is well-formed.
 pub(crate) fn quick_row<'a>(tasks: &TaskSet, text: &'a [u8]) -> Option<QuickRow<'a>>
     requires { is_sound tasks.now ≡ true }
     ensures { IfSome result (λ row.
@@ -86,7 +86,7 @@ fn quick_event<'a>(
     }
 }
 
-/// Soft work, whose slots start at this place of the text.
+/// Soft work, whose third field starts at this place of the text.
 fn quick_soft(text: &[u8], start: usize) -> Option<QuickEvent<'_>>
     requires { start ≤ length text.now }
     ensures { (set : TaskSet) → IfSome result (λ told.
@@ -99,7 +99,7 @@ fn quick_soft(text: &[u8], start: usize) -> Option<QuickEvent<'_>>
     })
 }
 
-/// A firm task, whose slots start at this place of the text.
+/// A firm task, whose third field starts at this place of the text.
 fn quick_firm(text: &[u8], start: usize) -> Option<QuickEvent<'_>>
     requires { start ≤ length text.now }
     ensures { (set : TaskSet) → IfSome result (λ told.
@@ -114,7 +114,7 @@ fn quick_firm(text: &[u8], start: usize) -> Option<QuickEvent<'_>>
     })
 }
 
-/// A withdrawal, whose row starts at this place of the text.
+/// A withdrawal, whose third field starts at this place of the text.
 fn quick_withdraw(text: &[u8], start: usize) -> Option<QuickEvent<'_>>
     requires { start ≤ length text.now }
     ensures { (set : TaskSet) → IfSome result (λ told.
@@ -127,7 +127,7 @@ fn quick_withdraw(text: &[u8], start: usize) -> Option<QuickEvent<'_>>
     })
 }
 
-/// A job of a sporadic task, whose name starts at this place of the text.
+/// A job of a sporadic task, whose third field starts at this place of the text.
 fn quick_sporadic<'a>(tasks: &TaskSet, text: &'a [u8], start: usize) -> Option<QuickEvent<'a>>
     requires sound { is_sound tasks.now ≡ true }
     requires within { start ≤ length text.now }
@@ -140,7 +140,7 @@ fn quick_sporadic<'a>(tasks: &TaskSet, text: &'a [u8], start: usize) -> Option<Q
     Some(QuickEvent { event, rest })
 }
 
-/// The early end of a job, whose key starts at this place of the text.
+/// The early end of a job, whose third field starts at this place of the text.
 fn quick_done<'a>(tasks: &TaskSet, text: &'a [u8], start: usize) -> Option<QuickEvent<'a>>
     requires sound { is_sound tasks.now ≡ true }
     requires within { start ≤ length text.now }

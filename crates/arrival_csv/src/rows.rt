@@ -36,7 +36,7 @@ pub(crate) fn arrival_of(
     Ok(Arrival { row, slot, event })
 }
 
-/// The arrival of a row that writes this slot and event, where the row before has that slot.
+/// The arrival of a row that writes this slot and event, after a row of the slot `before`.
 #[inline(always)]
 pub(crate) fn arrival_in_turn(
     slots: u64,
