@@ -1,6 +1,6 @@
 //! The first spans after an entry.
 
-ghost use Rattle.std.specs.Prelude.{◌≡◌, ◌<◌, ◌≤◌, [], ◌∷◌, ◌++◌, length};
+ghost use Rattle.std.specs.Prelude.{◌≡◌, ◌<◌, ◌≤◌, [], ◌∷◌, ◌++◌, drop, length};
 ghost use Rattle.slot_core.specs.declared.TheConstants.{SHOWN_LIMIT};
 
 use crate::SHOWN_LIMIT;
@@ -40,6 +40,15 @@ impl Shown {
         ensures { self.new ≡ record self.old { spans = self.old.spans ++ span ∷ [] } }
     {
         self.first.push(span);
+    }
+
+    /// Puts another span in the place of the first.
+    pub fn set_first(&mut self, span: Span)
+        requires { 1 ≤ length self.old.spans }
+        ensures first { self.new.spans ≡ span ∷ drop 1 self.old.spans }
+        ensures more { self.new.more ≡ self.old.more }
+    {
+        self.first.as_mut_slice()[0] = span;
     }
 
     /// The spans that are shown.
