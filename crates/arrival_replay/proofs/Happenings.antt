@@ -25,7 +25,7 @@ use Rattle.slot_facts.proofs.Replays.Entries.{AreLeft, entries_left, time_of-arr
 use Rattle.slot_facts.proofs.Replays.Following.{NoneIsDue}
 use Rattle.slot_facts.proofs.Replays.Named.{IsNamed, told-named}
 use Rattle.arrival_replay.specs.Replays.{due_at, due_arrival, is_on_the_way, next_occurrence}
-use Rattle.arrival_replay.proofs.UnderWay.{IsUnderWay, IsToTell, IsToTell-next}
+use Rattle.arrival_replay.proofs.UnderWay.{IsUnderWay, IsToTell, TookStood, IsToTell-next}
 
 -- the place of the next arrival after what is due
 abbrev pub place_after : Option Arrival → ℕ → ℕ
@@ -203,7 +203,7 @@ module _ (Took : List Entry → Type 0) (plan : PlanParts) (before : Executive) 
       omega (arith, now, last, time-happened after (Some a) what does, last-happened after (Some a) what is does)
 
   -- what happens next is to be told
-  pub IsToTell-happened : (after : Executive) (due : Option Arrival) (what : What) → due ≡ due_arrival arrivals place time → time < n → Does before after (next_occurrence due) what → IsToTell Took plan after trace n (drop (place_after due place) arrivals) time what
+  pub IsToTell-happened : (after : Executive) (due : Option Arrival) (what : What) → due ≡ due_arrival arrivals place time → time < n → Does before after (next_occurrence due) what → IsToTell (TookStood Took before) plan after trace n (drop (place_after due place) arrivals) time what
   IsToTell-happened after None what is early does =
       let rest = drop place arrivals in
       let none = subst (λ t. NoneIsDue t rest) time-so_far (NoneIsDue-from arrivals place time (sym is)) in

@@ -1,7 +1,7 @@
--- What is shown stays where no span changes, and is told of all that happens.
-use Rattle.std.proofs.Common.{◌≡◌, ℕ, false, List, ◌∷◌, refl, sym, ap, ◌∙◌, subst}
+-- What is shown stays where no span changes, and what happens is not the end.
+use Rattle.std.proofs.Common.{◌≡◌, ℕ, Bool, true, false, ◌∷◌, refl, sym, ◌∙◌, subst}
+use Rattle.std.specs.Prelude.{◌≢◌}
 use Rattle.slot_core.specs.declared.tasks.TaskSet.{TaskSet}
-use Rattle.slot_core.specs.declared.events.Entry.{Entry}
 use Rattle.slot_core.specs.declared.events.What.{What}
 use Rattle.slot_core.specs.declared.events.What.TheVariants.{Start, Soft, Firm, Sporadic, Done, Withdraw, Run, Idle, End}
 use Rattle.slot_core.specs.declared.events.Firm.TheVariants.{Accepted, Late, Far, NoRoom}
@@ -11,8 +11,8 @@ use Rattle.slot_core.specs.declared.events.Gone.TheVariants.{Freed as GoneFreed,
 use Rattle.slot_core.specs.declared.events.Event.TheVariants.{Soft as SoftEvent, Firm as FirmEvent, Sporadic as SporadicEvent, Done as DoneEvent, Withdraw as WithdrawEvent}
 use Rattle.slot_core.specs.declared.events.Ran.{Ran}
 use Rattle.slot_core.specs.declared.events.Ran.TheVariants.{Idle as RanIdle, Key as RanKey}
-use Rattle.slot_core.specs.Keeping.Executives.{Executive, Does}
-use Rattle.slot_core.specs.Output.Texts.{spans_text}
+use Rattle.slot_core.specs.Keeping.Executives.{Executive, Does, Shows, StandsFor}
+use Rattle.slot_core.specs.Keeping.Plans.{PlanParts}
 use Rattle.slot_core.specs.Runs.Choice.{choice}
 use Rattle.slot_core.specs.Runs.Histories.{History}
 use Rattle.slot_core.specs.Runs.Scenes.{scene_of}
@@ -22,7 +22,7 @@ use Rattle.slot_core.specs.Runs.Traces.{Occurrence, arrive, slot, told_of, told_
 use Rattle.arrival_replay.specs.Replays.{may_change_spans}
 
 -- the spans after what changes none are those before it
-pub shown-kept : (set : TaskSet) (cycle : ℕ) (what : What) (h : History) → may_change_spans what ≡ false → shown_of cycle (scene_of set cycle (what ∷ h)) ≡ shown_of cycle (scene_of set cycle h)
+shown-kept : (set : TaskSet) (cycle : ℕ) (what : What) (h : History) → may_change_spans what ≡ false → shown_of cycle (scene_of set cycle (what ∷ h)) ≡ shown_of cycle (scene_of set cycle h)
 shown-kept set cycle (Soft row slots answer) h kept = refl
 shown-kept set cycle (Firm row slots within Accepted) h kept = absurd (cc kept)
 shown-kept set cycle (Firm row slots within Late) h kept = refl
@@ -39,32 +39,39 @@ shown-kept set cycle (Run key) h kept = absurd (cc kept)
 shown-kept set cycle Idle h kept = absurd (cc kept)
 shown-kept set cycle End h kept = absurd (cc kept)
 
--- what ran is told with its spans, as the start is
-spans-ran : (ran : Ran) (shown : ShownSpans) → spans_text (told_of_slot ran) shown ≡ spans_text Start shown
-spans-ran RanIdle shown = refl
-spans-ran (RanKey key) shown = refl
+-- the spans of an executive after what it did are those after that
+pub shown-after : (before after : Executive) (next : Occurrence) (what : What) (last : ShownSpans) (h : History) → Does before after next what → Shows after last → StandsFor before h → last ≡ shown_of before.plan.cycle (scene_of before.plan.tasks before.plan.cycle (what ∷ h))
+shown-after before after next what last h does shows stands =
+    subst (λ (p : PlanParts). last ≡ shown_of p.cycle (scene_of p.tasks p.cycle (what ∷ h))) does.plan (shows.1 (what ∷ h) (does.stands h stands))
 
--- so is all that happens
-spans-told : (set : TaskSet) (cycle : ℕ) (h : History) (next : Occurrence) (shown : ShownSpans) → spans_text (told_of set cycle h next) shown ≡ spans_text Start shown
-spans-told set cycle h (arrive row (SoftEvent slots)) shown = refl
-spans-told set cycle h (arrive row (FirmEvent slots within)) shown = refl
-spans-told set cycle h (arrive row (SporadicEvent index)) shown = refl
-spans-told set cycle h (arrive row (DoneEvent key)) shown = refl
-spans-told set cycle h (arrive row (WithdrawEvent firm)) shown = refl
-spans-told set cycle h slot shown = spans-ran (choice set.sporadics cycle (scene_of set cycle h)) shown
+-- what ran is not the end
+ran-some : (ran : Ran) → told_of_slot ran ≡ End → ⊥
+ran-some RanIdle same = cc same
+ran-some (RanKey key) same = cc same
 
--- so is what an executive does
-pub spans-done : (before after : Executive) (next : Occurrence) (what : What) → Does before after next what → (shown : ShownSpans) → spans_text what shown ≡ spans_text Start shown
-spans-done before after next what does shown =
+-- nor is anything that happens
+told-some : (set : TaskSet) (cycle : ℕ) (h : History) (next : Occurrence) → told_of set cycle h next ≡ End → ⊥
+told-some set cycle h (arrive row (SoftEvent slots)) same = cc same
+told-some set cycle h (arrive row (FirmEvent slots within)) same = cc same
+told-some set cycle h (arrive row (SporadicEvent index)) same = cc same
+told-some set cycle h (arrive row (DoneEvent key)) same = cc same
+told-some set cycle h (arrive row (WithdrawEvent firm)) same = cc same
+told-some set cycle h slot same =
+    ran-some (choice set.sporadics cycle (scene_of set cycle h)) same
+
+-- so what an executive does is not the end
+pub done-some : (before after : Executive) (next : Occurrence) (what : What) → Does before after next what → what ≢ End
+done-some before after next what does = λ same.
     let h = does.some.0 in
-    ap (λ w. spans_text w shown) (does.told h does.some.1) ∙ spans-told before.plan.tasks before.plan.cycle h next shown
+    told-some before.plan.tasks before.plan.cycle h next (sym (does.told h does.some.1) ∙ same)
 
--- where the text of an entry of what happens is kept, that of its spans is
-pub keeps-told : (Keeps : List ℕ → Type 0) (what : What) (e : Entry) → e.what ≡ what → ((shown : ShownSpans) → spans_text what shown ≡ spans_text Start shown) → Keeps (spans_text e.what e.shown) → Keeps (spans_text Start e.shown)
-keeps-told Keeps what e is with_spans kept =
-    subst Keeps (ap (λ w. spans_text w e.shown) is ∙ with_spans e.shown) kept
-
--- and where no spans were read for it, it was kept before
-pub keeps-again : (Keeps : List ℕ → Type 0) (time : ℕ) (what : What) (before after : Entry) → after ≡ record before { time = time; what = what } → ((shown : ShownSpans) → spans_text what shown ≡ spans_text Start shown) → Keeps (spans_text Start before.shown) → Keeps (spans_text after.what after.shown)
-keeps-again Keeps time what before after same with_spans kept =
-    subst Keeps (sym (ap (λ (e : Entry). spans_text e.what e.shown) same ∙ with_spans before.shown)) kept
+-- where an arrival was answered, an entry whose spans were read where they may have changed shows
+-- those after it
+pub shown-answered : (before after : Executive) (next : Occurrence) (what : What) (first last : ShownSpans) (h : History) → Does before after next what → (may_change_spans what ≡ true → Shows after last) → (may_change_spans what ≡ false → last ≡ first) → StandsFor before h → first ≡ shown_of before.plan.cycle (scene_of before.plan.tasks before.plan.cycle h) → last ≡ shown_of before.plan.cycle (scene_of before.plan.tasks before.plan.cycle (what ∷ h))
+shown-answered before after next what first last h does read kept stands shown =
+    by_test (may_change_spans what) refl
+  where
+    by_test : (test : Bool) → may_change_spans what ≡ test → last ≡ shown_of before.plan.cycle (scene_of before.plan.tasks before.plan.cycle (what ∷ h))
+    by_test true may = shown-after before after next what last h does (read may) stands
+    by_test false stay =
+        kept stay ∙ shown ∙ sym (shown-kept before.plan.tasks before.plan.cycle what h stay)

@@ -1,5 +1,5 @@
 -- A replay under way: what was told of its trace, and what is left.
-use Rattle.std.proofs.Common.{◌≡◌, ℕ, ◌+◌, ◌≤◌, Bool, true, false, List, [], ◌∷◌, ◌++◌, length, take, append_assoc, length-append, refl, sym, ap, ◌∙◌, subst, arith}
+use Rattle.std.proofs.Common.{◌≡◌, ℕ, ◌+◌, ◌≤◌, true, List, [], ◌∷◌, ◌++◌, length, take, append_assoc, length-append, refl, sym, ap, ◌∙◌, subst, arith}
 use Rattle.std.proofs.Math.Seq.{take-append-add}
 use Rattle.slot_core.specs.declared.events.Arrival.{Arrival}
 use Rattle.slot_core.specs.declared.events.Entry.{Entry}
@@ -16,8 +16,7 @@ use Rattle.slot_core.specs.Runs.Spans.{shown_of}
 use Rattle.slot_core.specs.Runs.Traces.{Occurrence, told_of, shown_entry, trace_in, trace, history_of}
 use Rattle.slot_facts.proofs.Replays.Entries.{AreLeft, entries_left, entry_after, entries_left-start, AreLeft-start}
 use Rattle.slot_facts.proofs.Replays.Told.{history_of-more, StandsFor-started}
-use Rattle.arrival_replay.specs.Replays.{may_change_spans, BreaksOff}
-use Rattle.arrival_replay.proofs.KeptSpans.{shown-kept}
+use Rattle.arrival_replay.specs.Replays.{BreaksOff}
 
 -- entries were told and taken, the executive of this plan stands for their history, and with what
 -- is left after it they are the trace
@@ -61,18 +60,17 @@ TookShown-told Took plan told time what e same took =
     let own = shown_entry plan.tasks plan.cycle time what (what ∷ history_of told) in
     (subst (λ e. Took (told ++ e ∷ [])) same took, ap (λ (e : Entry). e.shown) same ∙ ap (λ h. shown_of plan.cycle (scene_of plan.tasks plan.cycle h)) (sym (history_of-more told own)))
 
--- an entry whose spans were read where they may have changed is the one that is to be told
-pub entry-renewed : (Took : List Entry → Type 0) (plan : PlanParts) (exec : Executive) (trace : List Entry) (n : ℕ) (arrivals : List Arrival) (time : ℕ) (what : What) (before after : Entry) (t : IsToTell (TookShown Took plan before.shown) plan exec trace n arrivals time what) → (may_change_spans what ≡ true → (h : History) → StandsFor exec h → after ≡ shown_entry exec.plan.tasks exec.plan.cycle time what h) → (may_change_spans what ≡ false → after ≡ record before { time = time; what = what }) → after ≡ shown_entry plan.tasks plan.cycle time what (what ∷ history_of t.told)
-entry-renewed Took plan exec trace n arrivals time what before after t read kept =
-    by_test (may_change_spans what) refl
-  where
-    by_test : (test : Bool) → may_change_spans what ≡ test → after ≡ shown_entry plan.tasks plan.cycle time what (what ∷ history_of t.told)
-    by_test true may =
-        let h = what ∷ history_of t.told in
-        subst (λ (p : PlanParts). after ≡ shown_entry p.tasks p.cycle time what h) t.plan_is (read may h t.stands)
-    by_test false stay =
-        let same = t.took.1 ∙ sym (shown-kept plan.tasks plan.cycle what (history_of t.told) stay) in
-        kept stay ∙ ap (λ (s : ShownSpans). record { time = time; what = what; shown = s }) same
+-- entries were taken, and the executive stood for their history
+abbrev pub TookStood : (List Entry → Type 0) → Executive → List Entry → Type 0
+TookStood Took before told = Took told × StandsFor before (history_of told)
+
+-- an entry of this time that shows the spans after what happened is the one that is to be told
+pub entry-told : (Took : List Entry → Type 0) (plan : PlanParts) (before after : Executive) (trace : List Entry) (n : ℕ) (arrivals : List Arrival) (time : ℕ) (first : ShownSpans) (e : Entry) (t : IsToTell (TookStood (TookShown Took plan first) before) plan after trace n arrivals time e.what) → before.plan ≡ plan → e.time ≡ time → ((h : History) → StandsFor before h → first ≡ shown_of before.plan.cycle (scene_of before.plan.tasks before.plan.cycle h) → e.shown ≡ shown_of before.plan.cycle (scene_of before.plan.tasks before.plan.cycle (e.what ∷ h))) → e ≡ shown_entry plan.tasks plan.cycle time e.what (e.what ∷ history_of t.told)
+entry-told Took plan before after trace n arrivals time first e t same on_time shows =
+    let h = history_of t.told in
+    let own : first ≡ shown_of before.plan.cycle (scene_of before.plan.tasks before.plan.cycle h) = subst (λ (p : PlanParts). first ≡ shown_of p.cycle (scene_of p.tasks p.cycle h)) (sym same) t.took.0.1 in
+    let shown = subst (λ (p : PlanParts). e.shown ≡ shown_of p.cycle (scene_of p.tasks p.cycle (e.what ∷ h))) same (shows h t.took.1 own) in
+    ap (λ k. record e { time = k }) on_time ∙ ap (λ s. record e { time = time; shown = s }) shown
 
 -- where the entry is taken too, the replay is under way
 pub IsUnderWay-told : (Took Longer : List Entry → Type 0) (plan : PlanParts) (exec : Executive) (trace : List Entry) (n : ℕ) (arrivals : List Arrival) (time : ℕ) (what : What) → (t : IsToTell Took plan exec trace n arrivals time what) → Longer (t.told ++ shown_entry plan.tasks plan.cycle time what (what ∷ history_of t.told) ∷ []) → IsUnderWay Longer plan exec trace n arrivals
@@ -128,7 +126,7 @@ IsToTell-start Took exec n arrivals cycle stands fits took =
     }
 
 -- what happens next, which is a slot or the next row, is to be told after it
-pub IsToTell-next : (Took : List Entry → Type 0) (plan : PlanParts) (before after : Executive) (trace : List Entry) (n : ℕ) (arrivals rest : List Arrival) (next : Occurrence) (time : ℕ) (what : What) (u : IsUnderWay Took plan before trace n arrivals) → time ≡ before.scene.time → Does before after next what → entries_left plan.tasks plan.cycle n (history_of u.told) arrivals ≡ entry_after plan.tasks plan.cycle (history_of u.told) next ∷ entries_left plan.tasks plan.cycle n (told_of plan.tasks plan.cycle (history_of u.told) next ∷ history_of u.told) rest → AreLeft plan.tasks n (told_of plan.tasks plan.cycle (history_of u.told) next ∷ history_of u.told) rest → time_of (told_of plan.tasks plan.cycle (history_of u.told) next ∷ history_of u.told) ≤ n → after.scene.time + after.last_row ≡ 1 + before.scene.time + before.last_row → IsToTell Took plan after trace n rest time what
+pub IsToTell-next : (Took : List Entry → Type 0) (plan : PlanParts) (before after : Executive) (trace : List Entry) (n : ℕ) (arrivals rest : List Arrival) (next : Occurrence) (time : ℕ) (what : What) (u : IsUnderWay Took plan before trace n arrivals) → time ≡ before.scene.time → Does before after next what → entries_left plan.tasks plan.cycle n (history_of u.told) arrivals ≡ entry_after plan.tasks plan.cycle (history_of u.told) next ∷ entries_left plan.tasks plan.cycle n (told_of plan.tasks plan.cycle (history_of u.told) next ∷ history_of u.told) rest → AreLeft plan.tasks n (told_of plan.tasks plan.cycle (history_of u.told) next ∷ history_of u.told) rest → time_of (told_of plan.tasks plan.cycle (history_of u.told) next ∷ history_of u.told) ≤ n → after.scene.time + after.last_row ≡ 1 + before.scene.time + before.last_row → IsToTell (TookStood Took before) plan after trace n rest time what
 IsToTell-next Took plan before after trace n arrivals rest next time what u now does step left early more =
     let set = plan.tasks in
     let h = history_of u.told in
@@ -138,7 +136,7 @@ IsToTell-next Took plan before after trace n arrivals rest next time what u now 
     let all = ap (λ es. u.told ++ es) (sym step) ∙ u.whole in
     record {
       told = u.told;
-      took = u.took;
+      took = (u.took, u.stands);
       plan_is = does.plan ∙ u.plan_is;
       stands = stands;
       left = subst (λ w. AreLeft set n (w ∷ h) rest) (sym told) left;

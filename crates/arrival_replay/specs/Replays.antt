@@ -1,5 +1,5 @@
 -- How a replay goes, where it stops, and how it ends before its trace does.
-use Rattle.std.specs.Prelude.{◌≡◌, ℕ, ◌+◌, ◌-◌, ◌≤◌, Bool, true, false, ◌&&◌, ◌||◌, ◌==◌, nat_lt, List, [], ◌∷◌, ◌++◌, length, take, slice_get, Option, Some, None, is_none, if◌then◌else◌}
+use Rattle.std.specs.Prelude.{◌≡◌, ℕ, ◌+◌, ◌-◌, ◌≤◌, Bool, true, false, ◌&&◌, ◌||◌, ◌==◌, nat_lt, List, [], ◌∷◌, ◌++◌, length, take, slice_get, Option, Some, None, is_none, if◌then◌else◌, ⊤}
 use Rattle.slot_core.specs.declared.events.Arrival.{Arrival}
 use Rattle.slot_core.specs.declared.events.Entry.{Entry}
 use Rattle.slot_core.specs.declared.events.What.{What}
@@ -8,10 +8,13 @@ use Rattle.slot_core.specs.declared.events.Firm.TheVariants.{Accepted}
 use Rattle.slot_core.specs.declared.events.Spo.TheVariants.{Soon}
 use Rattle.slot_core.specs.declared.events.Done.TheVariants.{NotRunning}
 use Rattle.slot_core.specs.declared.events.Gone.TheVariants.{NoJob}
+use Rattle.arrival_replay.specs.declared.Stay.{Stay}
+use Rattle.arrival_replay.specs.declared.Stay.TheVariants.{Nothing, Others, All}
 use Rattle.slot_core.specs.Runs.Arrivals.{event_may_come, event_names_known}
 use Rattle.slot_core.specs.Keeping.Executives.{Executive, StandsFor}
 use Rattle.slot_core.specs.Keeping.Plans.{PlanParts}
 use Rattle.slot_core.specs.Runs.Histories.{History, time_of}
+use Rattle.slot_core.specs.Runs.ShownSpans.{ShownSpans, others_of}
 use Rattle.slot_core.specs.Runs.Traces.{Occurrence, arrive, slot, told_of, shown_entry, end_entry, history_of}
 
 -- the arrival, where it is due at this time
@@ -102,3 +105,10 @@ pub record BreaksOff (Broke : List Entry → Type 0) (exec : Executive) (trace :
     pub within : told ≤ length trace
     pub broke : Broke (take told trace)
     pub stands : StandsFor exec (history_of (take told trace))
+
+-- these spans stay between two entries: none need to, or those after the first do, with the number
+-- of those that are not shown, or all do
+abbrev pub Stays : Stay → ShownSpans → ShownSpans → Type 0
+Stays Nothing before after = ⊤
+Stays Others before after = others_of before ≡ others_of after
+Stays All before after = before ≡ after

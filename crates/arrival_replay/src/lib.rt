@@ -2,7 +2,7 @@
 //! entry of the trace is handed to a taker.
 #![tactic(auto)]
 
-ghost use Rattle.std.specs.Prelude.{◌≡◌, ◌≤◌, ◌<◌, ◌+◌, ◌^◌, ◌-◌, [], ◌∷◌, true, false, length, slice_get, OnErr, OnOk, IfOk, IfSome, Some};
+ghost use Rattle.std.specs.Prelude.{◌≡◌, ◌≢◌, ◌⊎◌, ◌≤◌, ◌<◌, ◌+◌, ◌^◌, ◌-◌, [], ◌∷◌, true, false, length, slice_get, OnErr, OnOk, IfOk, IfSome, Some};
 ghost use Rattle.std.specs.Io.KnownBytes.{Appends};
 ghost use Rattle.slot_core.specs.declared.TheConstants.{REPLAY_LIMIT};
 ghost use Rattle.slot_core.specs.declared.events.Arrival.{Arrival};
@@ -11,11 +11,16 @@ ghost use Rattle.slot_core.specs.Calls.Counts.{Rose};
 ghost use Rattle.slot_core.specs.Keeping.Executives.{Does, Shows, StandsFor};
 ghost use Rattle.slot_core.specs.Runs.Histories.{History};
 ghost use Rattle.slot_core.specs.Keeping.Plans.{IsPlan};
-ghost use Rattle.slot_core.specs.Output.Texts.{entry_line, spans_text, trace_text};
+ghost use Rattle.slot_core.specs.Output.Texts.{entry_line, trace_text};
+ghost use Rattle.slot_core.specs.Runs.Scenes.{scene_of};
+ghost use Rattle.slot_core.specs.Runs.ShownSpans.{ShownSpans};
+ghost use Rattle.slot_core.specs.Runs.Spans.{shown_of};
+ghost use Rattle.slot_core.specs.declared.events.What.{What};
 ghost use Rattle.slot_core.specs.Runs.Traces.{arrive, end_entry, history_of, shown_entry, slot, trace};
 ghost use Rattle.slot_io.specs.Sinks.{AppendsPart};
 ghost use Rattle.trace_text.specs.Takers.{AppendsBroken};
-ghost use Rattle.arrival_replay.specs.Replays.{due_arrival, entry_of, is_on_the_way, may_change_spans, next_occurrence, BreaksOff, IsStopped, StandsBefore};
+ghost use Rattle.arrival_replay.specs.Replays.{due_arrival, entry_of, is_on_the_way, may_change_spans, next_occurrence, BreaksOff, IsStopped, StandsBefore, Stays};
+ghost use Rattle.arrival_replay.specs.declared.Stay.{Stay};
 
 mod silent;
 mod teller;
@@ -23,7 +28,9 @@ mod teller;
 use crate::silent::Silent;
 use crate::teller::{Each, Teller};
 use interval_row::SpareTable;
-use slot_core::{Arrival, Done, Entry, Event, Failed, Firm, Gone, Shown, Spo, Steps, Taker, What};
+use slot_core::{
+    Arrival, Done, Entry, Event, Failed, Firm, Gone, Ran, Shown, Spo, Steps, Taker, What,
+};
 use slot_exec::Exec;
 use slot_io::Sink;
 use std::marker::Brand;
@@ -291,7 +298,7 @@ fn go_to<T: SpareTable, W: Teller, L: Ledger>(
 {
     let mut steps: Steps<L> = Steps::new(blank);
     let mut entry = entry_at(exec, 0, What::Start, &mut steps);
-    tell(exec, &entry, taker, true)?;
+    tell(exec, &entry, taker, Stay::Nothing)?;
     let mut next = 0;
     while is_on_the_way(exec.now(), arrivals, slots, place, next) {
         let time = exec.now();
@@ -299,9 +306,9 @@ fn go_to<T: SpareTable, W: Teller, L: Ledger>(
         if due.is_some() {
             next += 1;
         }
-        happen_in(exec, due, &mut entry.what, &mut steps);
-        let read = renew(&mut entry, exec, time, &mut steps);
-        tell(exec, &entry, taker, read)?;
+        entry.time = time;
+        let stay = happen_in(exec, due, &mut entry, &mut steps);
+        tell(exec, &entry, taker, stay)?;
     }
     Ok(())
 }
@@ -339,28 +346,66 @@ pub fn happen<T: SpareTable, L: Ledger>(
     requires may_come { IfSome due (λ a. event_may_come exec.old.plan.tasks a.event ≡ true) }
     ensures does { Does exec.old exec.new (next_occurrence due) result }
 {
-    let mut what = What::Idle;
-    happen_in(exec, due, &mut what, steps);
-    what
+    match due {
+        Some(arrival) => {
+            let mut what = What::Idle;
+            answer(exec, arrival, &mut what, steps);
+            what
+        }
+        None => match exec.slot(steps) {
+            Ran::Key(key) => What::Run(key),
+            Ran::Idle => What::Idle,
+        },
+    }
 }
 
-/// `happen`, which writes what it was into this place at once: a copy, in large pieces, of what was
-/// just written in small ones waits for them.
+/// Which of the spans that an entry shows are those of the last one.
+#[derive(Clone, Copy)]
+enum Stay {
+    /// They may all be others.
+    Nothing,
+    /// All after the first, with the number of those that are not shown.
+    Others,
+    /// All of them.
+    All,
+}
+
+/// `happen`, which writes what it was, and the first spans after it, into this entry at once: a
+/// copy, in large pieces, of what was just written in small ones waits for them.
 #[inline(always)]
 fn happen_in<T: SpareTable, L: Ledger>(
     exec: &mut Exec<T>,
     due: Option<Arrival>,
-    what: &mut What,
+    entry: &mut Entry,
     steps: &mut Steps<L>,
-)
+) -> Stay
     requires early { exec.old.scene.time < 2 ^ 32 }
     requires later { IfSome due (λ a. exec.old.last_row < a.row) }
     requires may_come { IfSome due (λ a. event_may_come exec.old.plan.tasks a.event ≡ true) }
-    ensures does { Does exec.old exec.new (next_occurrence due) what.new }
+    requires shown { (h : History) × StandsFor exec.old h × (entry.old.shown
+        ≡ shown_of exec.old.plan.cycle (scene_of exec.old.plan.tasks exec.old.plan.cycle h)) }
+    ensures does { Does exec.old exec.new (next_occurrence due) entry.new.what }
+    ensures shown { (h : History) → StandsFor exec.old h → entry.old.shown
+        ≡ shown_of exec.old.plan.cycle (scene_of exec.old.plan.tasks exec.old.plan.cycle h)
+        → entry.new.shown
+        ≡ shown_of
+        exec.old.plan.cycle
+        (scene_of exec.old.plan.tasks exec.old.plan.cycle (entry.new.what ∷ h)) }
+    ensures time { entry.new.time ≡ entry.old.time }
+    ensures stay { Stays result entry.old.shown entry.new.shown }
 {
     match due {
-        Some(arrival) => answer(exec, arrival, what, steps),
-        None => exec.slot_in(what, steps),
+        Some(arrival) => {
+            answer(exec, arrival, &mut entry.what, steps);
+            renew(entry, exec, steps)
+        }
+        None => {
+            if exec.slot_in(&mut entry.what, &mut entry.shown, steps) {
+                Stay::Others
+            } else {
+                Stay::Nothing
+            }
+        }
     }
 }
 
@@ -389,28 +434,22 @@ fn answer<T: SpareTable, L: Ledger>(
     }
 }
 
-/// The entry, which tells what happened, becomes that of this time. The first spans are read only
-/// where they may have changed: it tells whether they were.
+/// The entry, which tells how an arrival was answered, shows the first spans after it. They are
+/// read only where they may have changed.
 #[inline(always)]
-fn renew<T: SpareTable, L: Ledger>(
-    entry: &mut Entry,
-    exec: &Exec<T>,
-    time: u64,
-    steps: &mut Steps<L>,
-) -> bool
-    ensures told { result ≡ may_change_spans entry.old.what }
+fn renew<T: SpareTable, L: Ledger>(entry: &mut Entry, exec: &Exec<T>, steps: &mut Steps<L>) -> Stay
     ensures what { entry.new.what ≡ entry.old.what }
-    ensures read { may_change_spans entry.old.what ≡ true → (h : History) → StandsFor exec.now h
-        → entry.new ≡ shown_entry exec.now.plan.tasks exec.now.plan.cycle time entry.old.what h }
-    ensures kept { may_change_spans entry.old.what ≡ false
-        → entry.new ≡ record entry.old { time = time } }
+    ensures time { entry.new.time ≡ entry.old.time }
+    ensures read { may_change_spans entry.old.what ≡ true → Shows exec.now entry.new.shown }
+    ensures kept { may_change_spans entry.old.what ≡ false → entry.new.shown ≡ entry.old.shown }
+    ensures stay { Stays result entry.old.shown entry.new.shown }
 {
-    entry.time = time;
-    let may_change = may_change_spans(&entry.what);
-    if may_change {
-        read_spans(exec, &mut entry.shown, steps);
+    if may_change_spans(&entry.what) {
+        exec.shown_in(&mut entry.shown, steps);
+        Stay::Nothing
+    } else {
+        Stay::All
     }
-    may_change
 }
 
 /// Whether what happened may have changed the spans: soft work, a refused arrival, and an early end
@@ -429,28 +468,19 @@ fn may_change_spans(what: &What) -> bool
     }
 }
 
-/// Reads the first spans into this place. It does nothing else, so that they are written there at
-/// once: a copy costs a third of the reading.
-#[inline(never)]
-fn read_spans<T: SpareTable, L: Ledger>(exec: &Exec<T>, shown: &mut Shown, steps: &mut Steps<L>)
-    ensures { Shows exec.now shown.new }
-{
-    *shown = exec.shown(steps);
-}
-
-/// Hands over an entry, of which the spans are those of the last one where they were not read anew.
-/// This call also tells that the executive has a plan.
+/// Hands over an entry, of which these spans are those of the last one. This call also tells that
+/// the executive has a plan.
 #[inline(always)]
 fn tell<T: SpareTable, W: Teller>(
     exec: &Exec<T>,
     entry: &Entry,
     taker: &mut W,
-    read: bool,
+    stay: Stay,
 ) -> Result<(), Failed>
     requires named { what_in_set exec.now.plan.tasks entry.now.what ≡ true }
-    requires kept { read ≡ false → W.keeps
-        taker.old
-        (spans_text entry.now.what entry.now.shown) }
+    requires some { entry.now.what ≢ What.End }
+    requires kept { (stay ≡ Stay.Nothing) ⊎ ((before : ShownSpans)
+        × Stays stay before entry.now.shown × W.keeps taker.old before) }
     ensures plan { IsPlan exec.now.plan }
     ensures took { OnOk result (W.took exec.now.plan.tasks taker.old taker.new (entry.now ∷ [])) }
     ensures broke { OnErr result (W.broke
@@ -460,12 +490,12 @@ fn tell<T: SpareTable, W: Teller>(
         (entry.now ∷ [])) }
     ensures counted { W.faults taker.old ≤ W.faults taker.new }
     ensures failed { OnErr result (Rose (W.faults taker.old) (W.faults taker.new)) }
-    ensures keeps { W.keeps taker.new (spans_text entry.now.what entry.now.shown) }
+    ensures keeps { W.keeps taker.new entry.now.shown }
 {
-    if read {
-        taker.tell_new(entry, exec.tasks())
-    } else {
-        taker.tell_again(entry, exec.tasks())
+    match stay {
+        Stay::Nothing => taker.tell_new(entry, exec.tasks()),
+        Stay::Others => taker.tell_others(entry, exec.tasks()),
+        Stay::All => taker.tell_again(entry, exec.tasks()),
     }
 }
 
@@ -486,7 +516,7 @@ fn entry_at<T: SpareTable, L: Ledger>(
         what,
         shown: Shown::new(0),
     };
-    read_spans(exec, &mut entry.shown, steps);
+    exec.shown_in(&mut entry.shown, steps);
     entry
 }
 

@@ -165,6 +165,20 @@ PassesPage-PagesGiveNone time start page more (s ∷ ss) is follow all none =
           record { carry = rw low (sym all_of.carry); spans = rw low (sym all_of.spans) }
     ]
 
+-- the spans that end before a page do not change with it
+take-raised_at : (time start page : ℕ) (more : ℤ) (rows : List Span) → IsPageIn time page → FollowOn start rows → AllByRecursion (IsInLap time) rows → take (ends_before (page * 64) rows) (raised_at (page % 512) more rows) ≡ take (ends_before (page * 64) rows) rows
+take-raised_at time start page more [] is follow all = refl
+take-raised_at time start page more (s ∷ ss) is follow all =
+    elim (cases_lt s.end (page * 64)) [
+      | inl early ↦
+          let low : ends_before (page * 64) (s ∷ ss) ≡ suc (ends_before (page * 64) ss) = ends_before-ended (page * 64) s ss early in
+          let other = ne_eqb (mark_index s.end) (page % 512) (before-page time s.end page all.0.late early is.high) in
+          rw (low, other) (ap (λ xs. s ∷ xs) (take-raised_at time s.end page more ss is follow.4 all.1))
+      | inr reached ↦
+          let low : ends_before (page * 64) (s ∷ ss) ≡ 0 = ends_before-later (page * 64) s ss reached ∙ ends_before-start s.end (page * 64) ss follow.4 reached in
+          rw low refl
+    ]
+
 -- each span that ends in the pages of the mark at an index can have so much more capacity
 abbrev pub MayRaise : ℕ → ℤ → List Span → Type 0
 MayRaise j more spans = AllByRecursion (λ (s : Span). mark_index s.end ≡ j → FitsSigned w64 (s.spare +ℤ more)) spans
@@ -268,6 +282,7 @@ pub record PassesTo (walk : Walk) (page count : ℕ) (rows : List Span) : Type 0
       after_walk (record { index = walk.index - count; more = walk.more }) (raised_at (page % 512) walk.more rows)
       ≡ after_walk walk rows
   pub place : walk.index - count ≡ ends_before (page * 64) (raised_at (page % 512) walk.more rows)
+  pub front : take (walk.index - count) (raised_at (page % 512) walk.more rows) ≡ take (walk.index - count) rows
 
 pub PassesTo-PagesGiveNone : (walk : Walk) (page : ℕ) (mark : Mark) (rows : List Span) (marks : List Mark) → AreInPages (after_walk walk rows) marks → IsPageOf (after_walk walk rows) page → slice_get marks (page % 512) ≡ Some mark → walk.index ≡ ends_before ((page + 1) * 64) rows → PagesGiveNone (page % 512) walk.more rows → PassesTo walk page mark.count rows
 PassesTo-PagesGiveNone walk page mark rows marks pages is told place none =
@@ -280,10 +295,12 @@ PassesTo-PagesGiveNone walk page mark rows marks pages is told place none =
     let same : walked walk.more (ends_before (page * 64) rows) new ≡ after_walk walk rows = passes.spans ∙ ap (λ n. walked walk.more n rows) (sym place) in
     let spans : walked walk.more (walk.index - mark.count) new ≡ after_walk walk rows = rw low at same in
     let within = AreWithin (first_start (after_walk walk rows)) (after_walk walk rows) pages.filled.consecutive pages.filled.filled pages.filled.few in
+    let stays : take (ends_before (page * 64) rows) new ≡ take (ends_before (page * 64) rows) rows = take-raised_at start start page walk.more rows at.is at.follow at.lap in
     record {
       may = MayRaise-walked start start page walk.more rows at.is at.follow at.lap (subst (λ xs. AllByRecursion (λ (s : Span). IsWithin s.spare) xs) (sym same) within);
       spans = spans;
       place = sym low ∙ sym (ends_before-walks (page * 64) (record { index = walk.index - mark.count; more = walk.more }) walk new rows spans);
+      front = rw low at stays;
     }
 
 -- a walk has ended where nothing is repaid, or no span is left

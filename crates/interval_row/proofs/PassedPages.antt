@@ -1,5 +1,5 @@
 -- Pages under lifts that a walk back passes, each at once.
-use Rattle.std.proofs.Common.{◌≡◌, ℕ, zero, suc, ◌+◌, ◌-◌, ◌*◌, ◌%◌, ◌<◌, ◌≤◌, ℤ, pos, ◌+ℤ◌, ◌≤ℤ◌, Bool, true, false, cond, eqb, List, [], ◌∷◌, length, get_or, set, slice_get, Some, inl, inr, refl, sym, subst, ap, ◌∙◌, arith, FitsSigned, w64}
+use Rattle.std.proofs.Common.{◌≡◌, ℕ, zero, suc, ◌+◌, ◌-◌, ◌*◌, ◌%◌, ◌<◌, ◌≤◌, ℤ, pos, ◌+ℤ◌, ◌≤ℤ◌, Bool, true, false, cond, eqb, List, [], ◌∷◌, length, get_or, set, slice_get, take, Some, inl, inr, refl, sym, subst, ap, ◌∙◌, arith, FitsSigned, w64}
 use Rattle.std.proofs.lemmas.Bool.{cases_eq, eq-eqb, ne_eqb}
 use Rattle.std.proofs.lemmas.Int.{ints}
 use Rattle.std.proofs.lemmas.List.{get_or-set_other, length-set}
@@ -17,6 +17,7 @@ use Rattle.interval_row.specs.Marks.{count_at, mark_index, page_of}
 use Rattle.interval_row.specs.Walks.{after_walk, walked, AreInPages, IsPageOf}
 use Rattle.interval_row.specs.declared.walk_back.Walk.{Walk}
 use Rattle.interval_row.proofs.LiftedSpans.{lifted-raised, AreAtMost-covered, AreCovered-raised}
+use Rattle.interval_row.proofs.RunWalks.{take-fewer}
 use Rattle.interval_row.proofs.PageWalks.{count_at-page, count_at-walked, AreAtPage-walk, MayRaise, PagesGiveNone-AreAtMost, PassesTo, PassesTo-PagesGiveNone}
 
 -- a bound of spans can rise as they can, up to 0, where there is one
@@ -47,6 +48,7 @@ pub record HasPassed (walk : Walk) (page count : ℕ) (lifts after : List Lift) 
   pub within : count ≤ walk.index
   pub spans : after_walk (record { index = walk.index - count; more = walk.more }) (lifted after kept) ≡ after_walk walk (lifted lifts kept)
   pub place : walk.index - count ≡ ends_before (page * 64) (lifted after kept)
+  pub front : take (walk.index - count) (lifted after kept) ≡ take (walk.index - count) (lifted lifts kept)
   pub covered : AreCovered after kept
 
 -- the lift of a page lets none of its spans give
@@ -71,6 +73,7 @@ module _ {walk : Walk} {page : ℕ} {mark : Mark} {lifts : List Lift} {spans : L
         within = omega (arith, none);
         spans = ap (λ i. walked walk.more i rows) same;
         place = omega (arith, none, count-told);
+        front = refl;
         covered = at.covered;
       }
 
@@ -93,17 +96,20 @@ module _ {walk : Walk} {page : ℕ} {mark : Mark} {lifts : List Lift} {spans : L
           within = omega (arith, count-told);
           spans = ap (after_walk (record { index = walk.index - mark.count; more = walk.more })) same ∙ passes.spans;
           place = passes.place ∙ ap (ends_before (page * 64)) (sym same);
+          front = ap (take (walk.index - mark.count)) same ∙ passes.front;
           covered = AreCovered-raised lifts (page % 512) lift none.there walk.more fits spans passes.may at.covered;
         }
 
 -- what is passed after that is passed too
 HasPassed-on : {walk : Walk} {page low count more : ℕ} {lifts mid after : List Lift} {kept : List Span} → HasPassed walk page count lifts mid kept → HasPassed (record { index = walk.index - count; more = walk.more }) low more mid after kept → HasPassed walk low (count + more) lifts after kept
-HasPassed-on {walk = walk} {count = count} {more = more} {after = after} {kept = kept} first next =
+HasPassed-on {walk = walk} {count = count} {more = more} {lifts = lifts} {mid = mid} {after = after} {kept = kept} first next =
     let same : walk.index - (count + more) ≡ walk.index - count - more = omega arith in
+    let front = next.front ∙ take-fewer (walk.index - count - more) (walk.index - count) (lifted mid kept) (lifted lifts kept) first.front (omega arith) in
     record {
       within = omega (arith, first.within, next.within);
       spans = ap (λ i. walked walk.more i (lifted after kept)) same ∙ next.spans ∙ first.spans;
       place = same ∙ next.place;
+      front = subst (λ k. take k (lifted after kept) ≡ take k (lifted lifts kept)) (sym same) front;
       covered = next.covered;
     }
 
@@ -207,6 +213,7 @@ HasPassed-run zero {walk = walk} {page = page} {lifts = lifts} {spans = spans} a
       within = omega arith;
       spans = ap (λ i. walked walk.more i (lifted lifts spans)) same;
       place = same ∙ at.place ∙ ap (λ p. ends_before (p * 64) (lifted lifts spans)) whole;
+      front = refl;
       covered = at.covered;
     }
 HasPassed-run (suc n) at = HasPassed-on (HasPassed-last at) (HasPassed-run n (at-rest at))

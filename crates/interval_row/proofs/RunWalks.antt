@@ -5,7 +5,7 @@ use Rattle.std.specs.Int.Signed.{le_z_yes}
 use Rattle.std.specs.List.{AllByRecursion}
 use Rattle.std.proofs.lemmas.Bool.{and_parts, cases_lt, leb-true}
 use Rattle.std.proofs.lemmas.Int.{ints, clamps, int_wrap_fits, int_wrap-add_left}
-use Rattle.std.proofs.lemmas.List.{drop-drop, drop-map, take-take}
+use Rattle.std.proofs.lemmas.List.{drop-drop, drop-map, take-map, take-take}
 use Rattle.std.proofs.lemmas.List.Elements.{All-drop, All-from_recursion, All-take, recursion_from_All}
 use Rattle.std.proofs.lemmas.List.Sums.{count_by-le-length}
 use Rattle.std.proofs.lemmas.Option.{same_Some, slice_get-get_or, slice_get_within}
@@ -340,6 +340,10 @@ drop-further k n new rows same l =
 -- lists that are the same up to a place are so up to an earlier one
 pub take-fewer : (j k : ℕ) (new rows : List Span) → take k new ≡ take k rows → j ≤ k → take j new ≡ take j rows
 take-fewer j k new rows same l = sym (take-take j k new l) ∙ ap (take j) same ∙ take-take j k rows l
+
+-- so are the spans that are kept so
+pub take-lifted : (lifts : List Lift) (k : ℕ) (new rows : List Span) → take k new ≡ take k rows → take k (lifted lifts new) ≡ take k (lifted lifts rows)
+take-lifted lifts k new rows same = take-map (lifted_in lifts) k new ∙ ap (lifted lifts) same ∙ sym (take-map (lifted_in lifts) k rows)
 
 -- the greater of the bounds on a run and on the spans after it is one on all of them
 pub HaveAtMost-runs : (lifts : List Lift) (low high top : ℤ) (j k n : ℕ) (new rows : List Span) → j ≤ k → k ≤ n → low ≤ℤ top → high ≤ℤ top → drop k new ≡ drop k rows → HaveAtMost high (take (k - j) (drop j (lifted lifts new))) → HaveAtMost low (take (n - k) (drop k (lifted lifts rows))) → HaveAtMost top (take (n - j) (drop j (lifted lifts new)))

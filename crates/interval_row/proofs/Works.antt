@@ -1,7 +1,8 @@
 -- A new work of one span.
-use Rattle.std.proofs.Common.{◌≡◌, ℕ, zero, suc, ◌<◌, ◌≤◌, ◌^◌, List, [], ◌∷◌, length, get_or, set, refl, ap, arith}
+use Rattle.std.proofs.Common.{◌≡◌, ℕ, zero, suc, ◌<◌, ◌≤◌, ◌^◌, List, [], ◌∷◌, length, drop, get_or, set, take, refl, ap, sym, arith}
 use Rattle.slot_core.specs.declared.jobs.Span.{Span}
-use Rattle.spare_capacity.specs.Recurrence.{FollowOn, first_start, last_end}
+use Rattle.spare_capacity.specs.Recurrence.{filled, FollowOn, first_start, last_end}
+use Rattle.spare_capacity.proofs.Free.{rest-filled}
 use Rattle.spare_capacity.proofs.Steps.{no_row}
 use Rattle.spare_capacity.specs.PlanSpans.{AreProper}
 use Rattle.interval_row.specs.Spans.{with_work_at}
@@ -44,3 +45,9 @@ pub last_end-with_work_at : (place work start : ℕ) (rows : List Span) → last
 last_end-with_work_at place work start [] = refl
 last_end-with_work_at zero work start (s ∷ ss) = refl
 last_end-with_work_at (suc place) work start (s ∷ ss) = last_end-with_work_at place work s.end ss
+
+-- another work of the first span leaves all others
+pub drop-first_work : (n work : ℕ) (rows : List Span) → rows ≡ filled rows → drop 1 (take n (filled (with_work_at 0 work rows))) ≡ drop 1 (take n rows)
+drop-first_work zero work rows e = refl
+drop-first_work (suc n) work [] e = refl
+drop-first_work (suc n) work (s ∷ ss) e = ap (take n) (sym (rest-filled s ss e))

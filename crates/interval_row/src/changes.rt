@@ -1,7 +1,7 @@
 //! The calls of a table, over a store.
 
 ghost use Rattle.std.specs.List.{AllByRecursion};
-ghost use Rattle.std.specs.Prelude.{◌≡◌, ◌+◌, ◌-◌, ◌*◌, ◌≤◌, ◌<◌, ◌^◌, length, IsSome, IsSomeAnd, Some, slice_get};
+ghost use Rattle.std.specs.Prelude.{◌≡◌, ◌+◌, ◌-◌, ◌*◌, ◌≤◌, ◌<◌, ◌^◌, length, take, IsSome, IsSomeAnd, Some, slice_get};
 ghost use Rattle.slot_core.specs.declared.jobs.Span.{Span};
 ghost use Rattle.spare_capacity.specs.Recurrence.{filled, first_start, last_end};
 ghost use Rattle.interval_row.specs.Changes.{after_pass, appended, cut, ends_before, span_ending, with_work};
@@ -42,8 +42,16 @@ pub(crate) fn pass<S: Store, L: Ledger>(store: &mut S, hint: u32, steps: &mut St
     hint
 }
 
-/// Another work of the span that ends there, which is looked for at the hint first. Returns how
-/// many spans stand before it.
+/// Where the work of a span changed.
+#[derive(Clone, Copy)]
+pub(crate) struct ChangedPlace {
+    /// How many spans stand before it.
+    pub(crate) index: u32,
+    /// How many of the first spans were left.
+    pub(crate) stay: u32,
+}
+
+/// Another work of the span that ends there, which is looked for at the hint first.
 pub(crate) fn change_work<S: Store, L: Ledger>(
     store: &mut S,
     times: Times,
@@ -51,14 +59,15 @@ pub(crate) fn change_work<S: Store, L: Ledger>(
     deadline: u64,
     change: Change,
     steps: &mut Steps<L>,
-) -> u32
+) -> ChangedPlace
     requires timed { AreTimed times.start times.end (S.spans store.old) (S.marks store.old) }
     requires due { IsSomeAnd (span_ending deadline (S.spans store.old))
         (λ s. MayChangeBy change s.work) }
     ensures spans { S.spans store.new
         ≡ filled (with_work (changed_by change) deadline (S.spans store.old)) }
     ensures marked { AreMarked times.start (S.spans store.new) (S.marks store.new) }
-    ensures place { result ≡ place_of deadline (S.spans store.old) }
+    ensures place { result.index ≡ place_of deadline (S.spans store.old) }
+    ensures front { take result.stay (S.spans store.new) ≡ take result.stay (S.spans store.old) }
     ensures room { S.room store.new ≡ S.room store.old }
     ensures steps { steps.old ≤ steps.new }
     ensures few_steps { steps.new ≤ steps.old
@@ -66,9 +75,12 @@ pub(crate) fn change_work<S: Store, L: Ledger>(
 {
     let place = find_hinted(store, times, hint, deadline, steps);
     let span = spans::changed(place.span, change);
-    set_work(store, times, place, span, steps);
+    let stay = set_work(store, times, place, span, steps);
     marks::change_span(store, place.span.end, change);
-    place.index
+    ChangedPlace {
+        index: place.index,
+        stay,
+    }
 }
 
 /// Makes `at` the end of a span. Returns how many spans stand before it.

@@ -170,6 +170,8 @@ fn pass_run<S: Shelf>(shelf: &mut S, low: u64, from: PageWalk) -> PageWalk
     ensures before { result.walk.index ≤ from.walk.index }
     ensures ended { low < result.page
         → ends_before ((result.page - 1) * PAGE) (S.spans shelf.new) < result.walk.index }
+    ensures front { take result.walk.index (lifted (S.laps shelf.new).lifts (S.spans shelf.new))
+        ≡ take result.walk.index (lifted (S.laps shelf.old).lifts (S.spans shelf.old)) }
     ensures kept { S.spans shelf.new ≡ S.spans shelf.old }
     ensures room { S.room shelf.new ≡ S.room shelf.old }
     ensures marks { (S.laps shelf.new).marks ≡ (S.laps shelf.old).marks }

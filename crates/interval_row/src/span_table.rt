@@ -1,6 +1,7 @@
 //! A table over a store.
 
-ghost use Rattle.std.specs.Prelude.{◌≡◌, ◌+◌, ◌*◌, ◌≤◌, ◌<◌, ◌^◌, length, IfOk, IsSomeAnd};
+ghost use Rattle.std.specs.Prelude.{◌≡◌, ◌+◌, ◌*◌, ◌≤◌, ◌<◌, ◌^◌, true, drop, length, take, IfOk, IsSomeAnd};
+ghost use Rattle.slot_core.specs.declared.TheConstants.{SHOWN_LIMIT};
 ghost use Rattle.spare_capacity.specs.PlanSpans.{ArePlanSpans};
 ghost use Rattle.spare_capacity.specs.Recurrence.{filled, first_start};
 ghost use Rattle.interval_row.specs.Changes.{copies_of, ends_before, span_ending, with_work};
@@ -15,7 +16,7 @@ use crate::store::Store;
 use crate::table::{Front, Short, SpareTable, Spot};
 use crate::{changes, marks};
 use node_chain::Chain;
-use slot_core::{Memory, Span, Steps};
+use slot_core::{Memory, SHOWN_LIMIT, Span, Steps};
 use std::alloc::Global;
 use std::marker::{Brand, Model};
 use std::sync::ledger::{Blank, Ledger};
@@ -59,8 +60,14 @@ impl<S: Store> Model for Table<S> {
 }
 
 impl<S: Store> Table<S> {
-    /// The work that is due at the end of a span changes.
-    fn change_work<L: Ledger>(&mut self, deadline: u64, change: Change, steps: &mut Steps<L>)
+    /// The work that is due at the end of a span changes. True only where the spans that an entry
+    /// shows after its first one stay.
+    fn change_work<L: Ledger>(
+        &mut self,
+        deadline: u64,
+        change: Change,
+        steps: &mut Steps<L>,
+    ) -> bool
         requires { IsSomeAnd (span_ending deadline self.old.spans)
             (λ s. MayChangeBy change s.work) }
         ensures table { IsTable
@@ -68,12 +75,14 @@ impl<S: Store> Table<S> {
         ensures time { first_start self.new.spans ≡ first_start self.old.spans }
         ensures spans { self.new.spans
             ≡ filled (with_work (changed_by change) deadline self.old.spans) }
+        ensures others { result ≡ true → drop 1 (take SHOWN_LIMIT self.new.spans)
+            ≡ drop 1 (take SHOWN_LIMIT self.old.spans) }
         ensures room { self.new.room ≡ self.old.room }
         ensures steps { steps.old ≤ steps.new }
         ensures few_steps { steps.new ≤ steps.old
             + 3 * ends_before deadline self.old.spans + 3 }
     {
-        self.hint = changes::change_work(
+        let changed = changes::change_work(
             &mut self.chain,
             self.times,
             self.hint,
@@ -81,6 +90,8 @@ impl<S: Store> Table<S> {
             change,
             steps,
         );
+        self.hint = changed.index;
+        changed.index == 0 || SHOWN_LIMIT as u32 <= changed.stay
     }
 }
 
@@ -165,8 +176,8 @@ impl<S: Store> SpareTable for Table<S> {
         self.change_work(deadline, Change::More(slots), steps);
     }
 
-    fn give_back<L: Ledger>(&mut self, deadline: u64, slots: u32, steps: &mut Steps<L>) {
-        self.change_work(deadline, Change::Fewer(slots), steps);
+    fn give_back<L: Ledger>(&mut self, deadline: u64, slots: u32, steps: &mut Steps<L>) -> bool {
+        self.change_work(deadline, Change::Fewer(slots), steps)
     }
 
     fn split<L: Ledger>(&mut self, at: u64, steps: &mut Steps<L>) {

@@ -104,6 +104,8 @@ pub trait Store: Drop {
             → result.walk.index ≡ ends_before (page * PAGE) (spans self.new) }
         ensures before { result.walk.index < from.index }
         ensures reached { ends_before (page * PAGE) (spans self.old) ≤ result.walk.index }
+        ensures front { take result.walk.index (spans self.new)
+            ≡ take result.walk.index (spans self.old) }
         ensures start { IfSome (slice_get (spans self.new) result.walk.index)
             (λ s. s.start ≡ result.start) }
         ensures high { HaveAtMost result.high
@@ -178,6 +180,8 @@ pub trait Store: Drop {
         ensures before { result.walk.index ≤ from.walk.index }
         ensures ended { first_page < result.page
             → ends_before ((result.page - 1) * PAGE) (spans self.new) < result.walk.index }
+        ensures front { take result.walk.index (spans self.new)
+            ≡ take result.walk.index (spans self.old) }
         ensures room { room self.new ≡ room self.old }
         ensures marks { marks self.new ≡ marks self.old };
 }

@@ -1,6 +1,7 @@
 //! What a table of spans does.
 
-ghost use Rattle.std.specs.Prelude.{◌≡◌, ℕ, ◌+◌, ◌*◌, ◌≤◌, ◌<◌, ◌^◌, Bool, List, length, Option, Some, IfOk, IsSome, IsSomeAnd, IsTrue};
+ghost use Rattle.std.specs.Prelude.{◌≡◌, ℕ, ◌+◌, ◌*◌, ◌≤◌, ◌<◌, ◌^◌, Bool, true, List, drop, length, take, Option, Some, IfOk, IsSome, IsSomeAnd, IsTrue};
+ghost use Rattle.slot_core.specs.declared.TheConstants.{SHOWN_LIMIT};
 ghost use Rattle.slot_core.specs.declared.jobs.Span.{Span};
 ghost use Rattle.spare_capacity.specs.Laws.{work_until};
 ghost use Rattle.spare_capacity.specs.PlanSpans.{ArePlanSpans};
@@ -178,14 +179,18 @@ pub trait SpareTable: Drop {
             + 3 * ends_before deadline (spans_of_pairs (pairs self.old)) + 3 };
 
     /// So many slots less are due at the end of a span. At most three steps a span that ends
-    /// before, and three.
-    fn give_back<L: Ledger>(&mut self, deadline: u64, slots: u32, steps: &mut Steps<L>)
+    /// before, and three. True only where the spans that an entry shows after its first one stay:
+    /// where the work is that of the first, or where no capacity changes so far back.
+    fn give_back<L: Ledger>(&mut self, deadline: u64, slots: u32, steps: &mut Steps<L>) -> bool
         requires { IsSomeAnd (span_ending deadline (spans_of_pairs (pairs self.old)))
             (λ s. slots ≤ s.work) }
         ensures table { IsTable (time self.new) (pairs self.new) (limit self.new) }
         ensures time { time self.new ≡ time self.old }
         ensures spans { spans_of_pairs (pairs self.new)
             ≡ filled (with_less deadline slots (spans_of_pairs (pairs self.old))) }
+        ensures others { result ≡ true
+            → drop 1 (take SHOWN_LIMIT (spans_of_pairs (pairs self.new)))
+            ≡ drop 1 (take SHOWN_LIMIT (spans_of_pairs (pairs self.old))) }
         ensures room { limit self.new ≡ limit self.old }
         ensures steps { steps.old ≤ steps.new }
         ensures few_steps { IsTrue counted

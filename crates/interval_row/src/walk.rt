@@ -1,6 +1,6 @@
 //! Spans of a store: how they are found, and how work changes at one.
 
-ghost use Rattle.std.specs.Prelude.{◌≡◌, ℕ, ◌+◌, ◌*◌, ◌≤◌, ◌<◌, ◌^◌, length, drop, IsSome, Some, slice_get};
+ghost use Rattle.std.specs.Prelude.{◌≡◌, ℕ, ◌+◌, ◌*◌, ◌≤◌, ◌<◌, ◌^◌, length, drop, take, IsSome, Some, slice_get};
 ghost use Rattle.spare_capacity.specs.Recurrence.{filled, first_spare, with_spare};
 ghost use Rattle.interval_row.specs.Changes.{span_ending};
 ghost use Rattle.interval_row.specs.Marks.{AreTimed};
@@ -89,6 +89,7 @@ fn set_span<S: Store, L: Ledger>(
         (first_spare (drop (place.index + 1) (S.spans store.old))) }
     ensures spans { after_walk result (S.spans store.new)
         ≡ filled (with_work_at place.index span.work (S.spans store.old)) }
+    ensures front { take place.index (S.spans store.new) ≡ take place.index (S.spans store.old) }
     ensures index { result.index ≡ place.index }
     ensures placed { slice_get (S.spans store.new) place.index ≡ Some span }
     ensures room { S.room store.new ≡ S.room store.old }
@@ -105,14 +106,14 @@ fn set_span<S: Store, L: Ledger>(
 
 /// The span at a place becomes this one, with another work and its capacity, and those before it
 /// follow, up to the first that is repaid nothing: by whole pages where no two share a mark. At
-/// most one step, and two for each span before.
+/// most one step, and two for each span before. Returns how many of the first spans it has left.
 pub(crate) fn set_work<S: Store, L: Ledger>(
     store: &mut S,
     times: Times,
     place: FoundSpan,
     span: Span,
     steps: &mut Steps<L>,
-)
+) -> u32
     requires timed { AreTimed times.start times.end (S.spans store.old) (S.marks store.old) }
     requires span { slice_get (S.spans store.old) place.index ≡ Some place.span }
     requires few { span.work ≤ 2 ^ 40 }
@@ -121,6 +122,7 @@ pub(crate) fn set_work<S: Store, L: Ledger>(
         (first_spare (drop (place.index + 1) (S.spans store.old))) }
     ensures spans { S.spans store.new
         ≡ filled (with_work_at place.index span.work (S.spans store.old)) }
+    ensures front { take result (S.spans store.new) ≡ take result (S.spans store.old) }
     ensures room { S.room store.new ≡ S.room store.old }
     ensures marks { S.marks store.new ≡ S.marks store.old }
     ensures steps { steps.old ≤ steps.new }
@@ -128,10 +130,9 @@ pub(crate) fn set_work<S: Store, L: Ledger>(
 {
     let from = set_span(store, place, span, steps);
     if !pages::are_in_lap(times) {
-        follow_all(store, from, span.start, steps);
-        return;
+        return follow_all(store, from, span.start, steps);
     }
     let page = span.end / PAGE;
     let walk = follow_rest(store, from, span.start, page, steps);
-    follow_pages(store, times.start / PAGE, PageWalk { page, walk }, steps);
+    follow_pages(store, times.start / PAGE, PageWalk { page, walk }, steps)
 }

@@ -1,6 +1,6 @@
 //! How a change of a capacity is followed back through the spans before it.
 
-ghost use Rattle.std.specs.Prelude.{◌≡◌, ◌+◌, ◌*◌, ◌≤◌, ◌<◌, ◌^◌, pos, length, IfSome, slice_get};
+ghost use Rattle.std.specs.Prelude.{◌≡◌, ◌+◌, ◌*◌, ◌≤◌, ◌<◌, ◌^◌, pos, length, take, IfSome, slice_get};
 ghost use Rattle.interval_row.specs.declared.marks.TheConstants.{PAGE};
 ghost use Rattle.spare_capacity.specs.Recurrence.{first_start, last_end};
 ghost use Rattle.interval_row.specs.Changes.{ends_before};
@@ -40,17 +40,19 @@ pub struct PageWalk {
 }
 
 /// From a span on that has followed, and starts there, those before it do, as long as something is
-/// repaid. Two steps each.
+/// repaid. Two steps each. Returns how many of the first spans it has left.
 pub(crate) fn follow_all<S: Store, L: Ledger>(
     store: &mut S,
     from: Walk,
     start: u64,
     steps: &mut Steps<L>,
-)
+) -> u32
     requires span { IfSome (slice_get (S.spans store.old) from.index) (λ s. s.start ≡ start) }
     requires within { from.index < length (S.spans store.old) }
     requires filled { AreFilled (after_walk from (S.spans store.old)) }
     ensures spans { S.spans store.new ≡ after_walk from (S.spans store.old) }
+    ensures front { take result (S.spans store.new) ≡ take result (S.spans store.old) }
+    ensures before { result ≤ from.index }
     ensures room { S.room store.new ≡ S.room store.old }
     ensures marks { S.marks store.new ≡ S.marks store.old }
     ensures steps { steps.old ≤ steps.new }
@@ -63,6 +65,7 @@ pub(crate) fn follow_all<S: Store, L: Ledger>(
         walk = followed.walk;
         end = followed.start;
     }
+    walk.index
 }
 
 /// From a span on that has followed, and starts there, those before it do that end in the same
@@ -81,6 +84,8 @@ pub(crate) fn follow_rest<S: Store, L: Ledger>(
     ensures spans { after_walk result (S.spans store.new) ≡ after_walk from (S.spans store.old) }
     ensures place { (result.more ≡ pos 0 → ⊥)
         → result.index ≡ ends_before (page * PAGE) (S.spans store.new) }
+    ensures front { take result.index (S.spans store.new) ≡ take result.index (S.spans store.old) }
+    ensures before { result.index ≤ from.index }
     ensures room { S.room store.new ≡ S.room store.old }
     ensures marks { S.marks store.new ≡ S.marks store.old }
     ensures steps { steps.old ≤ steps.new }
@@ -110,6 +115,8 @@ fn follow_page<S: Store, L: Ledger>(
     ensures spans { after_walk result (S.spans store.new) ≡ after_walk from (S.spans store.old) }
     ensures place { (result.more ≡ pos 0 → ⊥)
         → result.index ≡ ends_before (page * PAGE) (S.spans store.new) }
+    ensures front { take result.index (S.spans store.new) ≡ take result.index (S.spans store.old) }
+    ensures before { result.index ≤ from.index }
     ensures room { S.room store.new ≡ S.room store.old }
     ensures marks { S.marks store.new ≡ S.marks store.old }
     ensures steps { steps.old ≤ steps.new }
@@ -142,6 +149,9 @@ fn follow_some<S: Store, L: Ledger>(
         → result.walk.index ≡ ends_before (result.page * PAGE) (S.spans store.new) }
     ensures first { first_page ≤ result.page }
     ensures before { result.page < from.page }
+    ensures front { take result.walk.index (S.spans store.new)
+        ≡ take result.walk.index (S.spans store.old) }
+    ensures passed { result.walk.index ≤ from.walk.index }
     ensures room { S.room store.new ≡ S.room store.old }
     ensures marks { S.marks store.new ≡ S.marks store.old }
     ensures steps { steps.old ≤ steps.new }
@@ -157,13 +167,13 @@ fn follow_some<S: Store, L: Ledger>(
 }
 
 /// The spans of the pages before this one follow, the last page first, as long as something is
-/// repaid. At most two steps each.
+/// repaid. At most two steps each. Returns how many of the first spans it has left.
 pub(crate) fn follow_pages<S: Store, L: Ledger>(
     store: &mut S,
     first_page: u64,
     from: PageWalk,
     steps: &mut Steps<L>,
-)
+) -> u32
     requires pages { AreInPages (after_walk from.walk (S.spans store.old)) (S.marks store.old) }
     requires first { first_page ≡ page_of (first_start (after_walk from.walk (S.spans store.old))) }
     requires end { from.page ≤ page_of (last_end 0 (after_walk from.walk (S.spans store.old))) }
@@ -172,6 +182,8 @@ pub(crate) fn follow_pages<S: Store, L: Ledger>(
     requires place { (from.walk.more ≡ pos 0 → ⊥)
         → from.walk.index ≡ ends_before (from.page * PAGE) (S.spans store.old) }
     ensures spans { S.spans store.new ≡ after_walk from.walk (S.spans store.old) }
+    ensures front { take result (S.spans store.new) ≡ take result (S.spans store.old) }
+    ensures before { result ≤ from.walk.index }
     ensures room { S.room store.new ≡ S.room store.old }
     ensures marks { S.marks store.new ≡ S.marks store.old }
     ensures steps { steps.old ≤ steps.new }
@@ -181,4 +193,5 @@ pub(crate) fn follow_pages<S: Store, L: Ledger>(
     while first_page < last.page && last.walk.more != 0 {
         last = follow_some(store, first_page, last, steps);
     }
+    last.walk.index
 }

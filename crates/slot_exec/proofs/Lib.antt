@@ -10,6 +10,7 @@ pub mod RememberedRoom
 pub mod SceneOffers
 pub mod SceneRooms
 pub mod ShownExecutives
+pub mod ShownSlots
 pub mod SlotChoice
 pub mod SlotParts
 pub mod SoftArrivals

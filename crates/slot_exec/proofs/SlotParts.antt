@@ -1,5 +1,6 @@
 -- The parts of an executive before a slot and after it.
-use Rattle.std.proofs.Common.{◌≡◌, ℕ, ◌+◌, ◌/◌, ◌%◌, ◌^◌, ◌<◌, ◌==◌, Bool, List, length, refl, ap, sym, ◌∙◌, subst, arith}
+use Rattle.std.proofs.Common.{◌≡◌, ℕ, ◌+◌, ◌/◌, ◌%◌, ◌^◌, ◌<◌, ◌==◌, Bool, false, List, length, take, drop, refl, ap, sym, ◌∙◌, subst, arith}
+use Rattle.slot_core.specs.declared.TheConstants.{SHOWN_LIMIT}
 use Rattle.slot_core.specs.declared.jobs.Job.{Job}
 use Rattle.slot_core.specs.declared.jobs.SoftJob.{SoftJob}
 use Rattle.slot_core.specs.declared.jobs.Span.{Span}
@@ -9,9 +10,10 @@ use Rattle.slot_core.specs.Runs.Matches.{HaveSameItems, IsSameScene}
 use Rattle.slot_core.specs.Keeping.Plans.{PlanParts}
 use Rattle.slot_core.specs.Claims.Safety.{after_slot}
 use Rattle.slot_core.specs.Runs.Scenes.{Scene, horizon}
-use Rattle.slot_core.specs.Runs.Spans.{spans_of}
+use Rattle.slot_core.specs.Runs.ShownSpans.{others_of}
+use Rattle.slot_core.specs.Runs.Spans.{shown_of, spans_of}
 use Rattle.slot_core.specs.Runs.Traces.{slot, told_of_slot}
-use Rattle.spare_capacity.specs.Recurrence.{last_end}
+use Rattle.spare_capacity.specs.Recurrence.{filled, last_end}
 use Rattle.sporadic_reserve.specs.Reserves.{Reserved}
 use Rattle.guarantee.specs.Offers.{soft_fits}
 use Rattle.slot_facts.proofs.Legal.Executives.{every_executive_is_kept}
@@ -30,6 +32,7 @@ use Rattle.slot_exec.specs.Parts.{executive, IsExecutive}
 use Rattle.slot_exec.specs.Rooms.{room_after, RemembersSpans}
 use Rattle.slot_exec.proofs.RememberedRoom.{RemembersScene-later}
 use Rattle.slot_exec.proofs.SceneRooms.{RemembersScene-from_spans, RemembersScene-slot, RemembersSpans-from_scene}
+use Rattle.slot_exec.proofs.ShownSlots.{others-shown, others-slot}
 use Rattle.slot_exec.proofs.SlotChoice.{choice_of, IsChosen, IsChosen-from_parts, jobs_after-choice, MayRun-from_choice, ran_of-choice, soft_after-choice, spans_after-choice}
 
 module _ {plan : PlanParts} {time : ℕ} {rows : List Span} {jobs : List Job} (reserve : Reserved) {soft : List SoftJob} {row limit capacity most : ℕ} {known : Remembered} (is : IsExecutive (executive plan time rows jobs reserve.nexts soft row) rows reserve.sporadics limit capacity most known) where
@@ -179,3 +182,12 @@ module _ {plan : PlanParts} {time : ℕ} {rows : List Span} {jobs : List Job} (r
               remembers =
                   RemembersScene-slot exec is.plan is.stands next.scene chosen turned room IsChosen-parts next_time-is refl scene-step.0.jobs (every_executive_is_kept next is.plan stands).bounds (turns ∙ ap (λ t. (t + 1) % plan.cycle == 0) time_is) of_scene;
             }
+
+        -- and where no cycle ends, no span goes and the first others stay, so do those that are shown
+        pub others-parts : (before : Executive) → exec ≡ before → rows ≡ filled rows → (turned : Bool) → turned ≡ ((run_time + 1) % plan.cycle == 0) → turned ≡ false → length next_rows ≡ length rows → drop 1 (take SHOWN_LIMIT run_rows) ≡ drop 1 (take SHOWN_LIMIT rows) → others_of (shown_of before.plan.cycle next.scene) ≡ others_of (shown_of before.plan.cycle before.scene)
+        others-parts before seen own turned turns not many stay =
+            let others = others-slot SHOWN_LIMIT plan (run_time + 1) chosen rows run_rows next_rows own rows_are rows_next (sym turns ∙ not) many stay in
+            subst
+            (λ (e : Executive). others_of (shown_of e.plan.cycle next.scene) ≡ others_of (shown_of e.plan.cycle e.scene))
+            seen
+            (others-shown exec next rows next_rows is.spans scene-step.1 many others)

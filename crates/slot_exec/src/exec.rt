@@ -18,6 +18,7 @@ ghost use Rattle.slot_core.specs.Runs.Matches.{HaveSameItems};
 ghost use Rattle.slot_core.specs.Offline.Keys.{same_key};
 ghost use Rattle.slot_core.specs.Keeping.Plans.{IsPlan};
 ghost use Rattle.slot_core.specs.Runs.Scenes.{remaining, scene_of};
+ghost use Rattle.slot_core.specs.Runs.ShownSpans.{others_of};
 ghost use Rattle.slot_core.specs.Runs.Spans.{shown_of, spans_of};
 ghost use Rattle.spare_capacity.specs.Recurrence.{first_spare};
 ghost use Rattle.slot_core.specs.Runs.Traces.{arrive, slot, started, told_of_slot};
@@ -216,9 +217,21 @@ impl<T: SpareTable> Exec<T> {
     pub fn shown<L: Ledger>(&self, steps: &mut Steps<L>) -> Shown
         ensures shows { Shows self.now result }
         ensures shown { result ≡ shown_of self.now.plan.cycle self.now.scene }
+        ensures steps { steps.old ≤ steps.new }
         ensures few_steps { steps.new ≤ steps.old + SHOWN_LIMIT }
     {
         first_spans(&self.table, steps)
+    }
+
+    /// The same, written into this place. It does nothing else, so that they are written there at
+    /// once: a copy costs a third of the reading.
+    #[inline(never)]
+    pub fn shown_in<L: Ledger>(&self, shown: &mut Shown, steps: &mut Steps<L>)
+        ensures shows { Shows self.now shown.new }
+        ensures few_steps { steps.new ≤ steps.old + SHOWN_LIMIT }
+        ensures steps { steps.old ≤ steps.new }
+    {
+        *shown = self.shown(steps);
     }
 
     /// Soft work of `c` slots arrives in this row. Full(n) exactly where n soft jobs wait and n is
@@ -419,19 +432,56 @@ impl<T: SpareTable> Exec<T> {
         ensures steps { steps.old ≤ steps.new }
     {
         let mut what = What::Idle;
-        self.slot_in(&mut what, steps);
+        self.pass_in(&mut what, steps);
         match what {
             What::Run(key) => Ran::Key(key),
             _ => Ran::Idle,
         }
     }
 
-    /// `slot`, but what an entry tells of it is written into this place, without a copy.
-    pub fn slot_in<L: Ledger>(&mut self, what: &mut What, steps: &mut Steps<L>)
+    /// `slot`, but what an entry tells of it is written into these places, without a copy: what
+    /// ran, and the first spans, which are those before it and become those after it. True only
+    /// where all of these but the very first stay.
+    pub fn slot_in<L: Ledger>(
+        &mut self,
+        what: &mut What,
+        shown: &mut Shown,
+        steps: &mut Steps<L>,
+    ) -> bool
+        requires early { self.old.scene.time < 2 ^ 32 }
+        requires shown { (h : History) × StandsFor self.old h × (shown.old
+            ≡ shown_of
+            self.old.plan.cycle
+            (scene_of self.old.plan.tasks self.old.plan.cycle h)) }
+        ensures does { Does self.old self.new slot what.new }
+        ensures told { what.new ≡ told_of_slot
+            (choice self.old.plan.tasks.sporadics self.old.plan.cycle self.old.scene) }
+        ensures shows { Shows self.new shown.new }
+        ensures others { result ≡ true → others_of shown.new ≡ others_of shown.old }
+        ensures row { self.new.last_row ≡ self.old.last_row }
+        ensures time { self.new.scene.time ≡ self.old.scene.time + 1 }
+        ensures steps { steps.old ≤ steps.new }
+    {
+        let stay = self.pass_in(what, steps);
+        if stay {
+            shown.set_first(self.table.read(self.table.first(), steps));
+        } else {
+            self.shown_in(shown, steps);
+        }
+        stay
+    }
+
+    /// `slot`, but what an entry tells of it is written into this place. True only where the first
+    /// spans, as many as an entry shows, stay, but for the very first.
+    #[inline(always)]
+    fn pass_in<L: Ledger>(&mut self, what: &mut What, steps: &mut Steps<L>) -> bool
         requires { self.old.scene.time < 2 ^ 32 }
         ensures does { Does self.old self.new slot what.new }
         ensures told { what.new ≡ told_of_slot
             (choice self.old.plan.tasks.sporadics self.old.plan.cycle self.old.scene) }
+        ensures others { result ≡ true
+            → others_of (shown_of self.old.plan.cycle self.new.scene)
+            ≡ others_of (shown_of self.old.plan.cycle self.old.scene) }
         ensures row { self.new.last_row ≡ self.old.last_row }
         ensures time { self.new.scene.time ≡ self.old.scene.time + 1 }
         ensures steps { steps.old ≤ steps.new }
@@ -449,7 +499,8 @@ impl<T: SpareTable> Exec<T> {
             room,
             steps,
         );
-        run(
+        let count = self.table.count();
+        let stay = run(
             chosen,
             &mut self.table,
             &mut self.queue,
@@ -462,5 +513,6 @@ impl<T: SpareTable> Exec<T> {
         self.tight = room.tight;
         self.due = room.due;
         *what = chosen.told();
+        stay & !turned & (self.table.count() == count)
     }
 }

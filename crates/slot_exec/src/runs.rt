@@ -1,6 +1,7 @@
 //! What a slot runs.
 
-ghost use Rattle.std.specs.Prelude.{◌≡◌, ◌≤◌, length};
+ghost use Rattle.std.specs.Prelude.{◌≡◌, ◌≤◌, true, drop, length, take};
+ghost use Rattle.slot_core.specs.declared.TheConstants.{SHOWN_LIMIT};
 ghost use Rattle.slot_core.specs.Runs.Choice.{earliest, ready};
 ghost use Rattle.slot_core.specs.Runs.Matches.{HaveSameItems};
 ghost use Rattle.slot_core.specs.Runs.Traces.{told_of_slot};
@@ -89,17 +90,21 @@ fn earliest_job<L: Ledger>(queue: &JobQueue, time: u64, steps: &mut Steps<L>) ->
     }
 }
 
-/// What is chosen runs one slot.
+/// What is chosen runs one slot. True only where the first spans, as many as an entry shows, stay,
+/// but for the very first.
 pub(crate) fn run<T: SpareTable, L: Ledger>(
     chosen: Chosen,
     table: &mut T,
     queue: &mut JobQueue,
     soft: &mut HeapCircularBuffer<SoftJob>,
     steps: &mut Steps<L>,
-)
+) -> bool
     requires { MayRun chosen (spans_of_pairs (T.pairs table.old)) queue.old.jobs soft.old.items }
     ensures spans { spans_of_pairs (T.pairs table.new)
         ≡ spans_after chosen (spans_of_pairs (T.pairs table.old)) }
+    ensures others { result ≡ true
+        → drop 1 (take SHOWN_LIMIT (spans_of_pairs (T.pairs table.new)))
+        ≡ drop 1 (take SHOWN_LIMIT (spans_of_pairs (T.pairs table.old))) }
     ensures time { T.time table.new ≡ T.time table.old }
     ensures places { T.limit table.new ≡ T.limit table.old }
     ensures jobs { HaveSameItems queue.new.jobs (jobs_after chosen queue.old.jobs) }
@@ -109,11 +114,14 @@ pub(crate) fn run<T: SpareTable, L: Ledger>(
     ensures steps { steps.old ≤ steps.new }
 {
     match chosen {
-        Chosen::Nothing => {}
-        Chosen::Soft(_) => run_front(soft),
+        Chosen::Nothing => true,
+        Chosen::Soft(_) => {
+            run_front(soft);
+            true
+        }
         Chosen::Guaranteed(job) => {
             queue.ran(job.key, steps);
-            table.give_back(job.dl, 1, steps);
+            table.give_back(job.dl, 1, steps)
         }
     }
 }

@@ -1,15 +1,19 @@
 //! A taker that writes lines.
 
-ghost use Rattle.std.specs.Prelude.{◌≡◌, ◌≤◌, [], ◌∷◌, true, OnErr, OnOk};
+ghost use Rattle.std.specs.Prelude.{◌≡◌, ◌≢◌, ◌≤◌, ◌+◌, [], ◌∷◌, ◌++◌, codes, length, true, OnErr, OnOk};
 ghost use Rattle.std.specs.Io.KnownBytes.{Appends};
 ghost use Rattle.slot_core.specs.Calls.Counts.{Rose};
-ghost use Rattle.slot_core.specs.Output.Texts.{entry_line, spans_text};
+ghost use Rattle.slot_core.specs.Output.Texts.{entry_line, shown_text};
+ghost use Rattle.slot_core.specs.Runs.ShownSpans.{ShownSpans, others_of};
+ghost use Rattle.slot_core.specs.declared.events.What.{What};
 ghost use Rattle.slot_core.specs.Runs.Arrivals.{what_in_set};
-ghost use Rattle.trace_text.specs.Takers.{AppendsBroken, EndsIn};
+ghost use Rattle.trace_text.specs.Takers.{AppendsBroken, EndsIn, TellsSpans, kept_line};
+ghost use Rattle.trace_text.specs.declared.TheConstants.{SPAN_LIMIT, SPANS_LIMIT};
 
 use crate::entries::{push_head, push_tail};
 use crate::extents::Cells;
 use crate::line::Line;
+use crate::spans::push_to_first;
 use slot_core::{Entry, Failed, Taker, TaskSet};
 use slot_io::Sink;
 
@@ -17,13 +21,16 @@ use slot_io::Sink;
 #[derive(Drop)]
 pub struct TextTaker<'s, K: Sink> {
     out: &'s mut K,
-    /// The last line of which the spans were written. It is kept, as the next one, so that no line
-    /// has to be moved.
-    line: Line,
+    /// Two lines, in turns: the one with spans of which the text is kept, and the one that is
+    /// written next, into which it is copied.
+    even: Line,
+    odd: Line,
+    /// Whether the one that is kept is the odd one.
+    turned: bool,
     /// Where the spans of that line begin.
     tail: usize,
-    /// A line that shows the same spans.
-    again: Line,
+    /// Where those after the first begin.
+    others: usize,
     /// Texts that stay from line to line.
     cells: Cells,
 }
@@ -36,9 +43,11 @@ impl<'s, K: Sink> TextTaker<'s, K> {
     {
         TextTaker {
             out,
-            line: Line::new(),
+            even: Line::new(),
+            odd: Line::new(),
+            turned: false,
             tail: 0,
-            again: Line::new(),
+            others: 0,
             cells: Cells::new(),
         }
     }
@@ -60,25 +69,31 @@ impl<'s, K: Sink> TextTaker<'s, K> {
         ensures failed { OnErr result (Rose
             (K.faults self.old.out.now)
             (K.faults self.new.out.now)) }
-        ensures tail { EndsIn
-            self.new.line
+        ensures kept { entry.now.what ≢ What.End → TellsSpans
+            (kept_line self.new.turned self.new.even self.new.odd)
             self.new.tail
-            (spans_text entry.now.what entry.now.shown) }
+            self.new.others
+            entry.now.shown }
     {
-        self.line.clear();
-        push_head(&mut self.line, entry, tasks);
-        self.tail = self.line.bytes().len();
-        push_tail(&mut self.line, &mut self.cells, entry.what, &entry.shown);
-        self.out.put(self.line.bytes())
+        self.turned = false;
+        self.even.clear();
+        push_head(&mut self.even, entry, tasks);
+        self.tail = self.even.bytes().len();
+        self.others = push_tail(&mut self.even, &mut self.cells, entry.what, &entry.shown);
+        self.out.put(self.even.bytes())
     }
 
-    /// Takes an entry whose spans have the text that is kept: it is copied.
-    pub fn take_again(&mut self, entry: &Entry, tasks: &TaskSet) -> Result<(), Failed>
+    /// Takes an entry that tells other spans only in the first: the text of the others is kept, and
+    /// copied.
+    pub fn take_others(&mut self, entry: &Entry, tasks: &TaskSet) -> Result<(), Failed>
         requires named { what_in_set tasks.now entry.now.what ≡ true }
-        requires tail { EndsIn
-            self.old.line
+        requires some { entry.now.what ≢ What.End }
+        requires kept { (before : ShownSpans) × (others_of before ≡ others_of entry.now.shown)
+            × TellsSpans
+            (kept_line self.old.turned self.old.even self.old.odd)
             self.old.tail
-            (spans_text entry.now.what entry.now.shown) }
+            self.old.others
+            before }
         ensures same { self.new.out.ghost_name ≡ self.old.out.ghost_name }
         ensures put { OnOk result (Appends
             (K.written self.old.out.now)
@@ -93,14 +108,129 @@ impl<'s, K: Sink> TextTaker<'s, K> {
         ensures failed { OnErr result (Rose
             (K.faults self.old.out.now)
             (K.faults self.new.out.now)) }
-        ensures line { self.new.line ≡ self.old.line }
-        ensures place { self.new.tail ≡ self.old.tail }
+        ensures kept { TellsSpans
+            (kept_line self.new.turned self.new.even self.new.odd)
+            self.new.tail
+            self.new.others
+            entry.now.shown }
     {
-        self.again.clear();
-        push_head(&mut self.again, entry, tasks);
-        self.again.push_from(&self.line, self.tail);
-        self.out.put(self.again.bytes())
+        if self.turned {
+            let places = push_line_with(
+                &mut self.even,
+                &mut self.cells,
+                entry,
+                tasks,
+                &self.odd,
+                self.others,
+            );
+            self.turned = false;
+            self.tail = places.tail;
+            self.others = places.others;
+            self.out.put(self.even.bytes())
+        } else {
+            let places = push_line_with(
+                &mut self.odd,
+                &mut self.cells,
+                entry,
+                tasks,
+                &self.even,
+                self.others,
+            );
+            self.turned = true;
+            self.tail = places.tail;
+            self.others = places.others;
+            self.out.put(self.odd.bytes())
+        }
     }
+
+    /// Takes an entry that tells spans of which the text is kept: it is copied.
+    pub fn take_again(&mut self, entry: &Entry, tasks: &TaskSet) -> Result<(), Failed>
+        requires named { what_in_set tasks.now entry.now.what ≡ true }
+        requires some { entry.now.what ≢ What.End }
+        requires kept { TellsSpans
+            (kept_line self.old.turned self.old.even self.old.odd)
+            self.old.tail
+            self.old.others
+            entry.now.shown }
+        ensures same { self.new.out.ghost_name ≡ self.old.out.ghost_name }
+        ensures put { OnOk result (Appends
+            (K.written self.old.out.now)
+            (K.written self.new.out.now)
+            (entry_line tasks.now entry.now)) }
+        ensures part { OnErr result (AppendsBroken
+            (K.written self.old.out.now)
+            (K.written self.new.out.now)
+            tasks.now
+            (entry.now ∷ [])) }
+        ensures counted { K.faults self.old.out.now ≤ K.faults self.new.out.now }
+        ensures failed { OnErr result (Rose
+            (K.faults self.old.out.now)
+            (K.faults self.new.out.now)) }
+        ensures kept { TellsSpans
+            (kept_line self.new.turned self.new.even self.new.odd)
+            self.new.tail
+            self.new.others
+            entry.now.shown }
+    {
+        if self.turned {
+            push_line_again(&mut self.even, entry, tasks, &self.odd, self.tail);
+            self.out.put(self.even.bytes())
+        } else {
+            push_line_again(&mut self.odd, entry, tasks, &self.even, self.tail);
+            self.out.put(self.odd.bytes())
+        }
+    }
+}
+
+/// Where the spans of a line begin, and those after the first.
+#[derive(Clone, Copy)]
+struct SpanPlaces {
+    tail: usize,
+    others: usize,
+}
+
+/// The line becomes that of the entry, of which the spans after the first stand in the kept line
+/// from this place on.
+#[inline(always)]
+fn push_line_with(
+    line: &mut Line,
+    cells: &mut Cells,
+    entry: &Entry,
+    tasks: &TaskSet,
+    kept: &Line,
+    others: usize,
+) -> SpanPlaces
+    requires named { what_in_set tasks.now entry.now.what ≡ true }
+    requires some { entry.now.what ≢ What.End }
+    requires kept { EndsIn kept.now others (shown_text (others_of entry.now.shown)) }
+    requires room { length kept.now + 2 + SPAN_LIMIT ≤ others + SPANS_LIMIT + 1 }
+    ensures line { line.new ≡ entry_line tasks.now entry.now }
+    ensures tells { TellsSpans line.new result.tail result.others entry.now.shown }
+{
+    line.clear();
+    push_head(line, entry, tasks);
+    let tail = line.bytes().len();
+    push_to_first(line, cells, &entry.shown);
+    let after_first = line.bytes().len();
+    line.push_from(kept, others);
+    SpanPlaces {
+        tail,
+        others: after_first,
+    }
+}
+
+/// The line becomes that of the entry, of which the spans stand in the kept line from this place
+/// on.
+#[inline(always)]
+fn push_line_again(line: &mut Line, entry: &Entry, tasks: &TaskSet, kept: &Line, tail: usize)
+    requires named { what_in_set tasks.now entry.now.what ≡ true }
+    requires some { entry.now.what ≢ What.End }
+    requires kept { EndsIn kept.now tail (codes " |" ++ shown_text entry.now.shown) }
+    ensures { line.new ≡ entry_line tasks.now entry.now }
+{
+    line.clear();
+    push_head(line, entry, tasks);
+    line.push_from(kept, tail);
 }
 
 impl<'s, K: Sink> Taker for TextTaker<'s, K> {

@@ -1,21 +1,20 @@
 -- What is told is to be told, so the replay goes on, ends, or breaks off.
-use Rattle.std.proofs.Common.{◌≡◌, ◌≤◌, true, false, [], ◌∷◌, ◌++◌, length, drop, sym, ap, subst, ◌∙◌, arith}
+use Rattle.std.proofs.Common.{◌≡◌, ◌≤◌, true, false, [], ◌∷◌, ◌++◌, length, drop, sym, subst, ◌∙◌, inr, arith}
 use Rattle.std.specs.Prelude.{slice_get}
 use Rattle.slot_core.specs.declared.events.What.TheVariants.{Start}
 use Rattle.slot_core.specs.Keeping.Plans.{PlanParts}
-use Rattle.slot_core.specs.Output.Texts.{spans_text}
-use Rattle.slot_core.specs.Runs.Arrivals.{what_in_set}
-use Rattle.slot_core.specs.Runs.ShownSpans.{ShownSpans}
+use Rattle.slot_core.specs.Runs.Scenes.{scene_of}
+use Rattle.slot_core.specs.Runs.Spans.{shown_of}
 use Rattle.slot_core.specs.Runs.Traces.{shown_entry, trace, history_of}
 use Rattle.slot_io.proofs.SinkParts.{OnErr-anyhow}
-use Rattle.arrival_replay.proofs.UnderWay.{IsToTell, TookShown, TookShown-told, entry-renewed, IsUnderWay-told, BreaksOff-told, IsToTell-start}
+use Rattle.arrival_replay.proofs.UnderWay.{IsToTell, TookShown, TookShown-told, TookStood, entry-told, IsUnderWay-told, BreaksOff-told, IsToTell-start}
 use Rattle.arrival_replay.proofs.Happenings.{place_after, place_after-some, place_after-none, place_after-within, on_the_way-early, on_the_way-told, left-falls, IsToTell-happened, time-happened, last-happened, due-may_come, due-later, happened-named}
 use Rattle.arrival_replay.proofs.Stops.{IsStopped-off, IsStopped-taken}
 use Rattle.arrival_replay.specs.Replays.{is_on_the_way, next_occurrence}
-use Rattle.arrival_replay.proofs.KeptSpans.{keeps-again, keeps-told, spans-done}
+use Rattle.arrival_replay.proofs.KeptSpans.{done-some}
 use Rattle.arrival_replay.proofs.go_to.Given.{Over}
 use Rattle.arrival_replay.proofs.go_to.Goals as goal
-use Rattle.arrival_replay.proofs.go_to.Goals.{After-happen_in, then-is_some, else-is_some}
+use Rattle.arrival_replay.proofs.go_to.Goals.{After-happen_in-stay, then-is_some, else-is_some}
 
 pub loop-entry-init : goal.loop-entry-init
 loop-entry-init g c =
@@ -35,7 +34,7 @@ loop-entry-init g c =
       last = c.requires.started.last;
       within = omega arith;
       counted = c.in_ok-tell.ensures.counted;
-      keeps = subst (λ w. g.W.Teller.keeps next (spans_text w e.shown)) c.entry_at-entry.ensures.what c.tell.ensures.keeps;
+      keeps = c.tell.ensures.keeps;
     }
 
 pub returns-in_err-tell-clause-broke : goal.returns-in_err-tell-clause-broke
@@ -55,43 +54,47 @@ returns-in_err-tell-clause-broke g c =
     let all = g.met.W.Taker.broke_later set first first next t.told (e ∷ []) t.took c.in_err-tell.ensures.broke in
     OnErr-anyhow c.from_residual.result (BreaksOff-told (took first) broke exec.plan exec (trace set arrivals n) n arrivals 0 Start t (subst (λ e. broke (t.told ++ e ∷ [])) {y = own} same all))
 
-pub happen_in-requires-clause-later : goal.happen_in-requires-clause-later
-happen_in-requires-clause-later g c =
+pub happen_in-stay-requires-clause-later : goal.happen_in-stay-requires-clause-later
+happen_in-stay-requires-clause-later g c =
     let exec = c.args.exec.now in
     let set = exec.plan.tasks in
     let l = c.loop-entry in
     due-later (TookShown (g.W.Taker.took set c.args.taker.now l.taker) exec.plan l.entry.shown) exec.plan l.exec (trace set c.args.arrivals.now c.args.slots) c.args.slots l.next c.now-time.result c.args.arrivals.now l.invariant.under_way c.now-time.ensures.time c.requires.fitting l.invariant.last c.due_arrival-due.result c.due_arrival-due.ensures
 
-pub happen_in-requires-clause-may_come : goal.happen_in-requires-clause-may_come
-happen_in-requires-clause-may_come g c =
+pub happen_in-stay-requires-clause-may_come : goal.happen_in-stay-requires-clause-may_come
+happen_in-stay-requires-clause-may_come g c =
     let exec = c.args.exec.now in
     let set = exec.plan.tasks in
     let l = c.loop-entry in
     due-may_come (TookShown (g.W.Taker.took set c.args.taker.now l.taker) exec.plan l.entry.shown) exec.plan l.exec (trace set c.args.arrivals.now c.args.slots) c.args.slots l.next c.now-time.result c.args.arrivals.now l.invariant.under_way c.now-time.ensures.time c.requires.fitting l.invariant.last c.due_arrival-due.result c.due_arrival-due.ensures
+
+-- the spans of the last entry are those before what happens
+pub happen_in-stay-requires-clause-shown : goal.happen_in-stay-requires-clause-shown
+happen_in-stay-requires-clause-shown g c =
+    let l = c.loop-entry in
+    let u = l.invariant.under_way in
+    let h = history_of u.told in
+    (h, u.stands, subst (λ (p : PlanParts). l.entry.shown ≡ shown_of p.cycle (scene_of p.tasks p.cycle h)) (sym u.plan_is) u.took.1)
 
 pub tell-requires-in-loop-entry-clause-named : goal.tell-requires-in-loop-entry-clause-named
 tell-requires-in-loop-entry-clause-named g c =
     let exec = c.args.exec.now in
     let set = exec.plan.tasks in
     let l = c.loop-entry in
-    let named = happened-named (TookShown (g.W.Taker.took set c.args.taker.now l.taker) exec.plan l.entry.shown) exec.plan l.exec (trace set c.args.arrivals.now c.args.slots) c.args.slots l.next c.now-time.result c.args.arrivals.now l.invariant.under_way c.now-time.ensures.time c.requires.fitting l.invariant.last c.happen_in.new.exec c.due_arrival-due.result c.happen_in.new.what c.now.ensures.kept.plan c.due_arrival-due.ensures c.happen_in.ensures.does in
-    ap (what_in_set c.happen_in.new.exec.plan.tasks) c.renew-read.ensures.what ∙ named
+    happened-named (TookShown (g.W.Taker.took set c.args.taker.now l.taker) exec.plan l.entry.shown) exec.plan l.exec (trace set c.args.arrivals.now c.args.slots) c.args.slots l.next c.now-time.result c.args.arrivals.now l.invariant.under_way c.now-time.ensures.time c.requires.fitting l.invariant.last c.happen_in-stay.new.exec c.due_arrival-due.result c.happen_in-stay.new.entry.what c.now.ensures.kept.plan c.due_arrival-due.ensures c.happen_in-stay.ensures.does
 
--- what happened is told with its spans
-with_spans : (g : Over) (c : After-happen_in g) (shown : ShownSpans) → spans_text c.happen_in.new.what shown ≡ spans_text Start shown
-with_spans g c =
-    spans-done c.loop-entry.exec c.happen_in.new.exec (next_occurrence c.due_arrival-due.result) c.happen_in.new.what c.happen_in.ensures.does
+-- what happened is not the end
+pub tell-requires-in-loop-entry-clause-some : goal.tell-requires-in-loop-entry-clause-some
+tell-requires-in-loop-entry-clause-some g c =
+    done-some c.loop-entry.exec c.happen_in-stay.new.exec (next_occurrence c.due_arrival-due.result) c.happen_in-stay.new.entry.what c.happen_in-stay.ensures.does
 
--- where no spans were read they are those of the last entry, of which the text is kept
+-- the spans that stay are those of the last entry, of which the text is kept
 pub tell-requires-in-loop-entry-clause-kept : goal.tell-requires-in-loop-entry-clause-kept
-tell-requires-in-loop-entry-clause-kept g c = λ stay.
-    let o = (goal.at.tell-requires-in-loop-entry-clause-kept g c).After-happen_in in
-    let l = c.loop-entry in
-    let same = c.renew-read.ensures.kept (sym c.renew-read.ensures.told ∙ stay) in
-    keeps-again (g.W.Teller.keeps l.taker) c.now-time.result c.happen_in.new.what l.entry c.renew-read.new.entry same (with_spans g o) l.invariant.keeps
+tell-requires-in-loop-entry-clause-kept g c =
+    inr (c.loop-entry.entry.shown, c.happen_in-stay.ensures.stay, c.loop-entry.invariant.keeps)
 
 -- the next place is that after what is due
-next_place : (g : Over) (c : After-happen_in g) → place_after c.due_arrival-due.result c.loop-entry.next ≡ c.if-is_some.next
+next_place : (g : Over) (c : After-happen_in-stay g) → place_after c.due_arrival-due.result c.loop-entry.next ≡ c.if-is_some.next
 next_place g c =
     let due = c.due_arrival-due.result in
     let next = c.loop-entry.next in
@@ -101,13 +104,13 @@ next_place g c =
     ]
 
 -- the replay was on the way
-on_the_way : (g : Over) (c : After-happen_in g) → is_on_the_way c.args.arrivals.now c.args.slots c.args.place c.loop-entry.next c.now-time.result ≡ true
+on_the_way : (g : Over) (c : After-happen_in-stay g) → is_on_the_way c.args.arrivals.now c.args.slots c.args.place c.loop-entry.next c.now-time.result ≡ true
 on_the_way g c =
     let same : c.now.result ≡ c.now-time.result = omega (arith, c.now.ensures.time, c.now-time.ensures.time) in
     on_the_way-told c.args.arrivals.now c.args.slots c.args.place c.loop-entry.next c.now.result c.now-time.result true c.is_on_the_way.result c.is_on_the_way.ensures c.loop-entry-test.true same
 
 -- what happened is to be told
-happened : (g : Over) (c : After-happen_in g) → IsToTell (TookShown (g.W.Taker.took c.args.exec.now.plan.tasks c.args.taker.now c.loop-entry.taker) c.args.exec.now.plan c.loop-entry.entry.shown) c.args.exec.now.plan c.happen_in.new.exec (trace c.args.exec.now.plan.tasks c.args.arrivals.now c.args.slots) c.args.slots (drop c.if-is_some.next c.args.arrivals.now) c.now-time.result c.happen_in.new.what
+happened : (g : Over) (c : After-happen_in-stay g) → IsToTell (TookStood (TookShown (g.W.Taker.took c.args.exec.now.plan.tasks c.args.taker.now c.loop-entry.taker) c.args.exec.now.plan c.loop-entry.entry.shown) c.loop-entry.exec) c.args.exec.now.plan c.happen_in-stay.new.exec (trace c.args.exec.now.plan.tasks c.args.arrivals.now c.args.slots) c.args.slots (drop c.if-is_some.next c.args.arrivals.now) c.now-time.result c.happen_in-stay.new.entry.what
 happened g c =
     let plan = c.args.exec.now.plan in
     let l = c.loop-entry in
@@ -115,30 +118,30 @@ happened g c =
     let arrivals = c.args.arrivals.now in
     let took = TookShown (g.W.Taker.took plan.tasks c.args.taker.now l.taker) plan l.entry.shown in
     let whole = trace plan.tasks arrivals n in
-    let after = c.happen_in.new.exec in
+    let after = c.happen_in-stay.new.exec in
     let time = c.now-time.result in
     let due = c.due_arrival-due.result in
-    let t = IsToTell-happened took plan l.exec whole n l.next time arrivals l.invariant.under_way c.now-time.ensures.time c.requires.fitting l.invariant.last after due c.happen_in.new.what c.due_arrival-due.ensures (on_the_way-early arrivals n c.args.place l.next time (on_the_way g c)) c.happen_in.ensures.does in
-    subst (λ k. IsToTell took plan after whole n (drop k arrivals) time c.happen_in.new.what) (next_place g c) t
+    let t = IsToTell-happened took plan l.exec whole n l.next time arrivals l.invariant.under_way c.now-time.ensures.time c.requires.fitting l.invariant.last after due c.happen_in-stay.new.entry.what c.due_arrival-due.ensures (on_the_way-early arrivals n c.args.place l.next time (on_the_way g c)) c.happen_in-stay.ensures.does in
+    subst (λ k. IsToTell (TookStood took l.exec) plan after whole n (drop k arrivals) time c.happen_in-stay.new.entry.what) (next_place g c) t
 
 -- the last row counts the arrivals that were answered
-last_happened : (g : Over) (c : After-happen_in g) → c.happen_in.new.exec.last_row ≡ c.if-is_some.next
+last_happened : (g : Over) (c : After-happen_in-stay g) → c.happen_in-stay.new.exec.last_row ≡ c.if-is_some.next
 last_happened g c =
     let exec = c.args.exec.now in
     let l = c.loop-entry in
     let took = TookShown (g.W.Taker.took exec.plan.tasks c.args.taker.now l.taker) exec.plan l.entry.shown in
-    last-happened took exec.plan l.exec (trace exec.plan.tasks c.args.arrivals.now c.args.slots) c.args.slots l.next c.now-time.result c.args.arrivals.now l.invariant.under_way c.now-time.ensures.time c.requires.fitting l.invariant.last c.happen_in.new.exec c.due_arrival-due.result c.happen_in.new.what c.due_arrival-due.ensures c.happen_in.ensures.does
+    last-happened took exec.plan l.exec (trace exec.plan.tasks c.args.arrivals.now c.args.slots) c.args.slots l.next c.now-time.result c.args.arrivals.now l.invariant.under_way c.now-time.ensures.time c.requires.fitting l.invariant.last c.happen_in-stay.new.exec c.due_arrival-due.result c.happen_in-stay.new.entry.what c.due_arrival-due.ensures c.happen_in-stay.ensures.does
     ∙ next_place g c
 
 -- it does not pass the place
-next_within : (g : Over) (c : After-happen_in g) → c.if-is_some.next ≤ c.args.place
+next_within : (g : Over) (c : After-happen_in-stay g) → c.if-is_some.next ≤ c.args.place
 next_within g c =
     let within = place_after-within c.args.arrivals.now c.args.slots c.args.place c.loop-entry.next c.now-time.result c.due_arrival-due.result c.due_arrival-due.ensures (on_the_way g c) c.loop-entry.invariant.within in
     subst (λ k. k ≤ c.args.place) (next_place g c) within
 
 pub loop-entry-smaller : goal.loop-entry-smaller
 loop-entry-smaller g c =
-    let o = (goal.at.loop-entry-smaller g c).After-happen_in in
+    let o = (goal.at.loop-entry-smaller g c).After-happen_in-stay in
     let plan = c.args.exec.now.plan in
     let l = c.loop-entry in
     let n = c.args.slots in
@@ -147,18 +150,18 @@ loop-entry-smaller g c =
     let whole = trace plan.tasks arrivals n in
     let due = c.due_arrival-due.result in
     let time = c.now-time.result in
-    let later = time-happened took plan l.exec whole n l.next time arrivals l.invariant.under_way c.now-time.ensures.time c.requires.fitting l.invariant.last c.happen_in.new.exec due c.happen_in.new.what c.happen_in.ensures.does in
+    let later = time-happened took plan l.exec whole n l.next time arrivals l.invariant.under_way c.now-time.ensures.time c.requires.fitting l.invariant.last c.happen_in-stay.new.exec due c.happen_in-stay.new.entry.what c.happen_in-stay.ensures.does in
     let within : place_after due l.next ≤ length arrivals = omega (arith, next_place g o, next_within g o, c.requires.place) in
     let falls = left-falls due n l.next time (length arrivals) within (on_the_way-early arrivals n c.args.place l.next time (on_the_way g o)) in
     omega (arith, falls, later, next_place g o, c.now-time.ensures.time)
 
 pub loop-entry-preserved : goal.loop-entry-preserved
 loop-entry-preserved g c =
-    let o = (goal.at.loop-entry-preserved g c).After-happen_in in
+    let o = (goal.at.loop-entry-preserved g c).After-happen_in-stay in
     let plan = c.args.exec.now.plan in
     let n = c.args.slots in
     let arrivals = c.args.arrivals.now in
-    let what = c.happen_in.new.what in
+    let what = c.happen_in-stay.new.entry.what in
     let time = c.now-time.result in
     let first = c.args.taker.now in
     let last = c.loop-entry.taker in
@@ -167,26 +170,27 @@ loop-entry-preserved g c =
     let rest = drop c.if-is_some.next arrivals in
     let t = happened g o in
     let whole = trace plan.tasks arrivals n in
-    let after = c.happen_in.new.exec in
-    let e = c.renew-read.new.entry in
-    let same = entry-renewed (took last) plan after whole n rest time what c.loop-entry.entry e t c.renew-read.ensures.read c.renew-read.ensures.kept in
+    let after = c.happen_in-stay.new.exec in
+    let l = c.loop-entry in
+    let e = c.happen_in-stay.new.entry in
+    let same = entry-told (took last) plan l.exec after whole n rest time l.entry.shown e t l.invariant.under_way.plan_is c.happen_in-stay.ensures.time c.happen_in-stay.ensures.shown in
     let one = subst (λ (p : PlanParts). g.W.Taker.took p.tasks last next (e ∷ [])) t.plan_is c.in_ok-tell-2.ensures.took in
-    let all = g.met.W.Taker.took_more plan.tasks first last next t.told (e ∷ []) t.took.0 one in
+    let all = g.met.W.Taker.took_more plan.tasks first last next t.told (e ∷ []) t.took.0.0 one in
     record {
-      under_way = IsUnderWay-told (TookShown (took last) plan c.loop-entry.entry.shown) (TookShown (took next) plan e.shown) plan after whole n rest time what t (TookShown-told (took next) plan t.told time what e same all);
+      under_way = IsUnderWay-told (TookStood (TookShown (took last) plan l.entry.shown) l.exec) (TookShown (took next) plan e.shown) plan after whole n rest time what t (TookShown-told (took next) plan t.told time what e same all);
       last = last_happened g o;
       within = next_within g o;
       counted = omega (arith, c.loop-entry.invariant.counted, c.in_ok-tell-2.ensures.counted);
-      keeps = keeps-told (g.W.Teller.keeps next) what e c.renew-read.ensures.what (with_spans g o) c.tell-in-loop-entry.ensures.keeps;
+      keeps = c.tell-in-loop-entry.ensures.keeps;
     }
 
 pub returns-in_err-tell-2-clause-broke : goal.returns-in_err-tell-2-clause-broke
 returns-in_err-tell-2-clause-broke g c =
-    let o = (goal.at.returns-in_err-tell-2-clause-broke g c).After-happen_in in
+    let o = (goal.at.returns-in_err-tell-2-clause-broke g c).After-happen_in-stay in
     let plan = c.args.exec.now.plan in
     let n = c.args.slots in
     let arrivals = c.args.arrivals.now in
-    let what = c.happen_in.new.what in
+    let what = c.happen_in-stay.new.entry.what in
     let time = c.now-time.result in
     let first = c.args.taker.now in
     let last = c.loop-entry.taker in
@@ -196,12 +200,13 @@ returns-in_err-tell-2-clause-broke g c =
     let rest = drop c.if-is_some.next arrivals in
     let t = happened g o in
     let whole = trace plan.tasks arrivals n in
-    let after = c.happen_in.new.exec in
-    let e = c.renew-read.new.entry in
-    let same = entry-renewed (took last) plan after whole n rest time what c.loop-entry.entry e t c.renew-read.ensures.read c.renew-read.ensures.kept in
+    let after = c.happen_in-stay.new.exec in
+    let l = c.loop-entry in
+    let e = c.happen_in-stay.new.entry in
+    let same = entry-told (took last) plan l.exec after whole n rest time l.entry.shown e t l.invariant.under_way.plan_is c.happen_in-stay.ensures.time c.happen_in-stay.ensures.shown in
     let one = subst (λ (p : PlanParts). g.W.Taker.broke p.tasks last next (e ∷ [])) t.plan_is c.in_err-tell-2.ensures.broke in
-    let all = g.met.W.Taker.broke_later plan.tasks first last next t.told (e ∷ []) t.took.0 one in
-    OnErr-anyhow c.from_residual-in_err-tell-2.result (BreaksOff-told (TookShown (took last) plan c.loop-entry.entry.shown) broke plan after whole n rest time what t (subst (λ e. broke (t.told ++ e ∷ [])) same all))
+    let all = g.met.W.Taker.broke_later plan.tasks first last next t.told (e ∷ []) t.took.0.0 one in
+    OnErr-anyhow c.from_residual-in_err-tell-2.result (BreaksOff-told (TookStood (TookShown (took last) plan l.entry.shown) l.exec) broke plan after whole n rest time what t (subst (λ e. broke (t.told ++ e ∷ [])) same all))
 
 -- off the way it stops at its place
 pub returns-clause-stopped : goal.returns-clause-stopped

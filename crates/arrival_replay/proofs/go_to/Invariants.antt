@@ -1,6 +1,4 @@
 use Rattle.std.proofs.Common.{◌≡◌, ◌≤◌, ◌+◌, ◌-◌, length, drop}
-use Rattle.slot_core.specs.declared.events.What.TheVariants.{Start}
-use Rattle.slot_core.specs.Output.Texts.{spans_text}
 use Rattle.slot_core.specs.Runs.Traces.{trace}
 use Rattle.arrival_replay.proofs.UnderWay.{IsUnderWay, TookShown}
 use Rattle.arrival_replay.proofs.go_to.Given as goal
@@ -23,7 +21,7 @@ invariant-loop-entry g l = record {
   last : l.exec.last_row ≡ l.next;
   within : l.next ≤ l.place;
   counted : g.W.Taker.faults l.fn.taker ≤ g.W.Taker.faults l.taker;
-  keeps : g.W.Teller.keeps l.taker (spans_text Start l.entry.shown);
+  keeps : g.W.Teller.keeps l.taker l.entry.shown;
 }
 
 -- the slots and the arrivals that are left

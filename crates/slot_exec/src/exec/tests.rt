@@ -293,8 +293,8 @@ impl<T: SpareTable> SpareTable for ReadTable<T> {
         self.table.charge(deadline, slots, steps);
     }
 
-    fn give_back<L: Ledger>(&mut self, deadline: u64, slots: u32, steps: &mut Steps<L>) {
-        self.table.give_back(deadline, slots, steps);
+    fn give_back<L: Ledger>(&mut self, deadline: u64, slots: u32, steps: &mut Steps<L>) -> bool {
+        self.table.give_back(deadline, slots, steps)
     }
 
     fn split<L: Ledger>(&mut self, at: u64, steps: &mut Steps<L>) {

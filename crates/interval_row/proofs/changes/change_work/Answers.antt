@@ -1,4 +1,4 @@
-use Rattle.std.proofs.Common.{◌≡◌, ◌+◌, ◌≤◌, ◌^◌, ◌∙◌, get_or, set, drop, length, ap, sym, subst, arith}
+use Rattle.std.proofs.Common.{◌≡◌, ◌+◌, ◌≤◌, ◌^◌, ◌∙◌, get_or, set, drop, take, length, ap, sym, subst, arith}
 use Rattle.std.proofs.lemmas.Option.{get_or_from_slice_get}
 use Rattle.slot_core.specs.declared.jobs.Span.{Span}
 use Rattle.spare_capacity.specs.Recurrence.{filled, first_spare, first_start, with_spare}
@@ -58,14 +58,14 @@ changed-span-requires-clause-few g c = few g (goal.at.changed-span-requires-clau
 pub changed-span-requires-clause-change : goal.changed-span-requires-clause-change
 changed-span-requires-clause-change g c = may g (goal.at.changed-span-requires-clause-change g c).After-find_hinted-place
 
-pub set_work-requires-clause-few : goal.set_work-requires-clause-few
-set_work-requires-clause-few g c =
-    let after = (goal.at.set_work-requires-clause-few g c).After-find_hinted-place in
+pub set_work-stay-requires-clause-few : goal.set_work-stay-requires-clause-few
+set_work-stay-requires-clause-few g c =
+    let after = (goal.at.set_work-stay-requires-clause-few g c).After-find_hinted-place in
     omega (arith, changed_by-le c.args.change c.find_hinted-place.result.span.work (few g after) (may g after), ap (λ (s : Span). s.work) c.changed-span.ensures)
 
-pub set_work-requires-clause-spare : goal.set_work-requires-clause-spare
-set_work-requires-clause-spare g c =
-    let after = (goal.at.set_work-requires-clause-spare g c).After-find_hinted-place in
+pub set_work-stay-requires-clause-spare : goal.set_work-stay-requires-clause-spare
+set_work-stay-requires-clause-spare g c =
+    let after = (goal.at.set_work-stay-requires-clause-spare g c).After-find_hinted-place in
     let rows = g.S.Store.spans c.args.store.now in
     let index = c.find_hinted-place.result.index in
     let span = c.find_hinted-place.result.span in
@@ -80,20 +80,20 @@ returns-clause-spans g c =
     let rows = g.S.Store.spans c.args.store.now in
     let index = c.find_hinted-place.result.index in
     let work : c.changed-span.result.work ≡ changed_by c.args.change (get_or rows index no_row).work = ap (λ (s : Span). s.work) c.changed-span.ensures ∙ ap (λ (s : Span). changed_by c.args.change s.work) (found g after) in
-    c.change_span.ensures.spans ∙ c.set_work.ensures.spans ∙ ap filled (ap (λ n. with_work_at index n rows) work ∙ sym ((due g after).changed (changed_by c.args.change)))
+    c.change_span.ensures.spans ∙ c.set_work-stay.ensures.spans ∙ ap filled (ap (λ n. with_work_at index n rows) work ∙ sym ((due g after).changed (changed_by c.args.change)))
 
 pub returns-clause-few_steps : goal.returns-clause-few_steps
 returns-clause-few_steps g c =
-    omega (arith, c.find_hinted-place.ensures.few_steps, c.find_hinted-place.ensures.index, c.set_work.ensures.few_steps, place_of-ends_before c.args.deadline (g.S.Store.spans c.args.store.now))
+    omega (arith, c.find_hinted-place.ensures.few_steps, c.find_hinted-place.ensures.index, c.set_work-stay.ensures.few_steps, place_of-ends_before c.args.deadline (g.S.Store.spans c.args.store.now))
 
 -- the marks are still those of before
 pub change_span-requires-clause-marks : goal.change_span-requires-clause-marks
-change_span-requires-clause-marks g c = ap length c.set_work.ensures.marks ∙ c.requires.timed.marked.length
+change_span-requires-clause-marks g c = ap length c.set_work-stay.ensures.marks ∙ c.requires.timed.marked.length
 
 pub change_span-requires-clause-works : goal.change_span-requires-clause-works
 change_span-requires-clause-works g c =
     let rows = g.S.Store.spans c.args.store.now in
-    rw c.set_work.ensures.marks (few_works c.find_hinted-place.result.span.end c.requires.timed.marked (AreLight-FollowOn c.args.times.start rows (follows c.requires.timed)) c.requires.timed.filled.few)
+    rw c.set_work-stay.ensures.marks (few_works c.find_hinted-place.result.span.end c.requires.timed.marked (AreLight-FollowOn c.args.times.start rows (follows c.requires.timed)) c.requires.timed.filled.few)
 
 pub returns-clause-marked : goal.returns-clause-marked
 returns-clause-marked g c =
@@ -105,8 +105,11 @@ returns-clause-marked g c =
     let change = c.args.change in
     let i = mark_index span.end in
     let work : c.changed-span.result.work ≡ changed_by change span.work = ap (λ (s : Span). s.work) c.changed-span.ensures in
-    let now = c.change_span.ensures.spans ∙ c.set_work.ensures.spans ∙ ap (λ n. filled (with_work_at index n rows)) work in
-    let put = put_is (g.S.Store.marks c.set_work.new.store) (g.S.Store.marks c.change_span.new.store) i (with_change change) (omega (arith, ap length c.set_work.ensures.marks, c.requires.timed.marked.length)) c.change_span.ensures.marks in
-    let same = put ∙ ap (λ ms. set ms i (with_change change (get_or ms i blank_mark))) c.set_work.ensures.marks in
+    let now = c.change_span.ensures.spans ∙ c.set_work-stay.ensures.spans ∙ ap (λ n. filled (with_work_at index n rows)) work in
+    let put = put_is (g.S.Store.marks c.set_work-stay.new.store) (g.S.Store.marks c.change_span.new.store) i (with_change change) (omega (arith, ap length c.set_work-stay.ensures.marks, c.requires.timed.marked.length)) c.change_span.ensures.marks in
+    let same = put ∙ ap (λ ms. set ms i (with_change change (get_or ms i blank_mark))) c.set_work-stay.ensures.marks in
     let moves = Moves-filled (Moves-with_work_at rows index (changed_by change span.work) span c.find_hinted-place.ensures.span) in
     rw (now, same) (AreMarked-changed c.args.times.start rows (filled (with_work_at index (changed_by change span.work) rows)) marks span.end span.work change moves (may g after) c.requires.timed.marked)
+
+pub returns-clause-front : goal.returns-clause-front
+returns-clause-front g c = ap (take c.set_work-stay.result) c.change_span.ensures.spans ∙ c.set_work-stay.ensures.front

@@ -1,4 +1,4 @@
-use Rattle.std.proofs.Common.{◌≡◌, ◌+◌, ◌-◌, ◌*◌, ◌%◌, ◌<◌, ◌≤◌, ◌≤ℤ◌, ℕ, Fits, FitsSigned, get_or, slice_get, sym, ap, subst, ◌∙◌, arith, rules, w32, w64}
+use Rattle.std.proofs.Common.{◌≡◌, ◌+◌, ◌-◌, ◌*◌, ◌%◌, ◌<◌, ◌≤◌, ◌≤ℤ◌, ℕ, Fits, FitsSigned, get_or, slice_get, take, sym, ap, subst, ◌∙◌, arith, rules, w32, w64}
 use Rattle.std.specs.Option.{IfSome}
 use Rattle.std.proofs.lemmas.Int.{ints, to_z-of_z}
 use Rattle.std.proofs.lemmas.Option.{slice_get-get_or, slice_get_within}
@@ -78,6 +78,12 @@ pub returns-clause-place : goal.returns-clause-place
 returns-clause-place g c =
     let passed = has-passed g (goal.at.returns-clause-place g c).After-from in
     passed.place ∙ ends_before-lifted (g.S.Shelf.laps c.pass_back-passed.new.self).lifts ((c.args.from.page - c.from.result) * 64) (g.S.Shelf.spans c.pass_back-passed.new.self)
+
+pub returns-clause-front : goal.returns-clause-front
+returns-clause-front g c =
+    let passed = has-passed g (goal.at.returns-clause-front g c).After-from in
+    let lifts = (g.S.Shelf.laps c.args.shelf.now).lifts in
+    passed.front ∙ ap (λ ss. take (c.args.from.walk.index - c.pass_back-passed.result.count) (lifted lifts ss)) c.pass_back-passed.ensures.spans
 
 pub returns-clause-ended : goal.returns-clause-ended
 returns-clause-ended g c =

@@ -1,4 +1,4 @@
-use Rattle.std.proofs.Common.{◌≡◌, ◌/◌, ◌∙◌, refl, ap, sym, arith}
+use Rattle.std.proofs.Common.{◌≡◌, ◌/◌, ◌∙◌, take, refl, ap, sym, arith}
 use Rattle.std.proofs.lemmas.Option.{slice_get_within, get_or_from_slice_get}
 use Rattle.slot_core.specs.declared.jobs.Span.{Span}
 use Rattle.spare_capacity.specs.Recurrence.{filled, first_start, last_end}
@@ -9,6 +9,7 @@ use Rattle.interval_row.proofs.CutTimes.{rises-at, start-at}
 use Rattle.interval_row.proofs.Laps.{ends, follows, rises}
 use Rattle.interval_row.proofs.PageWalks.{CanWalk, CanWalk-AreTimed}
 use Rattle.interval_row.proofs.Places.{end-le-last_end}
+use Rattle.interval_row.proofs.RunWalks.{take-fewer}
 use Rattle.interval_row.proofs.walk.set_work.Given.{Over}
 use Rattle.interval_row.proofs.walk.set_work.Goals as goal
 use Rattle.interval_row.proofs.walk.set_work.Goals.{After-follow_rest-walk, After-set_span-from}
@@ -67,3 +68,23 @@ follow_pages-requires-clause-rising g c =
 
 pub returns-clause-spans : goal.returns-clause-spans
 returns-clause-spans g c = c.follow_pages.ensures.spans ∙ walking g ((goal.at.returns-clause-spans g c).After-follow_rest-walk)
+
+-- the spans before the place have stayed when it was set
+stayed : (g : Over) (c : After-set_span-from g) → take c.set_span-from.result.index (g.S.Store.spans c.set_span-from.new.store) ≡ take c.set_span-from.result.index (g.S.Store.spans c.args.store.now)
+stayed g c = rw c.set_span-from.ensures.index c.set_span-from.ensures.front
+
+pub returns-then-not-are_in_lap-clause-front : goal.returns-then-not-are_in_lap-clause-front
+returns-then-not-are_in_lap-clause-front g c =
+    c.follow_all.ensures.front
+    ∙ take-fewer c.follow_all.result c.set_span-from.result.index (g.S.Store.spans c.set_span-from.new.store) (g.S.Store.spans c.args.store.now) (stayed g (goal.at.returns-then-not-are_in_lap-clause-front g c).After-set_span-from) c.follow_all.ensures.before
+
+pub returns-clause-front : goal.returns-clause-front
+returns-clause-front g c =
+    let after = (goal.at.returns-clause-front g c).After-set_span-from in
+    let first = c.set_span-from.result.index in
+    let rest = c.follow_rest-walk.result.index in
+    let last = c.follow_pages.result in
+    let set = g.S.Store.spans c.set_span-from.new.store in
+    let old = g.S.Store.spans c.args.store.now in
+    let page = c.follow_rest-walk.ensures.front ∙ take-fewer rest first set old (stayed g after) c.follow_rest-walk.ensures.before in
+    c.follow_pages.ensures.front ∙ take-fewer last rest (g.S.Store.spans c.follow_rest-walk.new.store) old page c.follow_pages.ensures.before

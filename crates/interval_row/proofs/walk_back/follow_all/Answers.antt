@@ -3,6 +3,7 @@ use Rattle.std.proofs.lemmas.Int.{to_z-of_z}
 use Rattle.slot_core.specs.declared.jobs.Span.{Span}
 use Rattle.interval_row.specs.Spans.{AreFilled}
 use Rattle.interval_row.proofs.PageWalks.{walked-done}
+use Rattle.interval_row.proofs.RunWalks.{take-fewer}
 use Rattle.interval_row.proofs.WalkPages.{length-walks, EndsInPage, EndsInPage-start, IfSome-at}
 use Rattle.interval_row.proofs.walk_back.follow_all.Given.{Over}
 use Rattle.interval_row.proofs.walk_back.follow_all.Goals as goal
@@ -29,6 +30,10 @@ loop-walk-preserved g c =
     record {
       spans = c.follow_spans-followed.ensures.spans ∙ c.loop-walk.invariant.spans;
       within = omega (arith, same, c.follow_spans-followed.ensures.before, c.loop-walk.invariant.within);
+      front =
+          c.follow_spans-followed.ensures.front
+          ∙ take-fewer c.follow_spans-followed.result.walk.index c.loop-walk.walk.index (g.S.Store.spans c.loop-walk.store) (g.S.Store.spans c.args.store.now) c.loop-walk.invariant.front (omega (arith, c.follow_spans-followed.ensures.before));
+      before = omega (arith, c.follow_spans-followed.ensures.before, c.loop-walk.invariant.before);
       start = c.follow_spans-followed.ensures.start;
       room = c.follow_spans-followed.ensures.room ∙ c.loop-walk.invariant.room;
       marks = c.follow_spans-followed.ensures.marks ∙ c.loop-walk.invariant.marks;

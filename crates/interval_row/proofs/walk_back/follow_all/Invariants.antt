@@ -1,4 +1,4 @@
-use Rattle.std.proofs.Common.{◌≡◌, ◌+◌, ◌*◌, ◌≤◌, ◌<◌, length}
+use Rattle.std.proofs.Common.{◌≡◌, ◌+◌, ◌*◌, ◌≤◌, ◌<◌, length, take}
 use Rattle.std.specs.Prelude.{slice_get, IfSome}
 use Rattle.interval_row.specs.Walks.{after_walk}
 use Rattle.interval_row.proofs.walk_back.follow_all.Given as goal
@@ -8,6 +8,8 @@ abbrev pub invariant-loop-walk : goal.invariant-loop-walk
 invariant-loop-walk g l = record {
   spans : after_walk l.walk (g.S.Store.spans l.store) ≡ after_walk l.fn.from (g.S.Store.spans l.fn.store);
   within : l.walk.index < length (g.S.Store.spans l.store);
+  front : take l.walk.index (g.S.Store.spans l.store) ≡ take l.walk.index (g.S.Store.spans l.fn.store);
+  before : l.walk.index ≤ l.fn.from.index;
   start : IfSome (slice_get (g.S.Store.spans l.store) l.walk.index) (λ s. s.start ≡ l.end);
   room : g.S.Store.room l.store ≡ g.S.Store.room l.fn.store;
   marks : g.S.Store.marks l.store ≡ g.S.Store.marks l.fn.store;

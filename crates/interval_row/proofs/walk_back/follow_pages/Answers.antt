@@ -4,6 +4,7 @@ use Rattle.spare_capacity.specs.Recurrence.{first_start}
 use Rattle.interval_row.specs.Spans.{AreFilled}
 use Rattle.interval_row.specs.Walks.{after_walk}
 use Rattle.interval_row.proofs.PageWalks.{none-before, walked-done}
+use Rattle.interval_row.proofs.RunWalks.{take-fewer}
 use Rattle.interval_row.proofs.walk_back.follow_pages.Goals as goal
 
 pub returns-else-last-ne0-clause-spans : goal.returns-else-last-ne0-clause-spans
@@ -21,3 +22,21 @@ returns-after-loop-last-clause-spans g c =
     let early : last.page * 64 ≤ first_start (after_walk last.walk rows) = omega (arith, c.requires.first, c.loop-last-test.false, ap first_start c.loop-last.invariant.spans) in
     let none = none-before (last.page * 64) last.walk rows are early in
     sym (walked-done last.walk rows (λ other. c.loop-last.invariant.place other ∙ none)) ∙ c.loop-last.invariant.spans
+
+pub loop-last-preserved : goal.loop-last-preserved
+loop-last-preserved g c =
+    let next = c.follow_some-last.ensures in
+    record {
+      spans = next.spans ∙ c.loop-last.invariant.spans;
+      place = next.place;
+      front =
+          next.front
+          ∙ take-fewer c.follow_some-last.result.walk.index c.loop-last.last.walk.index (g.S.Store.spans c.loop-last.store) (g.S.Store.spans c.args.store.now) c.loop-last.invariant.front next.passed;
+      passed = omega (arith, next.passed, c.loop-last.invariant.passed);
+      first = next.first;
+      before = omega (arith, next.before, c.loop-last.invariant.before);
+      room = next.room ∙ c.loop-last.invariant.room;
+      marks = next.marks ∙ c.loop-last.invariant.marks;
+      low = omega (arith, next.steps, c.loop-last.invariant.low);
+      high = omega (arith, next.few_steps, c.loop-last.invariant.high);
+    }

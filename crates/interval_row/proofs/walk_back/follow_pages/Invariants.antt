@@ -1,4 +1,4 @@
-use Rattle.std.proofs.Common.{◌≡◌, ◌+◌, ◌*◌, ◌≤◌, pos}
+use Rattle.std.proofs.Common.{◌≡◌, ◌+◌, ◌*◌, ◌≤◌, pos, take}
 use Rattle.interval_row.specs.Changes.{ends_before}
 use Rattle.interval_row.specs.Walks.{after_walk}
 use Rattle.interval_row.proofs.walk_back.follow_pages.Given as goal
@@ -8,6 +8,8 @@ abbrev pub invariant-loop-last : goal.invariant-loop-last
 invariant-loop-last g l = record {
   spans : after_walk l.last.walk (g.S.Store.spans l.store) ≡ after_walk l.fn.from.walk (g.S.Store.spans l.fn.store);
   place : (l.last.walk.more ≡ pos 0 → ⊥) → l.last.walk.index ≡ ends_before (l.last.page * 64) (g.S.Store.spans l.store);
+  front : take l.last.walk.index (g.S.Store.spans l.store) ≡ take l.last.walk.index (g.S.Store.spans l.fn.store);
+  passed : l.last.walk.index ≤ l.fn.from.walk.index;
   first : l.first_page ≤ l.last.page;
   before : l.last.page ≤ l.fn.from.page;
   room : g.S.Store.room l.store ≡ g.S.Store.room l.fn.store;

@@ -11,7 +11,7 @@ use Rattle.interval_row.specs.Spans.{AreFilled}
 use Rattle.interval_row.specs.Stores.{StoreParts}
 use Rattle.interval_row.specs.Walks.{after_walk, HaveAtMost}
 use Rattle.interval_row.proofs.LiftedSpans.{lifted-same}
-use Rattle.interval_row.proofs.RunWalks.{ends_before-lifted, ends_before-runs, in-walk, start-lifted, AreCovered-runs}
+use Rattle.interval_row.proofs.RunWalks.{ends_before-lifted, ends_before-runs, in-walk, start-lifted, take-lifted, AreCovered-runs}
 use Rattle.interval_row.proofs.lifted.LiftedStore.follow_spans.Given.{Over}
 use Rattle.interval_row.proofs.lifted.LiftedStore.follow_spans.Goals as goal
 use Rattle.interval_row.proofs.lifted.LiftedStore.follow_spans.Goals.{After-set_lift}
@@ -89,3 +89,12 @@ returns-clause-high g c =
     let w = (goal.at.returns-clause-high g c).After-set_lift in
     let followed = c.follow_back-followed.result in
     subst (λ xs. HaveAtMost followed.high (take (c.args.from.index - followed.walk.index) (drop followed.walk.index xs))) (sym (now g w)) c.follow_back-followed.ensures.high
+
+pub returns-clause-front : goal.returns-clause-front
+returns-clause-front g c =
+    let w = (goal.at.returns-clause-front g c).After-set_lift in
+    let lifts = (g.S.Shelf.laps c.self.inside.shelf).lifts in
+    let k = c.follow_back-followed.result.walk.index in
+    let rows = g.S.Shelf.spans c.self.inside.shelf in
+    let new = g.S.Shelf.spans c.follow_back-followed.new.shelf in
+    ap (take k) (now g w) ∙ take-lifted lifts k new rows c.follow_back-followed.ensures.front ∙ ap (λ (v : StoreParts). take k v.spans) c.self.view_is

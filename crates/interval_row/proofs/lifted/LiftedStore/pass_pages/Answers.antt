@@ -1,8 +1,11 @@
-use Rattle.std.proofs.Common.{◌-◌, ◌*◌, ◌∙◌, ap, refl, sym, arith}
+use Rattle.std.proofs.Common.{◌≡◌, ◌-◌, ◌*◌, ◌∙◌, take, ap, refl, sym, arith}
 use Rattle.interval_row.specs.Changes.{ends_before}
 use Rattle.interval_row.specs.Walks.{after_walk}
-use Rattle.interval_row.proofs.RunWalks.{ends_before-lifted}
+use Rattle.interval_row.specs.Lifts.{lifted}
+use Rattle.interval_row.proofs.RunWalks.{ends_before-lifted, take-fewer}
+use Rattle.interval_row.proofs.lifted.LiftedStore.pass_pages.Given.{Over}
 use Rattle.interval_row.proofs.lifted.LiftedStore.pass_pages.Goals as goal
+use Rattle.interval_row.proofs.lifted.LiftedStore.pass_pages.Goals.{After-pass_run-last}
 
 pub loop-last-init : goal.loop-last-init
 loop-last-init g c =
@@ -15,6 +18,7 @@ loop-last-init g c =
       first = c.requires.rising;
       last = omega arith;
       before = omega arith;
+      front = ap (λ v. take c.args.from.walk.index v.spans) c.self.view_is;
       covered = c.self.invariant;
       room = ap (λ v. v.room) c.self.view_is;
       marks = ap (λ v. v.marks) c.self.view_is;
@@ -35,6 +39,15 @@ returns-then-low-last-clause-ended g c =
     let same = ends_before-lifted (g.S.Shelf.laps shelf).lifts ((c.pass_run-last.result.page - 1) * 64) (g.S.Shelf.spans shelf) in
     λ l. omega (arith, c.pass_run-last.ensures.ended c.if-low-last.true, same)
 
+-- the first spans have stayed over a run
+stayed : (g : Over) (c : After-pass_run-last g) → take c.pass_run-last.result.walk.index (lifted (g.S.Shelf.laps c.pass_run-last.new.shelf).lifts (g.S.Shelf.spans c.pass_run-last.new.shelf)) ≡ take c.pass_run-last.result.walk.index c.args.self.now.spans
+stayed g c =
+    let shelf = c.loop-last.self-inside.shelf in
+    c.pass_run-last.ensures.front ∙ take-fewer c.pass_run-last.result.walk.index c.loop-last.last.walk.index (lifted (g.S.Shelf.laps shelf).lifts (g.S.Shelf.spans shelf)) c.args.self.now.spans c.loop-last.invariant.front c.pass_run-last.ensures.before
+
+pub returns-then-low-last-clause-front : goal.returns-then-low-last-clause-front
+returns-then-low-last-clause-front g c = stayed g (goal.at.returns-then-low-last-clause-front g c).After-pass_run-last
+
 pub loop-last-preserved : goal.loop-last-preserved
 loop-last-preserved g c = record {
   spans = c.pass_run-last.ensures.spans ∙ c.loop-last.invariant.spans;
@@ -43,6 +56,7 @@ loop-last-preserved g c = record {
   first = omega (arith, c.pass_run-last.ensures.first, c.max-low.ensures);
   last = omega (arith, c.pass_run-last.ensures.last, c.loop-last.invariant.last);
   before = omega (arith, c.pass_run-last.ensures.before, c.loop-last.invariant.before);
+  front = stayed g (goal.at.loop-last-preserved g c).After-pass_run-last;
   covered = c.pass_run-last.ensures.covered;
   room = c.pass_run-last.ensures.room ∙ c.loop-last.invariant.room;
   marks = c.pass_run-last.ensures.marks ∙ c.loop-last.invariant.marks;

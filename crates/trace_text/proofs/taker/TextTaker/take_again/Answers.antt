@@ -1,19 +1,28 @@
+-- The line that is put is that of the entry, whichever of the two it is.
 use Rattle.std.proofs.Common.{◌∙◌}
-use Rattle.trace_text.proofs.TakenLines.{broken-put, copied-line}
+use Rattle.trace_text.proofs.TakenLines.{broken-put}
 use Rattle.trace_text.proofs.taker.TextTaker.take_again.Goals as goal
 
-pub returns-clause-part : goal.returns-clause-part
-returns-clause-part g c =
-    let set = c.args.tasks.now in
-    let e = c.args.entry.now in
-    let own = c.args.self.now in
-    let copied = copied-line set e c.push_head.new.line own.line own.tail c.push_head.ensures.text c.requires.tail in
+pub returns-then-self-clause-part : goal.returns-then-self-clause-part
+returns-then-self-clause-part g c =
     broken-put
     c.put.result
     (g.K.Sink.written c.args.self.now.out.now)
     (g.K.Sink.written c.put.new.self)
-    set
-    e
+    c.args.tasks.now
+    c.args.entry.now
     c.bytes.result.now
-    (c.bytes.ensures ∙ c.push_from.ensures ∙ copied)
+    (c.bytes.ensures ∙ c.push_line_again.ensures)
     c.put.ensures.part
+
+pub returns-else-self-clause-part : goal.returns-else-self-clause-part
+returns-else-self-clause-part g c =
+    broken-put
+    c.put-else-self.result
+    (g.K.Sink.written c.args.self.now.out.now)
+    (g.K.Sink.written c.put-else-self.new.self)
+    c.args.tasks.now
+    c.args.entry.now
+    c.bytes-else-self.result.now
+    (c.bytes-else-self.ensures ∙ c.push_line_again-else-self.ensures)
+    c.put-else-self.ensures.part

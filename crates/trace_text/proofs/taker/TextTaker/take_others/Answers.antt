@@ -1,0 +1,28 @@
+-- The line that is put is that of the entry, whichever of the two it is.
+use Rattle.std.proofs.Common.{◌∙◌}
+use Rattle.trace_text.proofs.TakenLines.{broken-put}
+use Rattle.trace_text.proofs.taker.TextTaker.take_others.Goals as goal
+
+pub returns-then-self-clause-part : goal.returns-then-self-clause-part
+returns-then-self-clause-part g c =
+    broken-put
+    c.put.result
+    (g.K.Sink.written c.args.self.now.out.now)
+    (g.K.Sink.written c.put.new.self)
+    c.args.tasks.now
+    c.args.entry.now
+    c.bytes.result.now
+    (c.bytes.ensures ∙ c.push_line_with-places.ensures.line)
+    c.put.ensures.part
+
+pub returns-else-self-clause-part : goal.returns-else-self-clause-part
+returns-else-self-clause-part g c =
+    broken-put
+    c.put-else-self.result
+    (g.K.Sink.written c.args.self.now.out.now)
+    (g.K.Sink.written c.put-else-self.new.self)
+    c.args.tasks.now
+    c.args.entry.now
+    c.bytes-else-self.result.now
+    (c.bytes-else-self.ensures ∙ c.push_line_with-places-else-self.ensures.line)
+    c.put-else-self.ensures.part
