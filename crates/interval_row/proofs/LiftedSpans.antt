@@ -1,10 +1,10 @@
 -- What a store over a shelf has, after a change of the shelf's spans or lifts.
-use Rattle.std.proofs.Common.{◌≡◌, ℕ, zero, suc, ℤ, ◌+ℤ◌, ◌-ℤ◌, ◌≤ℤ◌, List, [], ◌∷◌, ◌++◌, cond, eqb, get_or, set, insert, take, drop, slice_get, Some, inl, inr, refl, sym, ap, subst, ◌∙◌, arith, FitsSigned, w64}
+use Rattle.std.proofs.Common.{◌≡◌, ℕ, zero, suc, ℤ, pos, All, ◌+ℤ◌, ◌-ℤ◌, ◌<◌, ◌≤ℤ◌, List, [], ◌∷◌, ◌++◌, cond, eqb, get_or, set, insert, length, take, drop, slice_get, Some, inl, inr, refl, sym, ap, subst, ◌∙◌, arith, FitsSigned, w64}
 use Rattle.std.specs.Int.{int_max, int_wrap}
 use Rattle.std.specs.Prelude.{option_map}
 use Rattle.std.proofs.lemmas.Bool.{cases_eq, eq-eqb, ne_eqb}
 use Rattle.std.proofs.lemmas.Int.{ints, clamps, int_wrap_fits, int_wrap-add_left, int_wrap-add_right}
-use Rattle.std.proofs.lemmas.List.{get_or-set_same, get_or-set_other, map-set, map_push}
+use Rattle.std.proofs.lemmas.List.{get_or-set_same, get_or-set_other, drop-set-lt, map-set, map_push}
 use Rattle.std.proofs.lemmas.List.Sums.{sum_by-cons}
 use Rattle.std.proofs.lemmas.List.Elements.{All-append, All-cons, All-drop, All-from_recursion, All-nil, All-set, All-take, recursion_from_All}
 use Rattle.std.proofs.lemmas.Option.{get_or_from_slice_get, same_Some, slice_get-map, slice_get_within}
@@ -29,6 +29,14 @@ module _ (lifts : List Lift) (j : ℕ) (was : Lift) (at : slice_get lifts j ≡ 
   -- the lift of a span with that mark
   pub lift_of-there : (s : Span) → mark_index s.end ≡ j → lift_of lifts s ≡ was
   lift_of-there s e = ap (λ k. get_or lifts k blank_lift) e ∙ get_or_from_slice_get lifts j was blank_lift at
+
+  -- what the shelf has of a span with that mark is the span
+  lowered-there : (s : Span) → mark_index s.end ≡ j → FitsSigned w64 s.spare → lifted_in lifts (lowered_by was.add s) ≡ s
+  lowered-there s e fits = ap (λ (l : Lift). lifted_by l.add (lowered_by was.add s)) (lift_of-there (lowered_by was.add s) e) ∙ lifted-lowered was.add s fits
+
+  -- where it is set, and no lift changes
+  pub lifted-set_there : (s : Span) → mark_index s.end ≡ j → FitsSigned w64 s.spare → (spans : List Span) (i : ℕ) → lifted lifts (set spans i (lowered_by was.add s)) ≡ set (lifted lifts spans) i s
+  lifted-set_there s e fits spans i = map-set (lifted_in lifts) spans i (lowered_by was.add s) ∙ ap (set (lifted lifts spans) i) (lowered-there s e fits)
 
   pub lift_of-set : (lift : Lift) (s : Span) → mark_index s.end ≡ j → lift_of (set lifts j lift) s ≡ lift
   lift_of-set lift s e =
@@ -85,6 +93,11 @@ AreAtMost-more j low high l [] h = tt
 AreAtMost-more j low high l (s ∷ ss) h =
     ((λ e. let there = h.0 e in omega (arith, ints, there, l)), AreAtMost-more j low high l ss h.1)
 
+-- all but the first of spans below a number are below it
+pub AreAtMost-drop : (j : ℕ) (high : ℤ) (spans : List Span) → AreAtMost j high spans → AreAtMost j high (drop 1 spans)
+AreAtMost-drop j high [] h = tt
+AreAtMost-drop j high (s ∷ ss) h = h.1
+
 -- where no span ends in the pages of a mark, all that do are below any number
 pub AreAtMost-none : (j : ℕ) (high : ℤ) (spans : List Span) → count_at j spans ≡ 0 → AreAtMost j high spans
 AreAtMost-none j high [] none = tt
@@ -127,15 +140,17 @@ module _ (lifts : List Lift) (j : ℕ) (was : Lift) (at : slice_get lifts j ≡ 
   lifted-raised (s ∷ ss) h =
       ap (λ (t : Span). t ∷ lifted new ss) (raised-at s h.0) ∙ ap (λ ts. raised_in j more (lifted_in lifts s) ∷ ts) (lifted-raised ss h.1)
 
-  -- and are below what the lift says, where that can be so much more
-  pub AreCovered-raised : FitsSigned w64 (was.high +ℤ more) → (spans : List Span) → MayRaise j more (lifted lifts spans) → AreCovered lifts spans → AreCovered new spans
-  AreCovered-raised fits [] may h = tt
-  AreCovered-raised fits (s ∷ ss) may h =
+  -- and are below what the lift says, where that is at most 0 then
+  pub AreCovered-raised : (was.high +ℤ more) ≤ℤ pos 0 → (spans : List Span) → MayRaise j more (lifted lifts spans) → AreCovered lifts spans → AreCovered new spans
+  AreCovered-raised low [] may h = tt
+  AreCovered-raised low (s ∷ ss) may h =
       let here : (lifted_in new s).spare ≤ℤ (lift_of new s).high =
       elim (cases_eq (mark_index s.end) j) [
         | inl e ↦
             let there = h.0 in
             let old = ap (λ (l : Lift). l.high) (lift_of-there lifts j was at s e) in
+            let own = may.0 e in
+            let fits : FitsSigned w64 (was.high +ℤ more) = omega (arith, ints, there, old, own, low) in
             let now = ap (λ (l : Lift). l.high) (lift_of-set lifts j was at lift s e) ∙ int_wrap_fits w64 (was.high +ℤ more) fits in
             let spare = ap (λ (t : Span). t.spare) (raised-there s e (may.0 e)) in
             omega (arith, ints, there, old, now, spare)
@@ -145,7 +160,16 @@ module _ (lifts : List Lift) (j : ℕ) (was : Lift) (at : slice_get lifts j ≡ 
             let spare = ap (λ (l : Lift). (lifted_by l.add s).spare) (lift_of-other lifts j was at lift s e) in
             omega (arith, ints, there, same, spare)
       ] in
-      (here, AreCovered-raised fits ss may.1 h.1)
+      (here, AreCovered-raised low ss may.1 h.1)
+
+-- the first of all spans need not be covered, so that another may be set there
+pub AreCovered-first : (lifts : List Lift) (spans : List Span) (i : ℕ) (s : Span) → i ≡ 0 → AreCovered lifts (drop 1 spans) → AreCovered lifts (drop 1 (set spans i s))
+AreCovered-first lifts spans i s first h = subst (AreCovered lifts) (sym (drop-set-lt 1 spans i s (omega (arith, first)))) h
+
+-- the spans that are not the first of all once one is put in at an index
+abbrev pub others_at : ℕ → List Span → List Span
+others_at zero spans = spans
+others_at (suc i) spans = drop 1 spans
 
 -- where the lift of a span is put above its capacity
 module _ (lifts : List Lift) (s : Span) (was : Lift) (at : slice_get lifts (mark_index s.end) ≡ Some was) where
@@ -158,6 +182,19 @@ module _ (lifts : List Lift) (s : Span) (was : Lift) (at : slice_get lifts (mark
       let high : was.high ≤ℤ int_max was.high s.spare = omega (arith, ints, clamps) in
       let below = AreAtMost-more (mark_index s.end) was.high (int_max was.high s.spare) high (lifted lifts spans) (AreAtMost-covered lifts (mark_index s.end) was at spans h) in
       AreCovered-set lifts (mark_index s.end) was at (record was { high = int_max was.high s.spare }) refl spans below h
+
+  -- and so is the span itself, where it stands
+  pub AreCovered-there : (spans : List Span) (i : ℕ) → slice_get (lifted lifts spans) i ≡ Some s → AreCovered lifts (drop 1 spans) → AreCovered over (others_at i spans)
+  AreCovered-there [] i e h = cc
+  AreCovered-there (t ∷ ts) (suc i) e h = AreCovered-over ts h
+  AreCovered-there (t ∷ ts) zero e h =
+      let lift : Lift = record was { high = int_max was.high s.spare } in
+      let same = same_Some (lifted_in lifts t) s e in
+      let mark : mark_index t.end ≡ mark_index s.end = ap (λ (r : Span). mark_index r.end) same in
+      let spare = ap (λ (r : Span). r.spare) (lifted_in-same lifts (mark_index s.end) was at lift t refl ∙ same) in
+      let bound = ap (λ (l : Lift). l.high) (lift_of-set lifts (mark_index s.end) was at lift t mark) in
+      let high : s.spare ≤ℤ int_max was.high s.spare = omega (arith, ints, clamps) in
+      (omega (arith, ints, spare, bound, high), AreCovered-over ts h)
 
   -- and no span changes
   pub lifted-over : (spans : List Span) → lifted over spans ≡ lifted lifts spans
@@ -190,30 +227,30 @@ module _ (lifts : List Lift) (s : Span) (was : Lift) (at : slice_get lifts (mark
   abbrev IsCovered : Span → Type 0
   IsCovered t = (lifted_in over t).spare ≤ℤ (lift_of over t).high
 
-  module _ (fits : FitsSigned w64 s.spare) (spans : List Span) (h : AreCovered lifts spans) where
-    all : AreCovered over spans
-    all = AreCovered-over spans h
+  module _ (fits : FitsSigned w64 s.spare) where
+    each : (spans : List Span) → AreCovered lifts spans → All IsCovered spans
+    each spans h = All-from_recursion IsCovered spans (AreCovered-over spans h)
 
-    -- so are the spans where it is set, put in or appended
-    pub AreCovered-put : (i : ℕ) → AreCovered over (set spans i (lowered_by was.add s))
-    AreCovered-put i =
-        recursion_from_All IsCovered _ (All-set IsCovered spans i (lowered_by was.add s) (IsCovered-put fits) (All-from_recursion IsCovered spans all))
+    -- so are all but the first where it is set, put in or appended
+    pub AreCovered-put : (spans : List Span) (i : ℕ) → (i ≡ 0 → ⊥) → AreCovered lifts (drop 1 spans) → AreCovered over (drop 1 (set spans i (lowered_by was.add s)))
+    AreCovered-put [] zero other h = tt
+    AreCovered-put [] (suc i) other h = tt
+    AreCovered-put (t ∷ ts) zero other h = absurd (other refl)
+    AreCovered-put (t ∷ ts) (suc i) other h =
+        recursion_from_All IsCovered _ (All-set IsCovered ts i (lowered_by was.add s) (IsCovered-put fits) (each ts h))
 
-    pub AreCovered-insert : (i : ℕ) → AreCovered over (insert spans i (lowered_by was.add s))
-    AreCovered-insert i =
-        let each = All-from_recursion IsCovered spans all in
-        let behind = All-cons IsCovered (lowered_by was.add s) (drop i spans) (IsCovered-put fits) (All-drop IsCovered i spans each) in
-        recursion_from_All IsCovered _ (All-append IsCovered (take i spans) (lowered_by was.add s ∷ drop i spans) (All-take IsCovered i spans each) behind)
+    pub AreCovered-insert : (spans : List Span) (i : ℕ) → i < length spans → AreCovered lifts (others_at i spans) → AreCovered over (drop 1 (insert spans i (lowered_by was.add s)))
+    AreCovered-insert [] i within h = absurd (omega (arith, within))
+    AreCovered-insert (t ∷ ts) zero within h = AreCovered-over (t ∷ ts) h
+    AreCovered-insert (t ∷ ts) (suc i) within h =
+        let behind = All-cons IsCovered (lowered_by was.add s) (drop i ts) (IsCovered-put fits) (All-drop IsCovered i ts (each ts h)) in
+        recursion_from_All IsCovered _ (All-append IsCovered (take i ts) (lowered_by was.add s ∷ drop i ts) (All-take IsCovered i ts (each ts h)) behind)
 
-    pub AreCovered-push : AreCovered over (spans ++ lowered_by was.add s ∷ [])
-    AreCovered-push =
+    pub AreCovered-push : (spans : List Span) → AreCovered lifts (drop 1 spans) → AreCovered over (drop 1 (spans ++ lowered_by was.add s ∷ []))
+    AreCovered-push [] h = tt
+    AreCovered-push (t ∷ ts) h =
         let last = All-cons IsCovered (lowered_by was.add s) [] (IsCovered-put fits) (All-nil IsCovered) in
-        recursion_from_All IsCovered _ (All-append IsCovered spans (lowered_by was.add s ∷ []) (All-from_recursion IsCovered spans all) last)
-
--- the rest of covered spans
-pub AreCovered-drop : (lifts : List Lift) (spans : List Span) → AreCovered lifts spans → AreCovered lifts (drop 1 spans)
-AreCovered-drop lifts [] h = tt
-AreCovered-drop lifts (s ∷ ss) h = h.1
+        recursion_from_All IsCovered _ (All-append IsCovered ts (lowered_by was.add s ∷ []) (each ts h) last)
 
 -- what is read where the shelf has a span
 pub slice_get-lifted : (lifts : List Lift) (spans : List Span) (i j : ℕ) (s : Span) (lift : Lift) → slice_get spans i ≡ Some s → j ≡ mark_index s.end → slice_get lifts j ≡ Some lift → slice_get (lifted lifts spans) i ≡ Some (lifted_by lift.add s)

@@ -1,6 +1,6 @@
 -- What a walk back leaves of spans, and pages of which all spans follow at once.
 use Rattle.std.proofs.Common.{◌≡◌, ℕ, zero, suc, ◌+◌, ◌-◌, ◌*◌, ◌/◌, ◌%◌, ◌<◌, ◌≤◌, ◌^◌, ℤ, pos, ◌+ℤ◌, ◌≤ℤ◌, cond, eqb, ltb, List, [], ◌∷◌, length, take, drop, Some, inl, inr, FitsSigned, w64, refl, sym, subst, ◌∙◌, ap, arith}
-use Rattle.std.specs.Prelude.{slice_get}
+use Rattle.std.specs.Prelude.{max, slice_get}
 use Rattle.std.specs.List.{AllByRecursion}
 use Rattle.std.proofs.lemmas.Bool.{cases_lt, eq-eqb, ne_eqb}
 use Rattle.std.proofs.lemmas.Int.{ints, clamps, by_lt_z}
@@ -14,7 +14,7 @@ use Rattle.interval_row.specs.Changes.{ends_before}
 use Rattle.interval_row.specs.Lifts.{raised_at, AreAtMost}
 use Rattle.interval_row.specs.Marks.{count_at, mark_index, AreTimed}
 use Rattle.interval_row.specs.Spans.{with_work_at, AreFilled}
-use Rattle.interval_row.specs.Walks.{after_walk, walked, AreInPages, HaveAtMost, IsPageOf}
+use Rattle.interval_row.specs.Walks.{after_walk, others_between, walked, AreInPages, HaveAtMost, IsPageOf}
 use Rattle.interval_row.specs.declared.walk_back.Walk.{Walk}
 use Rattle.interval_row.proofs.CutTimes.{ends_before-ended, ends_before-later, ends_before-page, ends_before-start, AreInLap, IsInLap}
 use Rattle.interval_row.proofs.Cycles.{last_end-some}
@@ -107,9 +107,25 @@ record FollowWhole (page : ℕ) (more : ℤ) (rows : List Span) : Type 0 where
   carry : carry more (take (ends_before ((page + 1) * 64) rows) rows) ≡ more
   spans : walked more (ends_before ((page + 1) * 64) rows) rows ≡ raised_at (page % 512) more rows
 
+-- the first of them follows with those after it, whatever it gives
+whole-spans : (time start page : ℕ) (more : ℤ) (s : Span) (ss : List Span) → IsPageIn time page → FollowOn start (s ∷ ss) → AllByRecursion (IsInLap time) (s ∷ ss) → page * 64 ≤ s.end → FollowWhole page more ss → walked more (ends_before ((page + 1) * 64) (s ∷ ss)) (s ∷ ss) ≡ raised_at (page % 512) more (s ∷ ss)
+whole-spans time start page more s ss is follow all reached rest =
+    let y = (page + 1) * 64 in
+    elim (cases_lt s.end y) [
+      | inl here ↦
+          let own : mark_index s.end ≡ page % 512 = in-page s.end page reached here in
+          let count : ends_before y (s ∷ ss) ≡ suc (ends_before y ss) = ends_before-ended y s ss here in
+          rw (count, eq-eqb (mark_index s.end) (page % 512) own) (ap (λ c. raised c s ∷ walked more (ends_before y ss) ss) rest.carry ∙ ap (λ xs. raised more s ∷ xs) rest.spans)
+      | inr late ↦
+          let count : ends_before y (s ∷ ss) ≡ 0 = ends_before-later y s ss late ∙ ends_before-start s.end y ss follow.4 late in
+          let same = raised_at-later time s.end page more ss is follow.4 all.1 late in
+          rw (count, ne_eqb (mark_index s.end) (page % 512) (after-page time s.end page late all.0.near is.low)) (ap (λ xs. s ∷ xs) (sym same))
+    ]
+
 whole-first : (time start page : ℕ) (more : ℤ) (s : Span) (ss : List Span) → IsPageIn time page → FollowOn start (s ∷ ss) → AllByRecursion (IsInLap time) (s ∷ ss) → page * 64 ≤ s.end → PagesGiveNone (page % 512) more (s ∷ ss) → FollowWhole page more ss → FollowWhole page more (s ∷ ss)
 whole-first time start page more s ss is follow all reached none rest =
     let y = (page + 1) * 64 in
+    let spans = whole-spans time start page more s ss is follow all reached rest in
     elim (cases_lt s.end y) [
       | inl here ↦
           let own : mark_index s.end ≡ page % 512 = in-page s.end page reached here in
@@ -117,17 +133,10 @@ whole-first time start page more s ss is follow all reached none rest =
           let gives = none.0 own in
           let passes : repaid s.spare (s.spare +ℤ more) ≡ more = omega (arith, ints, clamps, gives.0, gives.1) in
           let on : repaid s.spare (s.spare +ℤ carry more (take (ends_before y ss) ss)) ≡ more = rw rest.carry passes in
-          record {
-            carry = rw count on;
-            spans = rw (count, eq-eqb (mark_index s.end) (page % 512) own) (ap (λ c. raised c s ∷ walked more (ends_before y ss) ss) rest.carry ∙ ap (λ xs. raised more s ∷ xs) rest.spans);
-          }
+          record { carry = rw count on; spans = spans }
       | inr late ↦
           let count : ends_before y (s ∷ ss) ≡ 0 = ends_before-later y s ss late ∙ ends_before-start s.end y ss follow.4 late in
-          let same = raised_at-later time s.end page more ss is follow.4 all.1 late in
-          record {
-            carry = rw count refl;
-            spans = rw (count, ne_eqb (mark_index s.end) (page % 512) (after-page time s.end page late all.0.near is.low)) (ap (λ xs. s ∷ xs) (sym same));
-          }
+          record { carry = rw count refl; spans = spans }
     ]
 
 whole : (time start page : ℕ) (more : ℤ) (rows : List Span) → IsPageIn time page → FollowOn start rows → AllByRecursion (IsInLap time) rows → page * 64 ≤ start → PagesGiveNone (page % 512) more rows → FollowWhole page more rows
@@ -146,6 +155,14 @@ pub record PassesPage (page : ℕ) (more : ℤ) (rows : List Span) : Type 0 wher
       walked more (ends_before (page * 64) rows) (raised_at (page % 512) more rows)
       ≡ walked more (ends_before ((page + 1) * 64) rows) rows
 
+-- a span that ends before the page follows what those after it do
+PassesPage-spans : (time start page : ℕ) (more : ℤ) (s : Span) (ss : List Span) → IsPageIn time page → FollowOn start (s ∷ ss) → AllByRecursion (IsInLap time) (s ∷ ss) → s.end < page * 64 → PassesPage page more ss → walked more (ends_before (page * 64) (s ∷ ss)) (raised_at (page % 512) more (s ∷ ss)) ≡ walked more (ends_before ((page + 1) * 64) (s ∷ ss)) (s ∷ ss)
+PassesPage-spans time start page more s ss is follow all early rest =
+    let low : ends_before (page * 64) (s ∷ ss) ≡ suc (ends_before (page * 64) ss) = ends_before-ended (page * 64) s ss early in
+    let high : ends_before ((page + 1) * 64) (s ∷ ss) ≡ suc (ends_before ((page + 1) * 64) ss) = ends_before-ended ((page + 1) * 64) s ss (omega (arith, early)) in
+    let other = ne_eqb (mark_index s.end) (page % 512) (before-page time s.end page all.0.late early is.high) in
+    rw (low, high, other) (ap (λ c. raised c s ∷ walked more (ends_before (page * 64) ss) (raised_at (page % 512) more ss)) rest.carry ∙ ap (λ xs. raised (carry more (take (ends_before ((page + 1) * 64) ss) ss)) s ∷ xs) rest.spans)
+
 pub PassesPage-PagesGiveNone : (time start page : ℕ) (more : ℤ) (rows : List Span) → IsPageIn time page → FollowOn start rows → AllByRecursion (IsInLap time) rows → PagesGiveNone (page % 512) more rows → PassesPage page more rows
 PassesPage-PagesGiveNone time start page more [] is follow all none = record { carry = refl; spans = refl }
 PassesPage-PagesGiveNone time start page more (s ∷ ss) is follow all none =
@@ -157,12 +174,25 @@ PassesPage-PagesGiveNone time start page more (s ∷ ss) is follow all none =
           let other = ne_eqb (mark_index s.end) (page % 512) (before-page time s.end page all.0.late early is.high) in
           record {
             carry = rw (low, high, other) (ap (λ c. repaid s.spare (s.spare +ℤ c)) rest.carry);
-            spans = rw (low, high, other) (ap (λ c. raised c s ∷ walked more (ends_before (page * 64) ss) (raised_at (page % 512) more ss)) rest.carry ∙ ap (λ xs. raised (carry more (take (ends_before ((page + 1) * 64) ss) ss)) s ∷ xs) rest.spans);
+            spans = PassesPage-spans time start page more s ss is follow all early rest;
           }
       | inr reached ↦
           let low : ends_before (page * 64) (s ∷ ss) ≡ 0 = ends_before-later (page * 64) s ss reached ∙ ends_before-start s.end (page * 64) ss follow.4 reached in
           let all_of = whole-first time start page more s ss is follow all reached none (whole time s.end page more ss is follow.4 all.1 reached none.1) in
           record { carry = rw low (sym all_of.carry); spans = rw low (sym all_of.spans) }
+    ]
+
+-- the first of all spans may give: none stands before it
+walked-PagesGiveNone : (time start page : ℕ) (more : ℤ) (rows : List Span) → IsPageIn time page → FollowOn start rows → AllByRecursion (IsInLap time) rows → PagesGiveNone (page % 512) more (drop 1 rows) → walked more (ends_before (page * 64) rows) (raised_at (page % 512) more rows) ≡ walked more (ends_before ((page + 1) * 64) rows) rows
+walked-PagesGiveNone time start page more [] is follow all none = refl
+walked-PagesGiveNone time start page more (s ∷ ss) is follow all none =
+    elim (cases_lt s.end (page * 64)) [
+      | inl early ↦
+          PassesPage-spans time start page more s ss is follow all early (PassesPage-PagesGiveNone time s.end page more ss is follow.4 all.1 none)
+      | inr reached ↦
+          let low : ends_before (page * 64) (s ∷ ss) ≡ 0 = ends_before-later (page * 64) s ss reached ∙ ends_before-start s.end (page * 64) ss follow.4 reached in
+          let spans = whole-spans time start page more s ss is follow all reached (whole time s.end page more ss is follow.4 all.1 reached none) in
+          rw low (sym spans)
     ]
 
 -- the spans that end before a page do not change with it
@@ -226,7 +256,7 @@ below-from time start page n high (s ∷ ss) is follow all count up =
           (λ own. absurd (after-page time s.end page late all.0.near is.low own), AreAtMost-later time s.end page high ss is follow.4 all.1 late)
     ]
 
-pub AreAtMost-HaveAtMost : (time start page n : ℕ) (high : ℤ) (rows : List Span) → IsPageIn time page → FollowOn start rows → AllByRecursion (IsInLap time) rows → ends_before ((page + 1) * 64) rows ≡ ends_before (page * 64) rows + n → HaveAtMost high (take n (drop (ends_before (page * 64) rows) rows)) → AreAtMost (page % 512) high rows
+AreAtMost-HaveAtMost : (time start page n : ℕ) (high : ℤ) (rows : List Span) → IsPageIn time page → FollowOn start rows → AllByRecursion (IsInLap time) rows → ends_before ((page + 1) * 64) rows ≡ ends_before (page * 64) rows + n → HaveAtMost high (take n (drop (ends_before (page * 64) rows) rows)) → AreAtMost (page % 512) high rows
 AreAtMost-HaveAtMost time start page n high [] is follow all count up = tt
 AreAtMost-HaveAtMost time start page n high (s ∷ ss) is follow all count up =
     elim (cases_lt s.end (page * 64)) [
@@ -238,6 +268,41 @@ AreAtMost-HaveAtMost time start page n high (s ∷ ss) is follow all count up =
       | inr reached ↦
           let low : ends_before (page * 64) (s ∷ ss) ≡ 0 = ends_before-later (page * 64) s ss reached ∙ ends_before-start s.end (page * 64) ss follow.4 reached in
           below-from time start page n high (s ∷ ss) is follow all (omega (arith, count, low)) (rw low at up)
+    ]
+
+-- the spans between two places but the first of all, where that stands apart
+pub others_between-next : (k n : ℕ) (s : Span) (ss : List Span) → others_between (suc k) (suc n) (s ∷ ss) ≡ take (n - k) (drop k ss)
+others_between-next k n s ss =
+    let later : max 1 (suc k) ≡ suc k = omega arith in
+    let count : suc n - suc k ≡ n - k = omega arith in
+    ap (λ m. take (suc n - m) (drop m (s ∷ ss))) later ∙ ap (λ d. take d (drop k ss)) count
+
+pub others_between-first : (n : ℕ) (s : Span) (ss : List Span) → others_between 0 (suc n) (s ∷ ss) ≡ take n ss
+others_between-first n s ss =
+    let count : suc n - 1 ≡ n = omega arith in
+    ap (λ d. take d ss) count
+
+-- and with any capacity of the first of all spans, the bound is one on those after it
+pub AreAtMost-others : (time start page n : ℕ) (high : ℤ) (rows : List Span) → IsPageIn time page → FollowOn start rows → AllByRecursion (IsInLap time) rows → ends_before (page * 64) rows ≤ n → ends_before ((page + 1) * 64) rows ≡ n → HaveAtMost high (others_between (ends_before (page * 64) rows) n rows) → AreAtMost (page % 512) high (drop 1 rows)
+AreAtMost-others time start page n high [] is follow all less count up = tt
+AreAtMost-others time start page n high (s ∷ ss) is follow all less count up =
+    let y = (page + 1) * 64 in
+    elim (cases_lt s.end (page * 64)) [
+      | inl early ↦
+          let low : ends_before (page * 64) (s ∷ ss) ≡ suc (ends_before (page * 64) ss) = ends_before-ended (page * 64) s ss early in
+          let more : n ≡ suc (ends_before y ss) = sym count ∙ ends_before-ended y s ss (omega (arith, early)) in
+          let ups : HaveAtMost high (others_between (suc (ends_before (page * 64) ss)) (suc (ends_before y ss)) (s ∷ ss)) = rw (low, more) at up in
+          let rest = subst (HaveAtMost high) (others_between-next (ends_before (page * 64) ss) (ends_before y ss) s ss) ups in
+          AreAtMost-HaveAtMost time s.end page (ends_before y ss - ends_before (page * 64) ss) high ss is follow.4 all.1 (omega (arith, less, low, more)) rest
+      | inr reached ↦
+          let low : ends_before (page * 64) (s ∷ ss) ≡ 0 = ends_before-later (page * 64) s ss reached ∙ ends_before-start s.end (page * 64) ss follow.4 reached in
+          elim (cases_lt s.end y) [
+            | inl here ↦
+                let more : n ≡ suc (ends_before y ss) = sym count ∙ ends_before-ended y s ss here in
+                let ups : HaveAtMost high (others_between 0 (suc (ends_before y ss)) (s ∷ ss)) = rw (low, more) at up in
+                below-from time s.end page (ends_before y ss) high ss is follow.4 all.1 refl (subst (HaveAtMost high) (others_between-first (ends_before y ss) s ss) ups)
+            | inr late ↦ AreAtMost-later time s.end page high ss is follow.4 all.1 late
+          ]
     ]
 
 -- rows of a lap, and one of its pages
@@ -275,7 +340,7 @@ AreWithin start [] follow e few = tt
 AreWithin start (s ∷ ss) follow e few =
     (IsWithin-spare start (s ∷ ss) 0 follow e few (omega arith), AreWithin s.end ss follow.4 (rest-filled s ss e) (omega (arith, few)))
 
--- where a walk comes to a page that gives nothing, it passes the page
+-- where a walk comes to a page whose spans, but for the first of all, give nothing, it passes the page
 pub record PassesTo (walk : Walk) (page count : ℕ) (rows : List Span) : Type 0 where
   pub may : MayRaise (page % 512) walk.more rows
   pub spans :
@@ -284,15 +349,15 @@ pub record PassesTo (walk : Walk) (page count : ℕ) (rows : List Span) : Type 0
   pub place : walk.index - count ≡ ends_before (page * 64) (raised_at (page % 512) walk.more rows)
   pub front : take (walk.index - count) (raised_at (page % 512) walk.more rows) ≡ take (walk.index - count) rows
 
-pub PassesTo-PagesGiveNone : (walk : Walk) (page : ℕ) (mark : Mark) (rows : List Span) (marks : List Mark) → AreInPages (after_walk walk rows) marks → IsPageOf (after_walk walk rows) page → slice_get marks (page % 512) ≡ Some mark → walk.index ≡ ends_before ((page + 1) * 64) rows → PagesGiveNone (page % 512) walk.more rows → PassesTo walk page mark.count rows
+pub PassesTo-PagesGiveNone : (walk : Walk) (page : ℕ) (mark : Mark) (rows : List Span) (marks : List Mark) → AreInPages (after_walk walk rows) marks → IsPageOf (after_walk walk rows) page → slice_get marks (page % 512) ≡ Some mark → walk.index ≡ ends_before ((page + 1) * 64) rows → PagesGiveNone (page % 512) walk.more (drop 1 rows) → PassesTo walk page mark.count rows
 PassesTo-PagesGiveNone walk page mark rows marks pages is told place none =
     let at = AreAtPage-walk walk page rows marks pages is in
     let count = count_at-page page walk rows marks mark pages at told in
     let low : ends_before (page * 64) rows ≡ walk.index - mark.count = omega (arith, place, count) in
     let start = first_start rows in
     let new = raised_at (page % 512) walk.more rows in
-    let passes = PassesPage-PagesGiveNone start start page walk.more rows at.is at.follow at.lap none in
-    let same : walked walk.more (ends_before (page * 64) rows) new ≡ after_walk walk rows = passes.spans ∙ ap (λ n. walked walk.more n rows) (sym place) in
+    let passes = walked-PagesGiveNone start start page walk.more rows at.is at.follow at.lap none in
+    let same : walked walk.more (ends_before (page * 64) rows) new ≡ after_walk walk rows = passes ∙ ap (λ n. walked walk.more n rows) (sym place) in
     let spans : walked walk.more (walk.index - mark.count) new ≡ after_walk walk rows = rw low at same in
     let within = AreWithin (first_start (after_walk walk rows)) (after_walk walk rows) pages.filled.consecutive pages.filled.filled pages.filled.few in
     let stays : take (ends_before (page * 64) rows) new ≡ take (ends_before (page * 64) rows) rows = take-raised_at start start page walk.more rows at.is at.follow at.lap in

@@ -1,9 +1,7 @@
 -- Pages under lifts that a walk back passes, each at once.
-use Rattle.std.proofs.Common.{◌≡◌, ℕ, zero, suc, ◌+◌, ◌-◌, ◌*◌, ◌%◌, ◌<◌, ◌≤◌, ℤ, pos, ◌+ℤ◌, ◌≤ℤ◌, Bool, true, false, cond, eqb, List, [], ◌∷◌, length, get_or, set, slice_get, take, Some, inl, inr, refl, sym, subst, ap, ◌∙◌, arith, FitsSigned, w64}
+use Rattle.std.proofs.Common.{◌≡◌, ℕ, zero, suc, ◌+◌, ◌-◌, ◌*◌, ◌%◌, ◌<◌, ◌≤◌, ℤ, pos, ◌+ℤ◌, ◌≤ℤ◌, Bool, true, false, cond, eqb, List, [], ◌∷◌, length, get_or, set, slice_get, take, drop, Some, inl, inr, refl, sym, subst, ap, ◌∙◌, arith}
 use Rattle.std.proofs.lemmas.Bool.{cases_eq, eq-eqb, ne_eqb}
-use Rattle.std.proofs.lemmas.Int.{ints}
-use Rattle.std.proofs.lemmas.List.{get_or-set_other, length-set}
-use Rattle.std.proofs.lemmas.List.Sums.{sum_by-cons}
+use Rattle.std.proofs.lemmas.List.{drop-map, get_or-set_other, length-set}
 use Rattle.std.proofs.lemmas.Option.{slice_get-get_or}
 use Rattle.slot_core.specs.declared.jobs.Span.{Span}
 use Rattle.node_chain.specs.declared.marks.Lift.{Lift}
@@ -12,28 +10,18 @@ use Rattle.node_chain.specs.Laps.{blank_lift, blank_mark}
 use Rattle.node_chain.specs.Passes.{lift_passed, lift_raised, lifts_passed, spans_ending}
 use Rattle.spare_capacity.specs.Recurrence.{first_start}
 use Rattle.interval_row.specs.Changes.{ends_before}
-use Rattle.interval_row.specs.Lifts.{lifted, AreAtMost, AreCovered}
-use Rattle.interval_row.specs.Marks.{count_at, mark_index, page_of}
+use Rattle.interval_row.specs.Lifts.{lifted, lifted_in, AreAtMost, AreCovered}
+use Rattle.interval_row.specs.Marks.{page_of}
 use Rattle.interval_row.specs.Walks.{after_walk, walked, AreInPages, IsPageOf}
 use Rattle.interval_row.specs.declared.walk_back.Walk.{Walk}
 use Rattle.interval_row.proofs.LiftedSpans.{lifted-raised, AreAtMost-covered, AreCovered-raised}
 use Rattle.interval_row.proofs.RunWalks.{take-fewer}
-use Rattle.interval_row.proofs.PageWalks.{count_at-page, count_at-walked, AreAtPage-walk, MayRaise, PagesGiveNone-AreAtMost, PassesTo, PassesTo-PagesGiveNone}
+use Rattle.interval_row.proofs.PageWalks.{count_at-page, AreAtPage-walk, MayRaise, PagesGiveNone-AreAtMost, PassesTo, PassesTo-PagesGiveNone}
 
--- a bound of spans can rise as they can, up to 0, where there is one
-FitsSigned-bound : (j : ℕ) (high more : ℤ) (rows : List Span) → 1 ≤ count_at j rows → AreAtMost j high rows → MayRaise j more rows → (high +ℤ more) ≤ℤ pos 0 → FitsSigned w64 (high +ℤ more)
-FitsSigned-bound j high more [] some below may low = absurd (omega (arith, some))
-FitsSigned-bound j high more (s ∷ ss) some below may low =
-    elim (cases_eq (mark_index s.end) j) [
-      | inl own ↦
-          let spare = below.0 own in
-          let fits = may.0 own in
-          omega (arith, ints, spare, fits, low)
-      | inr other ↦
-          let sum = sum_by-cons (λ (t : Span). cond (eqb (mark_index t.end) j) 1 0) s ss in
-          let none = ap {B = ℕ} (λ b. cond b 1 0) (ne_eqb (mark_index s.end) j other) in
-          FitsSigned-bound j high more ss (omega (arith, some, sum, none)) below.1 may.1 low
-    ]
+-- what can be raised can where the first is left out
+MayRaise-drop : (j : ℕ) (more : ℤ) (lifts : List Lift) (spans : List Span) → MayRaise j more (lifted lifts spans) → MayRaise j more (lifted lifts (drop 1 spans))
+MayRaise-drop j more lifts [] may = tt
+MayRaise-drop j more lifts (s ∷ ss) may = may.1
 
 -- a walk back has come to the end of a page of spans under lifts
 pub record IsAtPage (walk : Walk) (page : ℕ) (mark : Mark) (lifts : List Lift) (spans : List Span) (marks : List Mark) : Type 0 where
@@ -41,7 +29,7 @@ pub record IsAtPage (walk : Walk) (page : ℕ) (mark : Mark) (lifts : List Lift)
   pub is : IsPageOf (after_walk walk (lifted lifts spans)) page
   pub place : walk.index ≡ ends_before ((page + 1) * 64) (lifted lifts spans)
   pub told : slice_get marks (page % 512) ≡ Some mark
-  pub covered : AreCovered lifts spans
+  pub covered : AreCovered lifts (drop 1 spans)
 
 -- a walk back has passed spans, down to a page, where lifts are raised
 pub record HasPassed (walk : Walk) (page count : ℕ) (lifts after : List Lift) (kept : List Span) : Type 0 where
@@ -49,9 +37,9 @@ pub record HasPassed (walk : Walk) (page count : ℕ) (lifts after : List Lift) 
   pub spans : after_walk (record { index = walk.index - count; more = walk.more }) (lifted after kept) ≡ after_walk walk (lifted lifts kept)
   pub place : walk.index - count ≡ ends_before (page * 64) (lifted after kept)
   pub front : take (walk.index - count) (lifted after kept) ≡ take (walk.index - count) (lifted lifts kept)
-  pub covered : AreCovered after kept
+  pub covered : AreCovered after (drop 1 kept)
 
--- the lift of a page lets none of its spans give
+-- the lift of a page lets none of its spans give, but for the first of all
 pub record LetsNoneGive (page : ℕ) (more : ℤ) (lift : Lift) (lifts : List Lift) : Type 0 where
   pub there : slice_get lifts (page % 512) ≡ Some lift
   pub before : lift.high ≤ℤ pos 0
@@ -78,26 +66,26 @@ module _ {walk : Walk} {page : ℕ} {mark : Mark} {lifts : List Lift} {spans : L
       }
 
   module _ {lift : Lift} (none : LetsNoneGive page walk.more lift lifts) where
-    -- the lift bounds the spans of the page
-    bounded : AreAtMost (page % 512) lift.high rows
-    bounded = AreAtMost-covered lifts (page % 512) lift none.there spans at.covered
+    -- the lift bounds the spans of the page, but for the first of all
+    bounded : AreAtMost (page % 512) lift.high (drop 1 rows)
+    bounded =
+        let others = AreAtMost-covered lifts (page % 512) lift none.there (drop 1 spans) at.covered in
+        rw (drop-map (lifted_in lifts) 1 spans) others
 
-    -- where they have nothing to give, the walk passes it
+    -- where those have nothing to give, the walk passes it
     passes : PassesTo walk page mark.count rows
-    passes = PassesTo-PagesGiveNone walk page mark rows marks at.pages at.is at.told at.place (PagesGiveNone-AreAtMost (page % 512) lift.high walk.more rows none.before none.after bounded)
+    passes = PassesTo-PagesGiveNone walk page mark rows marks at.pages at.is at.told at.place (PagesGiveNone-AreAtMost (page % 512) lift.high walk.more (drop 1 rows) none.before none.after bounded)
 
     -- and its spans follow with the lift
-    pub HasPassed-raised : 1 ≤ mark.count → HasPassed walk page mark.count lifts (set lifts (page % 512) (lift_raised walk.more lift)) spans
-    HasPassed-raised some =
+    pub HasPassed-raised : HasPassed walk page mark.count lifts (set lifts (page % 512) (lift_raised walk.more lift)) spans
+    HasPassed-raised =
         let same = lifted-raised lifts (page % 512) lift none.there walk.more spans passes.may in
-        let count : mark.count ≡ count_at (page % 512) rows = at.pages.counts (page % 512) mark at.told ∙ count_at-walked (page % 512) walk.more walk.index rows in
-        let fits = FitsSigned-bound (page % 512) lift.high walk.more rows (omega (arith, some, count)) bounded passes.may none.after in
         record {
           within = omega (arith, count-told);
           spans = ap (after_walk (record { index = walk.index - mark.count; more = walk.more })) same ∙ passes.spans;
           place = passes.place ∙ ap (ends_before (page * 64)) (sym same);
           front = ap (take (walk.index - mark.count)) same ∙ passes.front;
-          covered = AreCovered-raised lifts (page % 512) lift none.there walk.more fits spans passes.may at.covered;
+          covered = AreCovered-raised lifts (page % 512) lift none.there walk.more none.after (drop 1 spans) (MayRaise-drop (page % 512) walk.more lifts spans passes.may) at.covered;
         }
 
 -- what is passed after that is passed too
@@ -120,7 +108,7 @@ pub record IsAtRun (walk : Walk) (page low n : ℕ) (lifts : List Lift) (spans :
   pub first : page_of (first_start (after_walk walk (lifted lifts spans))) ≤ page
   pub last : page + n ≤ page_of (first_start (after_walk walk (lifted lifts spans))) + 512
   pub place : walk.index ≡ ends_before ((page + n) * 64) (lifted lifts spans)
-  pub covered : AreCovered lifts spans
+  pub covered : AreCovered lifts (drop 1 spans)
   pub index : (k : ℕ) → k < n → (page + k) % 512 ≡ low + k
   pub within : low + n ≤ length lifts
   pub before : (k : ℕ) → k < n → 1 ≤ (get_or marks (low + k) blank_mark).count → (get_or lifts (low + k) blank_lift).high ≤ℤ pos 0
@@ -183,7 +171,7 @@ module _ {walk : Walk} {page low n : ℕ} {lifts : List Lift} {spans : List Span
             } in
             let put : set lifts ((page + n) % 512) (lift_raised walk.more lift) ≡ set lifts j (lift_raised walk.more lift) = ap (λ i. set lifts i (lift_raised walk.more lift)) here in
             let same : then ≡ set lifts j (lift_raised walk.more lift) = ap (λ b. cond b lifts (set lifts j (lift_raised walk.more lift))) (ne_eqb last.count 0 other) in
-            subst (λ l. HasPassed walk (page + n) last.count lifts l spans) (put ∙ sym same) (HasPassed-raised at-last gives some)
+            subst (λ l. HasPassed walk (page + n) last.count lifts l spans) (put ∙ sym same) (HasPassed-raised at-last gives)
       ]
 
   -- and is then at the end of the others

@@ -3,6 +3,8 @@ use Rattle.std.proofs.Common.{◌≡◌, ℕ, zero, suc, ◌+◌, ◌-◌, ◌*�
 use Rattle.std.specs.Int.{int_wrap}
 use Rattle.std.specs.Int.Signed.{le_z_yes}
 use Rattle.std.specs.List.{AllByRecursion}
+use Rattle.std.specs.Prelude.{max}
+use native.Mathlib.Numerals.{unary_clauses}
 use Rattle.std.proofs.lemmas.Bool.{and_parts, cases_lt, leb-true}
 use Rattle.std.proofs.lemmas.Int.{ints, clamps, int_wrap_fits, int_wrap-add_left}
 use Rattle.std.proofs.lemmas.List.{drop-drop, drop-map, take-map, take-take}
@@ -20,11 +22,11 @@ use Rattle.interval_row.specs.Changes.{ends_before}
 use Rattle.interval_row.specs.Lifts.{lift_of, lifted, lifted_by, lifted_in, AreCovered}
 use Rattle.interval_row.specs.Marks.{mark_index}
 use Rattle.interval_row.specs.Spans.{AreFilled}
-use Rattle.interval_row.specs.Walks.{after_walk, walked, HaveAtMost}
+use Rattle.interval_row.specs.Walks.{after_walk, others_between, walked, HaveAtMost}
 use Rattle.interval_row.specs.declared.walk_back.Walk.{Walk}
 use Rattle.interval_row.proofs.CutTimes.{ends_before-ended, ends_before-inside, ends_before-later}
 use Rattle.interval_row.proofs.LiftedSpans.{lift_of-set, lift_of-there, lifted_in-same, AreAtMost-covered, AreAtMost-more, AreCovered-set}
-use Rattle.interval_row.proofs.PageWalks.{ends_before-walks, follows-walk, in-page, meets, AreWithin, GivesNone}
+use Rattle.interval_row.proofs.PageWalks.{ends_before-walks, follows-walk, in-page, meets, others_between-first, others_between-next, AreWithin, GivesNone}
 use Rattle.interval_row.proofs.WalkBack.{IsWithin}
 use Rattle.interval_row.proofs.WalkPages.{ends_before-past, ends_before-short}
 
@@ -156,21 +158,23 @@ pub first-of-run : (more : ℤ) (k n : ℕ) (first : Span) (rows : List Span) �
 first-of-run more k n first rows low few at =
     ap (λ xs. slice_get xs k) (each_between-is (lifted_by more) k n rows (omega (arith, low)) few) ∙ first-each more k n first rows low at
 
--- a bound on the capacities of a run once it is raised
-up-each : (lifts : List Lift) (more high : ℤ) (k d n : ℕ) (rows : List Span) → k + d ≡ n → n ≤ length rows → ((i : ℕ) (s : Span) → k ≤ i → i < n → slice_get rows i ≡ Some s → int_wrap w64 ((lifted_in lifts s).spare +ℤ more) ≤ℤ high) → HaveAtMost high (take d (drop k (raised_run lifts more k n rows)))
-up-each lifts more high zero zero n rows sum few up = tt
-up-each lifts more high zero (suc d) zero rows sum few up = absurd (omega (arith, sum))
-up-each lifts more high (suc k) d zero rows sum few up = absurd (omega (arith, sum))
-up-each lifts more high k d (suc n) [] sum few up = absurd (omega (arith, few))
-up-each lifts more high zero (suc d) (suc n) (s ∷ ss) sum few up =
-    (omega (arith, ints, twice lifts more s, up 0 s (omega arith) (omega arith) refl), up-each lifts more high zero d n ss (omega (arith, sum)) (omega (arith, few)) (λ i t l h is. up (suc i) t (omega arith) (omega (arith, h)) is))
-up-each lifts more high (suc k) d (suc n) (s ∷ ss) sum few up =
-    up-each lifts more high k d n ss (omega (arith, sum)) (omega (arith, few)) (λ i t l h is. up (suc i) t (omega (arith, l)) (omega (arith, h)) is)
+-- a bound on the capacities of a run once it is raised, from some span of it on
+up-each : (lifts : List Lift) (more high : ℤ) (k m d n : ℕ) (rows : List Span) → k ≤ m → m + d ≡ n → n ≤ length rows → ((i : ℕ) (s : Span) → m ≤ i → i < n → slice_get rows i ≡ Some s → int_wrap w64 ((lifted_in lifts s).spare +ℤ more) ≤ℤ high) → HaveAtMost high (take d (drop m (raised_run lifts more k n rows)))
+up-each lifts more high k m zero n rows l sum few up = tt
+up-each lifts more high k m (suc d) zero rows l sum few up = absurd (omega (arith, sum))
+up-each lifts more high k m (suc d) (suc n) [] l sum few up = absurd (omega (arith, few))
+up-each lifts more high (suc k) zero (suc d) (suc n) (s ∷ ss) l sum few up = absurd (omega (arith, l))
+up-each lifts more high zero zero (suc d) (suc n) (s ∷ ss) l sum few up =
+    (omega (arith, ints, twice lifts more s, up 0 s (omega arith) (omega arith) refl), up-each lifts more high zero zero d n ss l (omega (arith, sum)) (omega (arith, few)) (λ i t low top is. up (suc i) t (omega arith) (omega (arith, top)) is))
+up-each lifts more high zero (suc m) (suc d) (suc n) (s ∷ ss) l sum few up =
+    up-each lifts more high zero m (suc d) n ss (omega arith) (omega (arith, sum)) (omega (arith, few)) (λ i t low top is. up (suc i) t (omega (arith, low)) (omega (arith, top)) is)
+up-each lifts more high (suc k) (suc m) (suc d) (suc n) (s ∷ ss) l sum few up =
+    up-each lifts more high k m (suc d) n ss (omega (arith, l)) (omega (arith, sum)) (omega (arith, few)) (λ i t low top is. up (suc i) t (omega (arith, low)) (omega (arith, top)) is)
 
 -- so it is one on the rows with the run raised
-pub HaveAtMost-run : (lifts : List Lift) (more high : ℤ) (k n : ℕ) (rows : List Span) → k ≤ n → n ≤ length rows → ((i : ℕ) (s : Span) → k ≤ i → i < n → slice_get rows i ≡ Some s → int_wrap w64 ((lifted_in lifts s).spare +ℤ more) ≤ℤ high) → HaveAtMost high (take (n - k) (drop k (lifted lifts (map_between (lifted_by more) k n rows))))
-HaveAtMost-run lifts more high k n rows low few up =
-    subst (λ xs. HaveAtMost high (take (n - k) (drop k (lifted lifts xs)))) (sym (each_between-is (lifted_by more) k n rows low few)) (up-each lifts more high k (n - k) n rows (omega (arith, low)) few up)
+HaveAtMost-run : (lifts : List Lift) (more high : ℤ) (k m n : ℕ) (rows : List Span) → k ≤ m → m ≤ n → n ≤ length rows → ((i : ℕ) (s : Span) → m ≤ i → i < n → slice_get rows i ≡ Some s → int_wrap w64 ((lifted_in lifts s).spare +ℤ more) ≤ℤ high) → HaveAtMost high (take (n - m) (drop m (lifted lifts (map_between (lifted_by more) k n rows))))
+HaveAtMost-run lifts more high k m n rows l low few up =
+    subst (λ xs. HaveAtMost high (take (n - m) (drop m (lifted lifts xs)))) (sym (each_between-is (lifted_by more) k n rows (omega (arith, l, low)) few)) (up-each lifts more high k m (n - m) n rows l (omega (arith, low)) few up)
 
 -- spans follow on where they do with their capacities lifted
 pub FollowOn-lifted : (lifts : List Lift) (start : ℕ) (spans : List Span) → FollowOn start (lifted lifts spans) → FollowOn start spans
@@ -277,9 +281,13 @@ module _ (lifts : List Lift) (page : ℕ) (lift : Lift) (raise : Raise) (k n : �
   pub IsRun-follows : (first : Span) → slice_get rows k ≡ Some first → AreFilled (walked raise.more n (lifted lifts rows)) → FollowsRun lifts raise.more k n first rows
   IsRun-follows first at are = FollowsRun-AreFilled lifts raise.more k n first rows is.before IsRun-within at run-none are
 
-  pub IsRun-up : (high : ℤ) → ((i : ℕ) (s : Span) → k ≤ i → i < n → slice_get rows i ≡ Some s → spare_after raise s ≤ℤ high) → HaveAtMost high (take (n - k) (drop k (lifted lifts (map_between (lifted_by raise.more) k n rows))))
+  -- a bound on all of it but the first of all spans
+  pub IsRun-up : (high : ℤ) → ((i : ℕ) (s : Span) → 1 ≤ i → k ≤ i → i < n → slice_get rows i ≡ Some s → spare_after raise s ≤ℤ high) → HaveAtMost high (others_between k n (lifted lifts (map_between (lifted_by raise.more) k n rows)))
   IsRun-up high up =
-      HaveAtMost-run lifts raise.more high k n rows (omega (arith, is.before)) IsRun-within (λ i s low top at. subst (λ x. int_wrap w64 (x +ℤ raise.more) ≤ℤ high) (sym (IsRun-spare i s low top at)) (up i s low top at))
+      HaveAtMost-run lifts raise.more high k (max 1 k) n rows (omega arith) (omega (arith, is.before)) IsRun-within (λ i s low top at.
+      let own : k ≤ i = omega (arith, low) in
+      let later : 1 ≤ i = omega (arith, low) in
+      subst (λ x. int_wrap w64 (x +ℤ raise.more) ≤ℤ high) (sym (IsRun-spare i s own top at)) (up i s later own top at))
 
 -- walks to the same end leave as many of the kept spans before a time
 pub ends_before-runs : (y : ℕ) (lifts : List Lift) (walk from : Walk) (new rows : List Span) → after_walk walk (lifted lifts new) ≡ after_walk from (lifted lifts rows) → ends_before y new ≡ ends_before y rows
@@ -346,13 +354,20 @@ pub take-lifted : (lifts : List Lift) (k : ℕ) (new rows : List Span) → take 
 take-lifted lifts k new rows same = take-map (lifted_in lifts) k new ∙ ap (lifted lifts) same ∙ sym (take-map (lifted_in lifts) k rows)
 
 -- the greater of the bounds on a run and on the spans after it is one on all of them
-pub HaveAtMost-runs : (lifts : List Lift) (low high top : ℤ) (j k n : ℕ) (new rows : List Span) → j ≤ k → k ≤ n → low ≤ℤ top → high ≤ℤ top → drop k new ≡ drop k rows → HaveAtMost high (take (k - j) (drop j (lifted lifts new))) → HaveAtMost low (take (n - k) (drop k (lifted lifts rows))) → HaveAtMost top (take (n - j) (drop j (lifted lifts new)))
+HaveAtMost-runs : (lifts : List Lift) (low high top : ℤ) (j k n : ℕ) (new rows : List Span) → j ≤ k → k ≤ n → low ≤ℤ top → high ≤ℤ top → drop k new ≡ drop k rows → HaveAtMost high (take (k - j) (drop j (lifted lifts new))) → HaveAtMost low (take (n - k) (drop k (lifted lifts rows))) → HaveAtMost top (take (n - j) (drop j (lifted lifts new)))
 HaveAtMost-runs lifts low high top j k n new rows l m under over same run rest =
     let after : drop k (lifted lifts rows) ≡ drop (k - j) (drop j (lifted lifts new)) =
     drop-map (lifted_in lifts) k rows ∙ ap (lifted lifts) (sym same) ∙ sym (drop-map (lifted_in lifts) k new)
     ∙ sym (drop-join j (k - j) k (lifted lifts new) (omega (arith, l))) in
     up-join top (k - j) (n - k) (n - j) (drop j (lifted lifts new)) (omega (arith, l, m)) (up-more high top (take (k - j) (drop j (lifted lifts new))) over run)
     (subst (λ xs. HaveAtMost top (take (n - k) xs)) after (up-more low top (take (n - k) (drop k (lifted lifts rows))) under rest))
+
+-- so it is of all but the first of all spans
+pub HaveAtMost-others : (lifts : List Lift) (low high top : ℤ) (j k n : ℕ) (new rows : List Span) → j < k → k ≤ n → low ≤ℤ top → high ≤ℤ top → drop k new ≡ drop k rows → HaveAtMost high (others_between j k (lifted lifts new)) → HaveAtMost low (others_between k n (lifted lifts rows)) → HaveAtMost top (others_between j n (lifted lifts new))
+HaveAtMost-others lifts low high top j zero n new rows l m under over same run rest = absurd (omega (arith, l))
+HaveAtMost-others lifts low high top j (suc k) n new rows l m under over same run rest =
+    HaveAtMost-runs lifts low high top (max 1 j) (suc k) n new rows (omega (arith, l)) m under over same run
+    (subst (λ m. HaveAtMost low (take (n - m) (drop m (lifted lifts rows)))) (omega arith) rest)
 
 -- what holds of spans by their places holds of those between two
 all-each : (P : Span → Type 0) (k d n : ℕ) (rows : List Span) → k + d ≡ n → ((i : ℕ) (s : Span) → k ≤ i → i < n → slice_get rows i ≡ Some s → P s) → AllByRecursion P (take d (drop k rows))
@@ -401,7 +416,7 @@ module _ (lifts : List Lift) (j : ℕ) (was : Lift) (at : slice_get lifts j ≡ 
   covered-run high (suc k) d (s ∷ ss) l own up = covered-run high k d ss l own up
 
   -- and the spans before and after them, which were covered
-  pub AreCovered-runs : (high : ℤ) (k n : ℕ) (new rows : List Span) → was.high ≤ℤ lift.high → high ≤ℤ lift.high → k ≤ n → AreCovered lifts rows → AllByRecursion (λ (s : Span). mark_index s.end ≡ j) (take (n - k) (drop k new)) → HaveAtMost high (take (n - k) (drop k (lifted lifts new))) → take k new ≡ take k rows → drop n new ≡ drop n rows → AreCovered (set lifts j lift) new
+  AreCovered-runs : (high : ℤ) (k n : ℕ) (new rows : List Span) → was.high ≤ℤ lift.high → high ≤ℤ lift.high → k ≤ n → AreCovered lifts rows → AllByRecursion (λ (s : Span). mark_index s.end ≡ j) (take (n - k) (drop k new)) → HaveAtMost high (take (n - k) (drop k (lifted lifts new))) → take k new ≡ take k rows → drop n new ≡ drop n rows → AreCovered (set lifts j lift) new
   AreCovered-runs high k n new rows more over l all own up front rest =
       let below = AreAtMost-more j was.high lift.high more (lifted lifts rows) (AreAtMost-covered lifts j was at rows all) in
       let still : AllByRecursion IsCovered rows = AreCovered-set lifts j was at lift same rows below all in
@@ -410,6 +425,19 @@ module _ (lifts : List Lift) (j : ℕ) (was : Lift) (at : slice_get lifts j ≡ 
       let last = recursion_from_All IsCovered (drop n rows) (All-drop IsCovered n rows each) in
       all-join IsCovered k (n - k) n new (omega (arith, l)) (subst (AllByRecursion IsCovered) (sym front) first) (covered-run high k (n - k) new over own up)
       (subst (AllByRecursion IsCovered) (sym rest) last)
+
+  -- so are all but the first where the first need not be
+  pub AreCovered-others : (high : ℤ) (k n : ℕ) (new rows : List Span) → was.high ≤ℤ lift.high → high ≤ℤ lift.high → k < n → AreCovered lifts (drop 1 rows) → AllByRecursion (λ (s : Span). mark_index s.end ≡ j) (take (n - k) (drop k new)) → HaveAtMost high (others_between k n (lifted lifts new)) → take k new ≡ take k rows → drop n new ≡ drop n rows → AreCovered (set lifts j lift) (drop 1 new)
+  AreCovered-others high k n [] rows more over l all own up front rest = tt
+  AreCovered-others high k zero (s ∷ ss) rows more over l all own up front rest = absurd (omega (arith, l))
+  AreCovered-others high zero (suc n) (s ∷ ss) rows more over l all own up front rest =
+      let count : n ≡ n - 0 = omega arith in
+      let owns : AllByRecursion (λ (s : Span). mark_index s.end ≡ j) (take (suc n) (s ∷ ss)) = simp unary_clauses at own in
+      let ups = subst (HaveAtMost high) (others_between-first n (lifted_in lifts s) (lifted lifts ss)) up in
+      AreCovered-runs high zero n ss (drop 1 rows) more over (omega arith) all (rw (sym count) owns.1) (rw (sym count) ups) refl (rest ∙ sym (drop-join 1 n (suc n) rows (omega arith)))
+  AreCovered-others high (suc k) (suc n) (s ∷ ss) [] more over l all own up front rest = absurd (omega (arith, ap length front))
+  AreCovered-others high (suc k) (suc n) (s ∷ ss) (t ∷ ts) more over l all own up front rest =
+      AreCovered-runs high k n ss ts more over (omega (arith, l)) all (simp unary_clauses at own) (subst (HaveAtMost high) (others_between-next k n (lifted_in lifts s) (lifted lifts ss)) up) (ap (drop 1) front) rest
 
 -- a lifted span starts where it does
 pub start-lifted : (lifts : List Lift) (start k : ℕ) (rows : List Span) → IfSome (slice_get rows k) (λ (s : Span). s.start ≡ start) → IfSome (slice_get (lifted lifts rows) k) (λ (s : Span). s.start ≡ start)

@@ -1,5 +1,5 @@
 -- Walks that go back page by page.
-use Rattle.std.proofs.Common.{◌≡◌, ℕ, zero, suc, ◌+◌, ◌-◌, ◌*◌, ◌/◌, ◌%◌, ◌<◌, ◌≤◌, ℤ, List, [], ◌∷◌, length, get_or, take, drop, Some, inl, inr, ap, subst, sym, ◌∙◌, arith}
+use Rattle.std.proofs.Common.{◌≡◌, ℕ, zero, suc, ◌+◌, ◌-◌, ◌*◌, ◌/◌, ◌%◌, ◌<◌, ◌≤◌, ℤ, List, [], ◌∷◌, length, get_or, drop, Some, inl, inr, ap, subst, sym, ◌∙◌, arith}
 use Rattle.std.specs.Prelude.{slice_get, IfSome}
 use Rattle.std.proofs.lemmas.Bool.{cases_lt}
 use Rattle.std.proofs.lemmas.Option.{same_Some, slice_get-get_or, slice_get_within}
@@ -11,10 +11,10 @@ use Rattle.interval_row.specs.Changes.{ends_before}
 use Rattle.interval_row.specs.Lifts.{AreAtMost}
 use Rattle.interval_row.specs.Marks.{page_of}
 use Rattle.interval_row.specs.Spans.{AreFilled}
-use Rattle.interval_row.specs.Walks.{after_walk, AreInPages, HaveAtMost, IsPageOf}
+use Rattle.interval_row.specs.Walks.{after_walk, others_between, AreInPages, HaveAtMost, IsPageOf}
 use Rattle.interval_row.specs.declared.walk_back.Walk.{Walk}
 use Rattle.interval_row.proofs.CutTimes.{ends_before-ended, ends_before-inside, ends_before-later, ends_before-start, rises-at, start-at}
-use Rattle.interval_row.proofs.PageWalks.{ends_before-walks, follows-walk, meets, AreAtMost-HaveAtMost, AreAtPage-walk}
+use Rattle.interval_row.proofs.PageWalks.{ends_before-walks, follows-walk, meets, AreAtMost-others, AreAtPage-walk}
 use Rattle.interval_row.proofs.WalkBack.{length-walked}
 
 -- all spans up to one that ends before a time do
@@ -83,14 +83,13 @@ ends_before-across walk page rows are within low reached =
     let at = slice_get-get_or rows walk.index no_row within in
     sym (ends_before-inside (first_start rows) (page * 64) walk.index rows (get_or rows walk.index no_row) (follows-walk walk rows are) at low reached)
 
--- a bound on all spans of a page that have followed
-pub AreAtMost-followed : (walk from : Walk) (page : ℕ) (high : ℤ) (new rows : List Span) (marks : List Mark) → AreInPages (after_walk from rows) marks → IsPageOf (after_walk from rows) page → from.index ≡ ends_before ((page + 1) * 64) rows → after_walk walk new ≡ after_walk from rows → walk.index < from.index → walk.index ≡ ends_before (page * 64) new → HaveAtMost high (take (from.index - walk.index) (drop walk.index new)) → AreAtMost (page % 512) high new
+-- a bound on all spans of a page that have followed, but the first of all
+pub AreAtMost-followed : (walk from : Walk) (page : ℕ) (high : ℤ) (new rows : List Span) (marks : List Mark) → AreInPages (after_walk from rows) marks → IsPageOf (after_walk from rows) page → from.index ≡ ends_before ((page + 1) * 64) rows → after_walk walk new ≡ after_walk from rows → walk.index < from.index → walk.index ≡ ends_before (page * 64) new → HaveAtMost high (others_between walk.index from.index new) → AreAtMost (page % 512) high (drop 1 new)
 AreAtMost-followed walk from page high new rows marks pages is place same before here up =
     let at = AreAtPage-walk walk page new marks (subst (λ xs. AreInPages xs marks) (sym same) pages) (subst (λ xs. IsPageOf xs page) (sym same) is) in
-    let low = ends_before (page * 64) new in
-    let count : ends_before ((page + 1) * 64) new ≡ low + (from.index - low) = omega (arith, ends_before-walks ((page + 1) * 64) walk from new rows same, place, before, here) in
-    let ups : HaveAtMost high (take (from.index - low) (drop low new)) = rw here at up in
-    AreAtMost-HaveAtMost (first_start new) (first_start new) page (from.index - low) high new at.is at.follow at.lap count ups
+    let count : ends_before ((page + 1) * 64) new ≡ from.index = ends_before-walks ((page + 1) * 64) walk from new rows same ∙ sym place in
+    let ups : HaveAtMost high (others_between (ends_before (page * 64) new) from.index new) = rw here at up in
+    AreAtMost-others (first_start new) (first_start new) page from.index high new at.is at.follow at.lap (omega (arith, before, here)) count ups
 
 -- what a span tells of the page in which it ends, and from where it starts
 pub EndsInPage-rest : (walk : Walk) (page from : ℕ) (rows : List Span) → AreFilled (after_walk walk rows) → 0 < walk.index → walk.index < length rows → IfSome (slice_get rows walk.index) (λ s. (s.start ≡ from) × (page_of s.end ≡ page)) → page ≤ from / 64 → EndsInPage walk page rows

@@ -1,5 +1,5 @@
 -- How a change of a capacity is followed back through the spans before it.
-use Rattle.std.specs.Prelude.{◌≡◌, ℕ, ℤ, ◌+◌, ◌*◌, ◌<◌, ◌≤◌, ◌≤ℤ◌, List, ◌++◌, length, Some, drop, slice_get, take}
+use Rattle.std.specs.Prelude.{◌≡◌, ℕ, ℤ, ◌+◌, ◌-◌, ◌*◌, ◌<◌, ◌≤◌, ◌≤ℤ◌, List, ◌++◌, length, Some, drop, max, slice_get, take}
 use Rattle.std.specs.List.{AllByRecursion}
 use Rattle.slot_core.specs.declared.jobs.Span.{Span}
 use Rattle.spare_capacity.specs.Lending.{moved}
@@ -32,6 +32,10 @@ pub record AreInPages (spans : List Span) (marks : List Mark) : Type 0 where
 pub record IsPageOf (spans : List Span) (page : ℕ) : Type 0 where
   pub first : page_of (first_start spans) ≤ page
   pub last : page < page_of (first_start spans) + LAP
+
+-- the spans from one place up to another, but the first of all
+abbrev pub others_between : ℕ → ℕ → List Span → List Span
+others_between k n spans = take (n - max 1 k) (drop (max 1 k) spans)
 
 -- no capacity of the spans is above this
 abbrev pub HaveAtMost : ℤ → List Span → Type 0

@@ -126,7 +126,7 @@ fn halve<S: Store, L: Ledger>(store: &mut S, place: FoundSpan, at: u64, steps: &
     let span = place.span;
     let second = spans::lowered(spans::part_from(span, at), at - span.start);
     let first = spans::refilled(spans::part_before(span, at), second);
-    store.insert(place.index, first, steps);
+    store.insert(place.index, first, span, steps);
     store.set(place.index + 1, second, steps);
 }
 

@@ -9,7 +9,7 @@ ghost use Rattle.interval_row.specs.Changes.{ends_before};
 ghost use Rattle.interval_row.specs.Lifts.{lifted, lifted_by, lowered_by, AreCovered};
 ghost use Rattle.interval_row.specs.Marks.{mark_index, page_of};
 ghost use Rattle.interval_row.specs.Spans.{AreFilled};
-ghost use Rattle.interval_row.specs.Walks.{after_walk, AreInPages, HaveAtMost};
+ghost use Rattle.interval_row.specs.Walks.{after_walk, others_between, AreInPages, HaveAtMost};
 
 use crate::marks::{PAGE, index_of_page, mark_index};
 use crate::shelf::Shelf;
@@ -25,13 +25,15 @@ use std::sync::ledger::Ledger;
 /// A store over a shelf. The capacity of a span is what the shelf has of it and the `add` of the
 /// lift of the page in which the span ends, so that all capacities of a page change by one number.
 /// What the shelf has wraps round where it leaves the range of its type, and so does the sum, which
-/// is the capacity all the same. No capacity is above the `high` of its lift.
+/// is the capacity all the same. No capacity is above the `high` of its lift, but for that of the
+/// first span: a walk back ends there, so that its page may be passed whatever it has to give.
 #[derive(Drop)]
 pub struct Lifted<S: Shelf> {
     pub(crate) shelf: S,
 }
 
 impl<S: Shelf> Model for Lifted<S> {
+    ghost use Rattle.std.specs.Prelude.{drop};
     ghost use Rattle.interval_row.specs.Lifts.{lifted, AreCovered};
     ghost use Rattle.interval_row.specs.Stores.{StoreParts};
 
@@ -43,7 +45,7 @@ impl<S: Shelf> Model for Lifted<S> {
       marks = (S.laps l.shelf).marks;
     } };
 
-    ghost invariant = { λ l. AreCovered (S.laps l.shelf).lifts (S.spans l.shelf) };
+    ghost invariant = { λ l. AreCovered (S.laps l.shelf).lifts (drop 1 (S.spans l.shelf)) };
 }
 
 impl<S: Shelf> Store for Lifted<S> {
@@ -89,7 +91,11 @@ impl<S: Shelf> Store for Lifted<S> {
     }
 
     fn set<L: Ledger>(&mut self, index: u32, span: Span, steps: &mut Steps<L>) {
-        let lift = cover(&mut self.shelf, span);
+        let lift = if index == 0 {
+            self.shelf.lift(mark_index(span.end))
+        } else {
+            cover(&mut self.shelf, span)
+        };
         self.shelf.set(index, lowered_by(lift, span), steps);
     }
 
@@ -104,7 +110,9 @@ impl<S: Shelf> Store for Lifted<S> {
         followed
     }
 
-    fn insert<L: Ledger>(&mut self, index: u32, span: Span, steps: &mut Steps<L>) {
+    fn insert<L: Ledger>(&mut self, index: u32, span: Span, there: Span, steps: &mut Steps<L>) {
+        // It may have been the first, and is so no more.
+        cover(&mut self.shelf, there);
         let lift = cover(&mut self.shelf, span);
         self.shelf.insert(index, lowered_by(lift, span), steps);
     }
@@ -152,7 +160,7 @@ fn pass_run<S: Shelf>(shelf: &mut S, low: u64, from: PageWalk) -> PageWalk
     requires pages { AreInPages
         (after_walk from.walk (lifted (S.laps shelf.old).lifts (S.spans shelf.old)))
         (S.laps shelf.old).marks }
-    requires covered { AreCovered (S.laps shelf.old).lifts (S.spans shelf.old) }
+    requires covered { AreCovered (S.laps shelf.old).lifts (drop 1 (S.spans shelf.old)) }
     requires first { page_of (first_start
         (after_walk from.walk (lifted (S.laps shelf.old).lifts (S.spans shelf.old)))) ≤ low }
     requires end { from.page ≤ page_of (last_end 0
@@ -162,7 +170,7 @@ fn pass_run<S: Shelf>(shelf: &mut S, low: u64, from: PageWalk) -> PageWalk
     requires place { from.walk.index ≡ ends_before (from.page * PAGE) (S.spans shelf.old) }
     ensures spans { after_walk result.walk (lifted (S.laps shelf.new).lifts (S.spans shelf.new))
         ≡ after_walk from.walk (lifted (S.laps shelf.old).lifts (S.spans shelf.old)) }
-    ensures covered { AreCovered (S.laps shelf.new).lifts (S.spans shelf.new) }
+    ensures covered { AreCovered (S.laps shelf.new).lifts (drop 1 (S.spans shelf.new)) }
     ensures more { result.walk.more ≡ from.walk.more }
     ensures place { result.walk.index ≡ ends_before (result.page * PAGE) (S.spans shelf.new) }
     ensures first { low ≤ result.page }
@@ -228,9 +236,8 @@ fn follow_run<S: Shelf, L: Ledger>(
     ensures reached { ends_before (page * PAGE) (S.spans shelf.old) ≤ result.walk.index }
     ensures start { IfSome (slice_get (S.spans shelf.new) result.walk.index)
         (λ s. s.start ≡ result.start) }
-    ensures high { HaveAtMost result.high (take
-        (from.index - result.walk.index)
-        (drop result.walk.index (lifted (S.laps shelf.old).lifts (S.spans shelf.new)))) }
+    ensures high { HaveAtMost result.high (others_between result.walk.index from.index
+        (lifted (S.laps shelf.old).lifts (S.spans shelf.new))) }
     ensures front { take result.walk.index (S.spans shelf.new)
         ≡ take result.walk.index (S.spans shelf.old) }
     ensures rest { drop from.index (S.spans shelf.new) ≡ drop from.index (S.spans shelf.old) }
@@ -283,9 +290,8 @@ fn follow_back<S: Shelf, L: Ledger>(
     ensures reached { ends_before (page * PAGE) (S.spans shelf.old) ≤ result.walk.index }
     ensures start { IfSome (slice_get (S.spans shelf.new) result.walk.index)
         (λ s. s.start ≡ result.start) }
-    ensures high { HaveAtMost result.high (take
-        (from.index - result.walk.index)
-        (drop result.walk.index (lifted (S.laps shelf.old).lifts (S.spans shelf.new)))) }
+    ensures high { HaveAtMost result.high (others_between result.walk.index from.index
+        (lifted (S.laps shelf.old).lifts (S.spans shelf.new))) }
     ensures front { take result.walk.index (S.spans shelf.new)
         ≡ take result.walk.index (S.spans shelf.old) }
     ensures rest { drop from.index (S.spans shelf.new) ≡ drop from.index (S.spans shelf.old) }

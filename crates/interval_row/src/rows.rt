@@ -92,7 +92,9 @@ impl Shelf for Rows {
         for index in (0..from).rev() {
             let span = self.at(index, steps);
             self.set(index, raise.raised(span), steps);
-            high = high.max(raise.spare_after(span));
+            if index > 0 {
+                high = high.max(raise.spare_after(span));
+            }
             if index == 0 || !raise.passes_on(span) {
                 return Raised {
                     index,

@@ -99,7 +99,7 @@ pub trait Shelf: Drop {
             → slice_get (spans self.old) i ≡ Some s → passes_on raise s ≡ true }
         ensures ended { 1 ≤ result.index → IfSome (slice_get (spans self.old) result.index)
             (λ s. passes_on raise s ≡ false) }
-        ensures high { (i : ℕ) → (s : Span) → result.index ≤ i → i < from
+        ensures high { (i : ℕ) → (s : Span) → 1 ≤ i → result.index ≤ i → i < from
             → slice_get (spans self.old) i ≡ Some s → spare_after raise s ≤ℤ result.high }
         ensures room { room self.new ≡ room self.old }
         ensures laps { laps self.new ≡ laps self.old }

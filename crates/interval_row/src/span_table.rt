@@ -36,9 +36,9 @@ pub type RowTable = Table<Lifted<Rows>>;
 /// `charge`, `give_back` or `split`, or the first where that one has gone. A change of work looks
 /// there first: the job that ran in a slot mostly runs in the next, and the slots of an offer are
 /// due at the end that was made for it. Capacities are followed back from such a change only as far
-/// as they change, and by whole pages where those have none to give. Each call keeps the marks of
-/// the store those of its spans: from them a search starts near its span, where all spans lie
-/// within a lap of pages and are shorter than a page on average.
+/// as they change, and by whole pages where no span of those, but for the first of all, has any to
+/// give. Each call keeps the marks of the store those of its spans: from them a search starts near
+/// its span, where all spans lie within a lap of pages and are shorter than a page on average.
 #[derive(Drop)]
 pub struct Table<S: Store> {
     chain: S,

@@ -12,7 +12,7 @@ ghost use Rattle.interval_row.specs.Changes.{ends_before};
 ghost use Rattle.interval_row.specs.Lifts.{AreAtMost};
 ghost use Rattle.interval_row.specs.Marks.{page_of};
 ghost use Rattle.interval_row.specs.Spans.{AreFilled};
-ghost use Rattle.interval_row.specs.Walks.{after_walk, AreInPages, HaveAtMost};
+ghost use Rattle.interval_row.specs.Walks.{after_walk, others_between, AreInPages, HaveAtMost};
 
 use crate::walk_back::{Followed, PageWalk, Walk};
 use node_chain::{Found, Mark, Search};
@@ -22,8 +22,8 @@ use std::sync::ledger::Ledger;
 
 /// Spans in order, each found by how many stand before it, with room for at most 2^20, and a lap of
 /// marks, whose numbers are the table's. A walk back goes by whole pages whose spans have no
-/// capacity, and takes the count of a mark for that of the spans that end in its page. Only
-/// `with_room` takes memory, and no call but it refuses.
+/// capacity, but for the first of all, and takes the count of a mark for that of the spans that end
+/// in its page. Only `with_room` takes memory, and no call but it refuses.
 pub trait Store: Drop {
     /// The spans in order.
     ghost spans: { Self → List Span };
@@ -109,14 +109,14 @@ pub trait Store: Drop {
         ensures start { IfSome (slice_get (spans self.new) result.walk.index)
             (λ s. s.start ≡ result.start) }
         ensures high { HaveAtMost result.high
-            (take (from.index - result.walk.index) (drop result.walk.index (spans self.new))) }
+            (others_between result.walk.index from.index (spans self.new)) }
         ensures room { room self.new ≡ room self.old }
         ensures marks { marks self.new ≡ marks self.old }
         ensures two_steps { steps.new + 2 * result.walk.index ≡ steps.old + 2 * from.index };
 
-    /// Puts a span in before the one there. Three steps.
-    fn insert<L: Ledger>(&mut self, index: u32, span: Span, steps: &mut Steps<L>)
-        requires within { index < length (spans self.old) }
+    /// Puts a span in before the one that stands there. Three steps.
+    fn insert<L: Ledger>(&mut self, index: u32, span: Span, there: Span, steps: &mut Steps<L>)
+        requires there { slice_get (spans self.old) index ≡ Some there }
         requires free { length (spans self.old) < room self.old }
         ensures spans { spans self.new ≡ insert (spans self.old) index span }
         ensures room { room self.new ≡ room self.old }
@@ -153,17 +153,17 @@ pub trait Store: Drop {
         ensures marks { marks self.new ≡ slice_set (marks self.old) index mark };
 
     /// It is told that no capacity of the spans that end in the pages of this mark is above this
-    /// number, which may spare later walks the reading of them.
+    /// number, but for that of the first span. It may spare later walks the reading of them.
     fn set_high(&mut self, index: u32, high: i64)
         requires index { index < LAP }
-        requires below { AreAtMost index high (spans self.old) }
+        requires below { AreAtMost index high (drop 1 (spans self.old)) }
         ensures spans { spans self.new ≡ spans self.old }
         ensures room { room self.new ≡ room self.old }
         ensures marks { marks self.new ≡ marks self.old };
 
     /// Pages follow in a walk back, the last first, without a step: those in which no span ends,
-    /// and such as are known to have no capacity, before and after. It ends at a page in which a
-    /// span ends, or at the first page.
+    /// and such of which the spans, but for the first of all, are known to have no capacity, before
+    /// and after. It ends at a page in which a span ends, or at the first page.
     fn pass_pages(&mut self, first_page: u64, from: PageWalk) -> PageWalk
         requires pages { AreInPages (after_walk from.walk (spans self.old)) (marks self.old) }
         requires first { first_page

@@ -27,7 +27,7 @@ pub struct Walk {
 pub struct Followed {
     pub walk: Walk,
     pub start: u64,
-    /// None of them has more capacity than this.
+    /// None of them, but the first of all spans, has more capacity than this.
     pub high: i64,
 }
 
@@ -98,8 +98,8 @@ pub(crate) fn follow_rest<S: Store, L: Ledger>(
 }
 
 /// The spans of a page follow, two steps each, as long as something is repaid. Where all of them
-/// have, and something is repaid to those before, the bound that is put is the greatest of their
-/// capacities.
+/// have, and something is repaid to those before, or none stands before, the bound that is put is
+/// the greatest of their capacities, that of the first of all spans left out.
 fn follow_page<S: Store, L: Ledger>(
     store: &mut S,
     page: u64,
@@ -123,7 +123,7 @@ fn follow_page<S: Store, L: Ledger>(
     ensures few_steps { steps.new + 2 * result.index ≤ steps.old + 2 * from.index }
 {
     let followed = store.follow_spans(from, page, steps);
-    if followed.walk.more != 0 {
+    if followed.walk.more != 0 || followed.walk.index == 0 {
         store.set_high(marks::index_of_page(page), followed.high);
     }
     followed.walk

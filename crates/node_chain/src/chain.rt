@@ -192,7 +192,7 @@ impl Chain {
             → span_at self.old.pairs i ≡ Some s → passes_on raise s ≡ true }
         ensures ended { 1 ≤ result.index → IfSome (span_at self.old.pairs result.index)
             (λ s. passes_on raise s ≡ false) }
-        ensures high { (i : ℕ) → (s : Span) → result.index ≤ i → i < from
+        ensures high { (i : ℕ) → (s : Span) → 1 ≤ i → result.index ≤ i → i < from
             → span_at self.old.pairs i ≡ Some s → spare_after raise s ≤ℤ result.high }
         ensures capacity { self.new.capacity ≡ self.old.capacity }
         ensures laps { self.new.laps ≡ self.old.laps }
@@ -206,7 +206,9 @@ impl Chain {
             steps.tick();
             steps.tick();
             self.block.set_spare(place, raise.raised(span).spare);
-            high = high.max(raise.spare_after(span));
+            if index > 0 {
+                high = high.max(raise.spare_after(span));
+            }
             if index == 0 || !raise.passes_on(span) {
                 return Raised {
                     index,

@@ -31,7 +31,8 @@ pub struct Mark {
 /// `pass_back` goes by `high` and changes both; here is what a table of spans puts.
 #[derive(Clone, Copy)]
 pub struct Lift {
-    /// No capacity of the spans that end in the pages is above this.
+    /// No capacity of the spans that end in the pages is above this, but for that of the first of
+    /// all spans.
     pub high: i64,
     /// The capacity of each of these spans is what is kept in the span and this, a sum that wraps.
     pub add: i64,

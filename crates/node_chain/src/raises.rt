@@ -27,7 +27,7 @@ pub struct Raised {
     pub start: u64,
     /// Its capacity before.
     pub spare: i64,
-    /// None of them has more capacity than this afterwards.
+    /// None of them, but the first of all spans, has more capacity than this afterwards.
     pub high: i64,
 }
 

@@ -32,7 +32,8 @@ fn fields_are_whole(rt: HostRuntime) -> Result<(), Fail> {
 }
 
 // Where so much is due at the last end that no span can give more, the pages before are told to
-// have no capacity: the next change raises them at once, and reads none of their spans.
+// have no capacity, but for that of the first of all spans: the next change raises them at once,
+// and reads none of their spans.
 #[test]
 fn pages_without_capacity_are_told(rt: HostRuntime) -> Result<(), Fail> {
     charges_last::<HostRuntime, Brand>(&rt, rt.alloc(), Blank::new(1))
@@ -47,14 +48,14 @@ fn charges_last<R: Abort, L: Ledger>(rt: &R, alloc: Global, blank: Blank) -> Res
     let mut table = ChainTable::with_room(alloc, &[span(0, 3, 1, 2)], 200, 200)?;
     assert!(rt; !has_none_to_give(&table, 3, 0));
     charge_last(&mut table, 700, &mut steps);
-    assert!(rt; has_none_to_give(&table, 0, 300) && !has_none_to_give(&table, 0, 301));
+    assert!(rt; has_none_to_give(&table, 0, 302) && !has_none_to_give(&table, 0, 303));
     charge_last(&mut table, 1, &mut steps);
-    assert!(rt; has_none_to_give(&table, 0, 301) && !has_none_to_give(&table, 0, 302));
+    assert!(rt; has_none_to_give(&table, 0, 303) && !has_none_to_give(&table, 0, 304));
     Ok(())
 }
 
-/// No span that ends in the pages of a mark is told to have any capacity, before or after so much
-/// more.
+/// No span that ends in the pages of a mark, but for the first of all, is told to have any
+/// capacity, before or after so much more.
 fn has_none_to_give(table: &ChainTable, mark_index: u32, more: i64) -> bool
     requires { mark_index < LAP }
 {

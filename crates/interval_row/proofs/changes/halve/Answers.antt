@@ -58,9 +58,6 @@ refilled-first-requires-clause-borrows_few g c =
     let h = halved g (goal.at.refilled-first-requires-clause-borrows_few g c).After-part_from in
     omega (arith, ints, h.low, h.high, h.short.length, h.within.low, ap (λ (s : Span). s.spare) c.part_from.ensures, ap (λ (s : Span). s.spare) c.lowered-second.ensures)
 
-pub insert-requires-clause-within : goal.insert-requires-clause-within
-insert-requires-clause-within g c = slice_get_within (g.S.Store.spans c.args.store.now) c.args.place.index c.args.place.span c.requires.span
-
 pub set-requires : goal.set-requires
 set-requires g c =
     let rows = g.S.Store.spans c.args.store.now in

@@ -1,4 +1,5 @@
-use Rattle.std.proofs.Common.{◌≡◌, ◌+◌, ◌-◌, ◌*◌, ◌%◌, ◌<◌, ◌≤◌, ◌∙◌, ◌≤ℤ◌, ltb, drop, take, FitsSigned, length, slice_get, ap, refl, sym, subst, arith, rules, w64, to_z, of_z}
+use Rattle.std.proofs.Common.{◌≡◌, ◌+◌, ◌-◌, ◌*◌, ◌%◌, ◌<◌, ◌≤◌, ◌∙◌, ◌≤ℤ◌, ltb, FitsSigned, length, slice_get, ap, refl, sym, subst, arith, rules, w64, to_z, of_z}
+use Rattle.std.specs.Prelude.{max}
 use Rattle.std.proofs.lemmas.Int.{ints, clamps, to_z-of_z}
 use Rattle.std.proofs.lemmas.List.Sums.{count_by-le-length}
 use Rattle.slot_core.specs.declared.jobs.Span.{Span}
@@ -6,13 +7,13 @@ use Rattle.node_chain.specs.Laps.{Laps}
 use Rattle.interval_row.specs.Changes.{ends_before}
 use Rattle.interval_row.specs.Lifts.{lifted}
 use Rattle.interval_row.specs.Spans.{AreFilled}
-use Rattle.interval_row.specs.Walks.{after_walk, HaveAtMost}
-use Rattle.interval_row.proofs.RunWalks.{come-after, come-before, drop-further, ends_before-runs, take-fewer, HaveAtMost-runs}
+use Rattle.interval_row.specs.Walks.{after_walk, others_between, HaveAtMost}
+use Rattle.interval_row.proofs.RunWalks.{come-after, come-before, drop-further, ends_before-runs, take-fewer, HaveAtMost-others}
 use Rattle.interval_row.proofs.lifted.follow_back.Goals as goal
 
 pub loop-last-init : goal.loop-last-init
 loop-last-init g c =
-    let none : c.args.from.index - c.args.from.index ≡ 0 = omega arith in
+    let none : c.args.from.index - max 1 c.args.from.index ≡ 0 = omega arith in
     record {
       spans = refl;
       within = omega arith;
@@ -77,8 +78,8 @@ loop-last-preserved g c =
     let bound = to_z-of_z w64 c.max.result top in
     let under : was.high ≤ℤ to_z w64 (of_z w64 c.max.result) = omega (arith, ints, clamps, c.max.ensures.value, bound, to_z-of_z w64 was.high was_high) in
     let over : last.high ≤ℤ to_z w64 (of_z w64 c.max.result) = omega (arith, ints, clamps, c.max.ensures.value, bound, to_z-of_z w64 last.high last_high) in
-    let run : HaveAtMost last.high (take (was.walk.index - j) (drop j (lifted lifts new))) =
-    subst (λ (l : Laps). HaveAtMost last.high (take (was.walk.index - j) (drop j (lifted l.lifts new)))) c.loop-last.invariant.laps c.follow_run-next.ensures.high in
+    let run : HaveAtMost last.high (others_between j was.walk.index (lifted lifts new)) =
+    subst (λ (l : Laps). HaveAtMost last.high (others_between j was.walk.index (lifted l.lifts new))) c.loop-last.invariant.laps c.follow_run-next.ensures.high in
     let less : j ≤ was.walk.index = omega (arith, c.follow_run-next.ensures.before) in
     record {
       spans = same;
@@ -88,7 +89,7 @@ loop-last-preserved g c =
       some = λ some late. omega (arith, low, come-after lifts last.walk last.start new are within c.follow_run-next.ensures.start y some late);
       border = λ early. come-before lifts last.walk last.start new are within c.follow_run-next.ensures.start y (omega (arith, low, low_old, c.follow_run-next.ensures.reached)) early ∙ low;
       start = λ less. c.follow_run-next.ensures.start;
-      high = HaveAtMost-runs lifts was.high last.high (to_z w64 (of_z w64 c.max.result)) j was.walk.index c.args.from.index new old less c.loop-last.invariant.within under over c.follow_run-next.ensures.rest run c.loop-last.invariant.high;
+      high = HaveAtMost-others lifts was.high last.high (to_z w64 (of_z w64 c.max.result)) j was.walk.index c.args.from.index new old c.follow_run-next.ensures.before c.loop-last.invariant.within under over c.follow_run-next.ensures.rest run c.loop-last.invariant.high;
       front = c.follow_run-next.ensures.front ∙ take-fewer j was.walk.index old first c.loop-last.invariant.front less;
       rest = drop-further was.walk.index c.args.from.index new old c.follow_run-next.ensures.rest c.loop-last.invariant.within ∙ c.loop-last.invariant.rest;
       laps = c.follow_run-next.ensures.laps ∙ c.loop-last.invariant.laps;

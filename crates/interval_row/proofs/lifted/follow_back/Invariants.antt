@@ -1,8 +1,8 @@
-use Rattle.std.proofs.Common.{◌≡◌, pos, ◌+◌, ◌-◌, ◌*◌, ◌≤◌, ◌<◌, drop, take, IfSome, slice_get}
+use Rattle.std.proofs.Common.{◌≡◌, pos, ◌+◌, ◌*◌, ◌≤◌, ◌<◌, drop, take, IfSome, slice_get}
 use Rattle.slot_core.specs.declared.jobs.Span.{Span}
 use Rattle.interval_row.specs.Changes.{ends_before}
 use Rattle.interval_row.specs.Lifts.{lifted}
-use Rattle.interval_row.specs.Walks.{after_walk, HaveAtMost}
+use Rattle.interval_row.specs.Walks.{after_walk, others_between, HaveAtMost}
 use Rattle.interval_row.proofs.lifted.follow_back.Given as goal
 
 -- the spans from this place on have followed, as a run's would; before the first turn there are none
@@ -17,7 +17,7 @@ invariant-loop-last g l = record {
   some : 0 < l.last.walk.index → l.fn.page * 64 ≤ l.last.start → ends_before (l.fn.page * 64) (g.S.Shelf.spans l.fn.shelf) < l.last.walk.index;
   border : l.last.start < l.fn.page * 64 → l.last.walk.index ≡ ends_before (l.fn.page * 64) (g.S.Shelf.spans l.fn.shelf);
   start : l.last.walk.index < l.fn.from.index → IfSome (slice_get (g.S.Shelf.spans l.shelf) l.last.walk.index) (λ (s : Span). s.start ≡ l.last.start);
-  high : HaveAtMost l.last.high (take (l.fn.from.index - l.last.walk.index) (drop l.last.walk.index (lifted (g.S.Shelf.laps l.fn.shelf).lifts (g.S.Shelf.spans l.shelf))));
+  high : HaveAtMost l.last.high (others_between l.last.walk.index l.fn.from.index (lifted (g.S.Shelf.laps l.fn.shelf).lifts (g.S.Shelf.spans l.shelf)));
   front : take l.last.walk.index (g.S.Shelf.spans l.shelf) ≡ take l.last.walk.index (g.S.Shelf.spans l.fn.shelf);
   rest : drop l.fn.from.index (g.S.Shelf.spans l.shelf) ≡ drop l.fn.from.index (g.S.Shelf.spans l.fn.shelf);
   laps : g.S.Shelf.laps l.shelf ≡ g.S.Shelf.laps l.fn.shelf;

@@ -1,4 +1,4 @@
-use Rattle.std.proofs.Common.{◌≡◌, ◌-◌, ◌*◌, ◌∙◌, ◌+ℤ◌, drop, take, IfSome, Some, FitsSigned, get_or, slice_get, ap, refl, sym, subst, arith, rules, w64, to_z, of_z}
+use Rattle.std.proofs.Common.{◌≡◌, ◌*◌, ◌∙◌, ◌+ℤ◌, IfSome, Some, FitsSigned, get_or, slice_get, ap, refl, sym, subst, arith, rules, w64, to_z, of_z}
 use Rattle.std.proofs.lemmas.Int.{ints, clamps, to_z-of_z}
 use Rattle.std.proofs.lemmas.Option.{slice_get-get_or}
 use Rattle.slot_core.specs.declared.jobs.Span.{Span}
@@ -8,7 +8,7 @@ use Rattle.node_chain.specs.declared.raises.Raise.{Raise}
 use Rattle.node_chain.specs.Raises.{spare_under}
 use Rattle.interval_row.specs.Lifts.{lifted, lifted_in}
 use Rattle.interval_row.specs.Spans.{AreFilled}
-use Rattle.interval_row.specs.Walks.{walked, HaveAtMost}
+use Rattle.interval_row.specs.Walks.{others_between, walked, HaveAtMost}
 use Rattle.interval_row.proofs.RunWalks.{first-of-run, follows-lifted, repaid_by, FollowsRun, IsRun, IsRun-follows, IsRun-reached, IsRun-spare, IsRun-up, IsRun-within}
 use Rattle.interval_row.proofs.lifted.follow_run.Given.{Over}
 use Rattle.interval_row.proofs.lifted.follow_run.Goals as goal
@@ -146,5 +146,5 @@ returns-clause-high g c =
     let n = c.args.from.index in
     let high : FitsSigned w64 c.raise_back-raised.result.high = search rules in
     let up = IsRun-up lifts c.args.page c.args.lift (raise g w) k n rows (is g w) c.raise_back-raised.result.high c.raise_back-raised.ensures.high in
-    subst (λ h. HaveAtMost h (take (n - k) (drop k (lifted lifts (g.S.Shelf.spans c.raise_back-raised.new.self))))) (sym (to_z-of_z w64 c.raise_back-raised.result.high high))
-    (subst (λ xs. HaveAtMost c.raise_back-raised.result.high (take (n - k) (drop k (lifted lifts xs)))) (sym c.raise_back-raised.ensures.spans) up)
+    subst (λ h. HaveAtMost h (others_between k n (lifted lifts (g.S.Shelf.spans c.raise_back-raised.new.self)))) (sym (to_z-of_z w64 c.raise_back-raised.result.high high))
+    (subst (λ xs. HaveAtMost c.raise_back-raised.result.high (others_between k n (lifted lifts xs))) (sym c.raise_back-raised.ensures.spans) up)

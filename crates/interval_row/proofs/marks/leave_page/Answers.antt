@@ -1,18 +1,19 @@
-use Rattle.std.proofs.Common.{◌≡◌, ◌+◌, ◌*◌, cond, ap, set, slice_get, Some, sym, subst, ◌∙◌, negsuc}
+use Rattle.std.proofs.Common.{◌≡◌, ◌+◌, ◌*◌, cond, ap, drop, set, slice_get, Some, sym, subst, ◌∙◌, negsuc}
 use Rattle.std.proofs.lemmas.Bool.{ne_eqb}
 use Rattle.std.proofs.lemmas.List.{set-get_or}
 use Rattle.std.proofs.lemmas.Option.{get_or_from_slice_get}
 use Rattle.node_chain.specs.Laps.{blank_mark}
 use Rattle.interval_row.specs.Lifts.{AreAtMost}
 use Rattle.interval_row.specs.Marks.{mark_index, page_of, passed}
-use Rattle.interval_row.proofs.LiftedSpans.{AreAtMost-none}
+use Rattle.interval_row.proofs.LiftedSpans.{AreAtMost-drop, AreAtMost-none}
 use Rattle.interval_row.proofs.marks.leave_page.Goals as goal
 
 pub set_high-requires-clause-below : goal.set_high-requires-clause-below
 set_high-requires-clause-below g c =
     let own = c.requires.marked.each c.mark_index-index.result c.mark-mark.result c.mark-mark.ensures in
-    subst (AreAtMost c.mark_index-index.result (negsuc 9223372036854775807)) (sym c.set_mark.ensures.spans)
-    (AreAtMost-none c.mark_index-index.result (negsuc 9223372036854775807) (g.S.Store.spans c.args.store.now) (sym own.count ∙ c.if-mark-eq0.true))
+    let none = AreAtMost-none c.mark_index-index.result (negsuc 9223372036854775807) (g.S.Store.spans c.args.store.now) (sym own.count ∙ c.if-mark-eq0.true) in
+    subst (λ spans. AreAtMost c.mark_index-index.result (negsuc 9223372036854775807) (drop 1 spans)) (sym c.set_mark.ensures.spans)
+    (AreAtMost-drop c.mark_index-index.result (negsuc 9223372036854775807) (g.S.Store.spans c.args.store.now) none)
 
 pub returns-else-mark-eq0-clause-marks : goal.returns-else-mark-eq0-clause-marks
 returns-else-mark-eq0-clause-marks g c =

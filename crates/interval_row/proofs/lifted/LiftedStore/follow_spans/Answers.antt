@@ -9,9 +9,9 @@ use Rattle.interval_row.specs.Lifts.{lifted}
 use Rattle.interval_row.specs.Marks.{mark_index}
 use Rattle.interval_row.specs.Spans.{AreFilled}
 use Rattle.interval_row.specs.Stores.{StoreParts}
-use Rattle.interval_row.specs.Walks.{after_walk, HaveAtMost}
+use Rattle.interval_row.specs.Walks.{after_walk, others_between, HaveAtMost}
 use Rattle.interval_row.proofs.LiftedSpans.{lifted-same}
-use Rattle.interval_row.proofs.RunWalks.{ends_before-lifted, ends_before-runs, in-walk, start-lifted, take-lifted, AreCovered-runs}
+use Rattle.interval_row.proofs.RunWalks.{ends_before-lifted, ends_before-runs, in-walk, start-lifted, take-lifted, AreCovered-others}
 use Rattle.interval_row.proofs.lifted.LiftedStore.follow_spans.Given.{Over}
 use Rattle.interval_row.proofs.lifted.LiftedStore.follow_spans.Goals as goal
 use Rattle.interval_row.proofs.lifted.LiftedStore.follow_spans.Goals.{After-set_lift}
@@ -58,7 +58,7 @@ invariant_of-self g c =
     let high : n ≤ ends_before ((c.args.page + 1) * 64) rows = omega (arith, c.requires.place, count ((c.args.page + 1) * 64)) in
     let own = in-walk lifts followed.walk c.args.from c.args.page new rows are c.follow_back-followed.ensures.spans low c.follow_back-followed.ensures.reached high in
     let mark : AllByRecursion (λ (s : Span). mark_index s.end ≡ j) (take (n - k) (drop k new)) = rw c.index_of_page-index.ensures own in
-    rw (laps g w, c.set_lift.ensures.spans) (AreCovered-runs lifts j was c.lift-lift.ensures (lift g w) refl followed.high k n new rows more over low c.self.invariant mark c.follow_back-followed.ensures.high c.follow_back-followed.ensures.front c.follow_back-followed.ensures.rest)
+    rw (laps g w, c.set_lift.ensures.spans) (AreCovered-others lifts j was c.lift-lift.ensures (lift g w) refl followed.high k n new rows more over c.follow_back-followed.ensures.before c.self.invariant mark c.follow_back-followed.ensures.high c.follow_back-followed.ensures.front c.follow_back-followed.ensures.rest)
 
 pub returns-clause-spans : goal.returns-clause-spans
 returns-clause-spans g c =
@@ -88,7 +88,7 @@ pub returns-clause-high : goal.returns-clause-high
 returns-clause-high g c =
     let w = (goal.at.returns-clause-high g c).After-set_lift in
     let followed = c.follow_back-followed.result in
-    subst (λ xs. HaveAtMost followed.high (take (c.args.from.index - followed.walk.index) (drop followed.walk.index xs))) (sym (now g w)) c.follow_back-followed.ensures.high
+    subst (λ xs. HaveAtMost followed.high (others_between followed.walk.index c.args.from.index xs)) (sym (now g w)) c.follow_back-followed.ensures.high
 
 pub returns-clause-front : goal.returns-clause-front
 returns-clause-front g c =

@@ -1,4 +1,4 @@
-use Rattle.std.proofs.Common.{◌≡◌, ◌*◌, ◌≤◌, take}
+use Rattle.std.proofs.Common.{◌≡◌, ◌*◌, ◌≤◌, drop, take}
 use Rattle.interval_row.specs.Changes.{ends_before}
 use Rattle.interval_row.specs.Lifts.{lifted, AreCovered}
 use Rattle.interval_row.specs.Walks.{after_walk}
@@ -17,7 +17,7 @@ invariant-loop-last g l =
       last : l.last.page ≤ l.fn.from.page;
       before : l.last.walk.index ≤ l.fn.from.walk.index;
       front : take l.last.walk.index (lifted (g.S.Shelf.laps shelf).lifts kept) ≡ take l.last.walk.index l.fn.self.spans;
-      covered : AreCovered (g.S.Shelf.laps shelf).lifts kept;
+      covered : AreCovered (g.S.Shelf.laps shelf).lifts (drop 1 kept);
       room : g.S.Shelf.room shelf ≡ l.fn.self.room;
       marks : (g.S.Shelf.laps shelf).marks ≡ l.fn.self.marks;
     }
