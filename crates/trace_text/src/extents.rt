@@ -162,7 +162,8 @@ impl ExtentCell {
         ensures length { result ≡ length line.new }
         ensures short { length line.new ≤ length line.old + SPAN_LIMIT }
     {
-        line.push_blocks(len, self.bytes, self.len, spare.bytes, spare.len)
+        let middle = line.push_block_at(len, self.bytes, self.len);
+        line.push_block_at(middle, spare.bytes, spare.len)
     }
 
     /// Appends the extent of the span, and keeps its text.

@@ -75,30 +75,24 @@ impl Line {
         self.len = start + count;
     }
 
-    /// Appends the first `count` bytes of one block and then the first `more` of another, for all
-    /// of which there is room, to a line of this length. Returns its length afterwards, so that who
-    /// appends many has no need to read it from the line each time.
+    /// The same, to a line of this length. Returns its length afterwards, so that who appends many
+    /// has no need to read it from the line each time.
     #[inline]
-    pub(crate) fn push_blocks<const N: usize, const M: usize>(
+    pub(crate) fn push_block_at<const N: usize>(
         &mut self,
         len: usize,
-        first: [u8; N],
+        block: [u8; N],
         count: usize,
-        second: [u8; M],
-        more: usize,
     ) -> usize
         requires length { len ≡ length self.old }
-        requires first { count ≤ N }
-        requires second { more ≤ M }
-        requires room { length self.old + N + M ≤ LINE_LIMIT }
-        ensures text { self.new ≡ self.old ++ take count first.entry ++ take more second.entry }
+        requires counted { count ≤ N }
+        requires room { length self.old + N ≤ LINE_LIMIT }
+        ensures text { self.new ≡ self.old ++ take count block.entry }
         ensures length { result ≡ length self.new }
     {
-        let middle = len + count;
-        self.bytes[len..len + N].copy_from_slice(&first);
-        self.bytes[middle..middle + M].copy_from_slice(&second);
-        self.len = middle + more;
-        middle + more
+        self.bytes[len..len + N].copy_from_slice(&block);
+        self.len = len + count;
+        len + count
     }
 
     /// Appends the number in decimal digits.
