@@ -499,6 +499,7 @@ impl<T: SpareTable> Exec<T> {
             room,
             steps,
         );
+        *what = chosen.told();
         let count = self.table.count();
         let stay = run(
             chosen,
@@ -512,7 +513,6 @@ impl<T: SpareTable> Exec<T> {
         self.free = room.free;
         self.tight = room.tight;
         self.due = room.due;
-        *what = chosen.told();
         stay & !turned & (self.table.count() == count)
     }
 }
