@@ -3,6 +3,7 @@
 #![tactic(auto)]
 
 ghost use Rattle.std.specs.Prelude.{◌≡◌, ◌≢◌, ◌⊎◌, ◌≤◌, ◌<◌, ◌+◌, ◌^◌, ◌-◌, [], ◌∷◌, true, false, length, slice_get, OnErr, OnOk, IfOk, IfSome, Some};
+ghost use Rattle.std.specs.Option.{option_copied};
 ghost use Rattle.std.specs.Io.KnownBytes.{Appends};
 ghost use Rattle.slot_core.specs.declared.TheConstants.{REPLAY_LIMIT};
 ghost use Rattle.slot_core.specs.declared.events.Arrival.{Arrival};
@@ -230,7 +231,7 @@ fn tell_answer<T: SpareTable, K: Sink, L: Ledger>(
     let mut steps: Steps<L> = Steps::new(blank);
     let time = exec.now();
     let mut what = What::Idle;
-    answer(exec, arrival, &mut what, &mut steps);
+    answer(exec, &arrival, &mut what, &mut steps);
     tell_line(exec, time, what, out, &mut steps)?;
     Ok(what)
 }
@@ -324,11 +325,11 @@ fn is_on_the_way(time: u64, arrivals: &[Arrival], slots: u64, place: usize, next
 
 /// The arrival at this place, where it is due at this time.
 #[inline(always)]
-fn due_arrival(arrivals: &[Arrival], place: usize, time: u64) -> Option<Arrival>
-    ensures { result ≡ due_arrival arrivals.now place time }
+fn due_arrival(arrivals: &[Arrival], place: usize, time: u64) -> Option<&Arrival>
+    ensures { option_copied result ≡ due_arrival arrivals.now place time }
 {
     match arrivals.get(place) {
-        Some(arrival) if arrival.slot == time => Some(*arrival),
+        Some(arrival) if arrival.slot == time => Some(arrival),
         _ => None,
     }
 }
@@ -349,7 +350,7 @@ pub fn happen<T: SpareTable, L: Ledger>(
     match due {
         Some(arrival) => {
             let mut what = What::Idle;
-            answer(exec, arrival, &mut what, steps);
+            answer(exec, &arrival, &mut what, steps);
             what
         }
         None => match exec.slot(steps) {
@@ -375,16 +376,21 @@ enum Stay {
 #[inline(always)]
 fn happen_in<T: SpareTable, L: Ledger>(
     exec: &mut Exec<T>,
-    due: Option<Arrival>,
+    due: Option<&Arrival>,
     entry: &mut Entry,
     steps: &mut Steps<L>,
 ) -> Stay
     requires early { exec.old.scene.time < 2 ^ 32 }
-    requires later { IfSome due (λ a. exec.old.last_row < a.row) }
-    requires may_come { IfSome due (λ a. event_may_come exec.old.plan.tasks a.event ≡ true) }
+    requires later { IfSome (option_copied due) (λ a. exec.old.last_row < a.row) }
+    requires may_come { IfSome (option_copied due)
+        (λ a. event_may_come exec.old.plan.tasks a.event ≡ true) }
     requires shown { (h : History) × StandsFor exec.old h × (entry.old.shown
         ≡ shown_of exec.old.plan.cycle (scene_of exec.old.plan.tasks exec.old.plan.cycle h)) }
-    ensures does { Does exec.old exec.new (next_occurrence due) entry.new.what }
+    ensures does { Does
+        exec.old
+        exec.new
+        (next_occurrence (option_copied due.entry))
+        entry.new.what }
     ensures shown { (h : History) → StandsFor exec.old h → entry.old.shown
         ≡ shown_of exec.old.plan.cycle (scene_of exec.old.plan.tasks exec.old.plan.cycle h)
         → entry.new.shown
@@ -412,13 +418,13 @@ fn happen_in<T: SpareTable, L: Ledger>(
 /// The executive answers an arrival, which is told in this place.
 fn answer<T: SpareTable, L: Ledger>(
     exec: &mut Exec<T>,
-    arrival: Arrival,
+    arrival: &Arrival,
     what: &mut What,
     steps: &mut Steps<L>,
 )
-    requires later { exec.old.last_row < arrival.row }
-    requires may_come { event_may_come exec.old.plan.tasks arrival.event ≡ true }
-    ensures does { Does exec.old exec.new (arrive arrival.row arrival.event) what.new }
+    requires later { exec.old.last_row < arrival.now.row }
+    requires may_come { event_may_come exec.old.plan.tasks arrival.now.event ≡ true }
+    ensures does { Does exec.old exec.new (arrive arrival.now.row arrival.now.event) what.new }
 {
     let row = arrival.row;
     match arrival.event {

@@ -1,5 +1,10 @@
 -- What is told is to be told, so the replay goes on, ends, or breaks off.
-use Rattle.std.proofs.Common.{◌≡◌, ◌≤◌, true, false, [], ◌∷◌, ◌++◌, length, drop, sym, subst, ◌∙◌, inr, arith}
+use Rattle.std.proofs.Common.{◌≡◌, ◌≤◌, true, false, [], ◌∷◌, ◌++◌, length, drop, refl, sym, subst, ◌∙◌, inr, arith}
+use Rattle.std.specs.Option.{is_some, option_copied}
+use Rattle.std.specs.declared.option.Option.{Option}
+use Rattle.std.specs.declared.option.Option.TheVariants.{None, Some}
+use denote.Bor.{Bor}
+use Rattle.slot_core.specs.declared.events.Arrival.{Arrival}
 use Rattle.std.specs.Prelude.{slice_get}
 use Rattle.slot_core.specs.declared.events.What.TheVariants.{Start}
 use Rattle.slot_core.specs.Keeping.Plans.{PlanParts}
@@ -59,14 +64,14 @@ happen_in-stay-requires-clause-later g c =
     let exec = c.args.exec.now in
     let set = exec.plan.tasks in
     let l = c.loop-entry in
-    due-later (TookShown (g.W.Taker.took set c.args.taker.now l.taker) exec.plan l.entry.shown) exec.plan l.exec (trace set c.args.arrivals.now c.args.slots) c.args.slots l.next c.now-time.result c.args.arrivals.now l.invariant.under_way c.now-time.ensures.time c.requires.fitting l.invariant.last c.due_arrival-due.result c.due_arrival-due.ensures
+    due-later (TookShown (g.W.Taker.took set c.args.taker.now l.taker) exec.plan l.entry.shown) exec.plan l.exec (trace set c.args.arrivals.now c.args.slots) c.args.slots l.next c.now-time.result c.args.arrivals.now l.invariant.under_way c.now-time.ensures.time c.requires.fitting l.invariant.last (option_copied c.due_arrival-due.result) c.due_arrival-due.ensures
 
 pub happen_in-stay-requires-clause-may_come : goal.happen_in-stay-requires-clause-may_come
 happen_in-stay-requires-clause-may_come g c =
     let exec = c.args.exec.now in
     let set = exec.plan.tasks in
     let l = c.loop-entry in
-    due-may_come (TookShown (g.W.Taker.took set c.args.taker.now l.taker) exec.plan l.entry.shown) exec.plan l.exec (trace set c.args.arrivals.now c.args.slots) c.args.slots l.next c.now-time.result c.args.arrivals.now l.invariant.under_way c.now-time.ensures.time c.requires.fitting l.invariant.last c.due_arrival-due.result c.due_arrival-due.ensures
+    due-may_come (TookShown (g.W.Taker.took set c.args.taker.now l.taker) exec.plan l.entry.shown) exec.plan l.exec (trace set c.args.arrivals.now c.args.slots) c.args.slots l.next c.now-time.result c.args.arrivals.now l.invariant.under_way c.now-time.ensures.time c.requires.fitting l.invariant.last (option_copied c.due_arrival-due.result) c.due_arrival-due.ensures
 
 -- the spans of the last entry are those before what happens
 pub happen_in-stay-requires-clause-shown : goal.happen_in-stay-requires-clause-shown
@@ -81,26 +86,32 @@ tell-requires-in-loop-entry-clause-named g c =
     let exec = c.args.exec.now in
     let set = exec.plan.tasks in
     let l = c.loop-entry in
-    happened-named (TookShown (g.W.Taker.took set c.args.taker.now l.taker) exec.plan l.entry.shown) exec.plan l.exec (trace set c.args.arrivals.now c.args.slots) c.args.slots l.next c.now-time.result c.args.arrivals.now l.invariant.under_way c.now-time.ensures.time c.requires.fitting l.invariant.last c.happen_in-stay.new.exec c.due_arrival-due.result c.happen_in-stay.new.entry.what c.now.ensures.kept.plan c.due_arrival-due.ensures c.happen_in-stay.ensures.does
+    happened-named (TookShown (g.W.Taker.took set c.args.taker.now l.taker) exec.plan l.entry.shown) exec.plan l.exec (trace set c.args.arrivals.now c.args.slots) c.args.slots l.next c.now-time.result c.args.arrivals.now l.invariant.under_way c.now-time.ensures.time c.requires.fitting l.invariant.last c.happen_in-stay.new.exec (option_copied c.due_arrival-due.result) c.happen_in-stay.new.entry.what c.now.ensures.kept.plan c.due_arrival-due.ensures c.happen_in-stay.ensures.does
 
 -- what happened is not the end
 pub tell-requires-in-loop-entry-clause-some : goal.tell-requires-in-loop-entry-clause-some
 tell-requires-in-loop-entry-clause-some g c =
-    done-some c.loop-entry.exec c.happen_in-stay.new.exec (next_occurrence c.due_arrival-due.result) c.happen_in-stay.new.entry.what c.happen_in-stay.ensures.does
+    done-some c.loop-entry.exec c.happen_in-stay.new.exec (next_occurrence (option_copied c.due_arrival-due.result)) c.happen_in-stay.new.entry.what c.happen_in-stay.ensures.does
 
 -- the spans that stay are those of the last entry, of which the text is kept
 pub tell-requires-in-loop-entry-clause-kept : goal.tell-requires-in-loop-entry-clause-kept
 tell-requires-in-loop-entry-clause-kept g c =
     inr (c.loop-entry.entry.shown, c.happen_in-stay.ensures.stay, c.loop-entry.invariant.keeps)
 
+-- there is a copy where there is what is copied
+is_some-copied : (due : Option (Bor Arrival)) → is_some (option_copied due) ≡ is_some due
+is_some-copied None = refl
+is_some-copied (Some a) = refl
+
 -- the next place is that after what is due
-next_place : (g : Over) (c : After-happen_in-stay g) → place_after c.due_arrival-due.result c.loop-entry.next ≡ c.if-is_some.next
+next_place : (g : Over) (c : After-happen_in-stay g) → place_after (option_copied c.due_arrival-due.result) c.loop-entry.next ≡ c.if-is_some.next
 next_place g c =
-    let due = c.due_arrival-due.result in
+    let due = (option_copied c.due_arrival-due.result) in
     let next = c.loop-entry.next in
+    let there = is_some-copied c.due_arrival-due.result in
     elim c.if-is_some.branch [
-      | then-is_some w ↦ place_after-some due next (sym c.is_some.ensures ∙ w.if-is_some.true) ∙ sym w.next-is
-      | else-is_some w ↦ place_after-none due next (sym c.is_some.ensures ∙ w.if-is_some.false) ∙ sym w.next-is
+      | then-is_some w ↦ place_after-some due next (there ∙ sym c.is_some.ensures ∙ w.if-is_some.true) ∙ sym w.next-is
+      | else-is_some w ↦ place_after-none due next (there ∙ sym c.is_some.ensures ∙ w.if-is_some.false) ∙ sym w.next-is
     ]
 
 -- the replay was on the way
@@ -120,7 +131,7 @@ happened g c =
     let whole = trace plan.tasks arrivals n in
     let after = c.happen_in-stay.new.exec in
     let time = c.now-time.result in
-    let due = c.due_arrival-due.result in
+    let due = (option_copied c.due_arrival-due.result) in
     let t = IsToTell-happened took plan l.exec whole n l.next time arrivals l.invariant.under_way c.now-time.ensures.time c.requires.fitting l.invariant.last after due c.happen_in-stay.new.entry.what c.due_arrival-due.ensures (on_the_way-early arrivals n c.args.place l.next time (on_the_way g c)) c.happen_in-stay.ensures.does in
     subst (λ k. IsToTell (TookStood took l.exec) plan after whole n (drop k arrivals) time c.happen_in-stay.new.entry.what) (next_place g c) t
 
@@ -130,13 +141,13 @@ last_happened g c =
     let exec = c.args.exec.now in
     let l = c.loop-entry in
     let took = TookShown (g.W.Taker.took exec.plan.tasks c.args.taker.now l.taker) exec.plan l.entry.shown in
-    last-happened took exec.plan l.exec (trace exec.plan.tasks c.args.arrivals.now c.args.slots) c.args.slots l.next c.now-time.result c.args.arrivals.now l.invariant.under_way c.now-time.ensures.time c.requires.fitting l.invariant.last c.happen_in-stay.new.exec c.due_arrival-due.result c.happen_in-stay.new.entry.what c.due_arrival-due.ensures c.happen_in-stay.ensures.does
+    last-happened took exec.plan l.exec (trace exec.plan.tasks c.args.arrivals.now c.args.slots) c.args.slots l.next c.now-time.result c.args.arrivals.now l.invariant.under_way c.now-time.ensures.time c.requires.fitting l.invariant.last c.happen_in-stay.new.exec (option_copied c.due_arrival-due.result) c.happen_in-stay.new.entry.what c.due_arrival-due.ensures c.happen_in-stay.ensures.does
     ∙ next_place g c
 
 -- it does not pass the place
 next_within : (g : Over) (c : After-happen_in-stay g) → c.if-is_some.next ≤ c.args.place
 next_within g c =
-    let within = place_after-within c.args.arrivals.now c.args.slots c.args.place c.loop-entry.next c.now-time.result c.due_arrival-due.result c.due_arrival-due.ensures (on_the_way g c) c.loop-entry.invariant.within in
+    let within = place_after-within c.args.arrivals.now c.args.slots c.args.place c.loop-entry.next c.now-time.result (option_copied c.due_arrival-due.result) c.due_arrival-due.ensures (on_the_way g c) c.loop-entry.invariant.within in
     subst (λ k. k ≤ c.args.place) (next_place g c) within
 
 pub loop-entry-smaller : goal.loop-entry-smaller
@@ -148,7 +159,7 @@ loop-entry-smaller g c =
     let arrivals = c.args.arrivals.now in
     let took = TookShown (g.W.Taker.took plan.tasks c.args.taker.now l.taker) plan l.entry.shown in
     let whole = trace plan.tasks arrivals n in
-    let due = c.due_arrival-due.result in
+    let due = (option_copied c.due_arrival-due.result) in
     let time = c.now-time.result in
     let later = time-happened took plan l.exec whole n l.next time arrivals l.invariant.under_way c.now-time.ensures.time c.requires.fitting l.invariant.last c.happen_in-stay.new.exec due c.happen_in-stay.new.entry.what c.happen_in-stay.ensures.does in
     let within : place_after due l.next ≤ length arrivals = omega (arith, next_place g o, next_within g o, c.requires.place) in

@@ -10,7 +10,7 @@ pub returns-in-Some-clause-shown : goal.returns-in-Some-clause-shown
 returns-in-Some-clause-shown g c = λ h stands shown.
     let exec = c.args.exec.now in
     let plan = exec.plan in
-    let a = c.in-Some.arrival in
+    let a = c.in-Some.arrival.now in
     let last = c.renew.new.entry in
     let answered = shown-answered exec c.answer.new.exec (arrive a.row a.event) c.answer.new.what c.args.entry.now.shown last.shown h c.answer.ensures.does c.renew.ensures.read c.renew.ensures.kept stands shown in
     subst (λ w. last.shown ≡ shown_of plan.cycle (scene_of plan.tasks plan.cycle (w ∷ h))) (sym c.renew.ensures.what) answered
