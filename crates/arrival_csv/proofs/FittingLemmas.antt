@@ -12,8 +12,8 @@ use Rattle.slot_core.specs.declared.tasks.Sporadic.{Sporadic}
 use Rattle.slot_core.specs.declared.tasks.TaskSet.{TaskSet}
 use Rattle.slot_core.specs.Runs.Arrivals.{event_fits, arrivals_follow, are_fitting}
 use Rattle.slot_core.specs.Calls.Results.{◌>>=◌}
-use Rattle.arrival_faults.specs.declared.faults.ArrivalFault.{ArrivalFault}
-use Rattle.arrival_faults.specs.declared.faults.ArrivalFault.TheVariants.{UnknownKind, BadNumber, UnknownSporadic, BadKey}
+use Rattle.faults.specs.declared.arrival_fault.ArrivalFault.{ArrivalFault}
+use Rattle.faults.specs.declared.arrival_fault.ArrivalFault.TheVariants.{UnknownKind, BadNumber, UnknownSporadic, BadKey}
 use Rattle.arrival_csv.specs.declared.kinds.Kind.{Kind}
 use Rattle.arrival_csv.specs.declared.kinds.Kind.TheVariants.{Soft, Firm, Sporadic as SporadicKind, Done, Withdraw}
 use Rattle.key_texts.specs.KeyTexts.{key_of_text, sporadic_named}

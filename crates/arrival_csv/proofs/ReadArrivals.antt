@@ -5,7 +5,7 @@ use Rattle.csv.specs.Reading.{records, default_config, strip_bom}
 use Rattle.slot_core.specs.declared.events.Arrival.{Arrival}
 use Rattle.slot_core.specs.declared.tasks.TaskSet.{TaskSet}
 use Rattle.slot_core.specs.Runs.Arrivals.{are_fitting}
-use Rattle.arrival_faults.specs.declared.faults.ArrivalFault.{ArrivalFault}
+use Rattle.faults.specs.declared.arrival_fault.ArrivalFault.{ArrivalFault}
 use Rattle.arrival_csv.specs.Reading.{AnswersAs, reading_of_arrivals}
 use Rattle.arrival_csv.proofs.FittingLemmas.{are_fitting-from_reading}
 

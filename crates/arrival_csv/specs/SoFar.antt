@@ -3,8 +3,8 @@ use Rattle.std.specs.Prelude.{◌≡◌, ⊤, ◌≢◌, MatchResult, ℕ, List,
 use Rattle.slot_core.specs.declared.events.Arrival.{Arrival}
 use Rattle.slot_core.specs.declared.tasks.TaskSet.{TaskSet}
 use Rattle.slot_core.specs.Calls.Results.{◌>>=◌}
-use Rattle.arrival_faults.specs.declared.faults.ArrivalFault.{ArrivalFault}
-use Rattle.arrival_faults.specs.declared.faults.ArrivalFault.TheVariants.{Memory}
+use Rattle.faults.specs.declared.arrival_fault.ArrivalFault.{ArrivalFault}
+use Rattle.faults.specs.declared.arrival_fault.ArrivalFault.TheVariants.{Memory}
 use Rattle.arrival_csv.specs.declared.so_far.SoFar.{SoFar}
 use Rattle.arrival_csv.specs.Reading.{Read, arrivals_from}
 

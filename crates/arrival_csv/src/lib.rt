@@ -7,7 +7,7 @@ ghost use Rattle.slot_core.specs.declared.TheConstants.{REPLAY_LIMIT};
 ghost use Rattle.slot_core.specs.Runs.Arrivals.{are_fitting};
 ghost use Rattle.slot_core.specs.Sets.Ranges.{is_sound};
 ghost use Rattle.arrival_csv.specs.Reading.{AnswersAs, reading_of_arrivals};
-ghost use Rattle.arrival_faults.specs.declared.faults.ArrivalFault.TheVariants.{Memory};
+ghost use Rattle.faults.specs.declared.arrival_fault.ArrivalFault.TheVariants.{Memory};
 
 mod kinds;
 mod plain;
@@ -17,8 +17,8 @@ mod row;
 mod rows;
 mod so_far;
 
-pub use arrival_faults::ArrivalFault;
 use csv::ByteRecord;
+pub use faults::ArrivalFault;
 pub use kinds::Kind;
 use plain::{after_empty_lines, is_unmarked};
 use quick::quick_row;

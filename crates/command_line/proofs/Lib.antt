@@ -1,2 +1,4 @@
 pub mod CommandLemmas
+pub mod JoinedTexts
 pub mod NumberLemmas
+pub mod PartWritings

@@ -6,25 +6,25 @@ use Rattle.std.specs.Option.{option_map_or}
 use Rattle.std.specs.Str.{bytes_eq}
 use Rattle.std.specs.Str.Parse.{digits_value}
 use Rattle.slot_core.specs.declared.TheConstants.{ARRIVAL_LIMIT, CHART_LIMIT, LOAD_LIMIT, REPLAY_LIMIT}
-use Rattle.run_outcome.specs.Refusals.{word_at}
-use Rattle.run_outcome.specs.declared.file.File.{File}
-use Rattle.run_outcome.specs.declared.file.File.TheVariants.{Tasks as TaskFile, Table as TableFile, Second as SecondFile, Arrivals as ArrivalsFile, Trace as TraceFile}
+use Rattle.command_line.specs.Refusals.{word_at}
+use Rattle.command_line.specs.declared.file.File.{File}
+use Rattle.command_line.specs.declared.file.File.TheVariants.{Tasks as TaskFile, Table as TableFile, Second as SecondFile, Arrivals as ArrivalsFile, Trace as TraceFile}
 use Rattle.command_line.specs.declared.TheConstants.{LOAD_SLOTS, WORD_DIGIT_LIMIT}
-use Rattle.command_line.specs.declared.Arrivals.{Arrivals}
-use Rattle.command_line.specs.declared.Arrivals.TheVariants.{Absent, Recorded, Generated}
-use Rattle.command_line.specs.declared.Command.{Command}
-use Rattle.command_line.specs.declared.Output.{Output}
-use Rattle.command_line.specs.declared.Output.TheVariants.{OfPlan, OfRun, Change}
-use Rattle.command_line.specs.declared.PlanOutput.{PlanOutput}
-use Rattle.command_line.specs.declared.PlanOutput.TheVariants.{Counts, Table, Listing, Margins, Lines}
-use Rattle.command_line.specs.declared.RunOutput.{RunOutput}
-use Rattle.command_line.specs.declared.RunOutput.TheVariants.{Trace, Chart, Tally, Explanation}
-use Rattle.command_line.specs.declared.Check.{Check}
-use Rattle.command_line.specs.declared.Check.TheVariants.{Unchecked, Verified, HasRow, AtCycleEnd}
-use Rattle.command_line.specs.declared.Second.{Second}
-use Rattle.command_line.specs.declared.Second.TheVariants.{Unread, Read}
-use Rattle.command_line.specs.declared.Source.{Source}
-use Rattle.command_line.specs.declared.Source.TheVariants.{Tasks, Spelled, Load}
+use Rattle.command_line.specs.declared.commands.Arrivals.{Arrivals}
+use Rattle.command_line.specs.declared.commands.Arrivals.TheVariants.{Absent, Recorded, Generated}
+use Rattle.command_line.specs.declared.commands.Command.{Command}
+use Rattle.command_line.specs.declared.commands.Output.{Output}
+use Rattle.command_line.specs.declared.commands.Output.TheVariants.{OfPlan, OfRun, Change}
+use Rattle.command_line.specs.declared.commands.PlanOutput.{PlanOutput}
+use Rattle.command_line.specs.declared.commands.PlanOutput.TheVariants.{Counts, Table, Listing, Margins, Lines}
+use Rattle.command_line.specs.declared.commands.RunOutput.{RunOutput}
+use Rattle.command_line.specs.declared.commands.RunOutput.TheVariants.{Trace, Chart, Tally, Explanation}
+use Rattle.command_line.specs.declared.commands.Check.{Check}
+use Rattle.command_line.specs.declared.commands.Check.TheVariants.{Unchecked, Verified, HasRow, AtCycleEnd}
+use Rattle.command_line.specs.declared.commands.Second.{Second}
+use Rattle.command_line.specs.declared.commands.Second.TheVariants.{Unread, Read}
+use Rattle.command_line.specs.declared.commands.Source.{Source}
+use Rattle.command_line.specs.declared.commands.Source.TheVariants.{Tasks, Spelled, Load}
 
 -- one decimal digit up to the limit of digits, of which the first is not 0
 abbrev pub is_positive_number : List ℕ → Bool

@@ -1,1 +1,5 @@
 pub mod Commands
+pub mod Refusals
+pub mod Reports
+pub mod Statuses
+pub mod Writings

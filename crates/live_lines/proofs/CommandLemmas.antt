@@ -20,7 +20,7 @@ use Rattle.arrival_csv.proofs.FittingLemmas.{event_of-fits}
 use Rattle.live_lines.specs.Commands.{Asked, command_of_text, command_of_two, command_of_word, event_of_fields, fields_of, fits_set}
 use Rattle.live_lines.specs.FaultTexts.{line_fault}
 use Rattle.live_lines.specs.declared.commands.LiveCommand.TheVariants.{Arrive, Pass}
-use Rattle.live_lines.specs.declared.faults.LineFault.TheVariants.{NoCommand, BadNumber}
+use Rattle.live_lines.specs.declared.line_fault.LineFault.TheVariants.{NoCommand, BadNumber}
 
 -- the test for text that answers by a result is the test
 pub is_ok-is_utf8 : {X E : Type 0} (P : X → Type 0) (Q : E → Type 0) (r : Result X E) (bytes : List ℕ)

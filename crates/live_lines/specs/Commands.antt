@@ -16,8 +16,8 @@ use Rattle.arrival_csv.specs.Kinds.{kind_of}
 use Rattle.arrival_csv.specs.Reading.{Read, event_of}
 use Rattle.live_lines.specs.declared.commands.LiveCommand.{LiveCommand}
 use Rattle.live_lines.specs.declared.commands.LiveCommand.TheVariants.{Arrive, Pass, End}
-use Rattle.live_lines.specs.declared.faults.LineFault.{LineFault}
-use Rattle.live_lines.specs.declared.faults.LineFault.TheVariants.{NoCommand, BadNumber, NotUtf8}
+use Rattle.live_lines.specs.declared.line_fault.LineFault.{LineFault}
+use Rattle.live_lines.specs.declared.line_fault.LineFault.TheVariants.{NoCommand, BadNumber, NotUtf8}
 use Rattle.live_lines.specs.FaultTexts.{line_fault}
 
 -- a command, or the fault of the line

@@ -1,10 +1,10 @@
 -- The faults of lines, and their texts.
 use Rattle.std.specs.Prelude.{ℕ, ◌-◌, List, [], ◌∷◌, ◌++◌, codes}
 use Rattle.slot_core.specs.Output.Texts.{worded}
-use Rattle.arrival_faults.specs.declared.faults.ArrivalFault.{ArrivalFault}
-use Rattle.arrival_faults.specs.declared.faults.ArrivalFault.TheVariants.{BadNumber as BadField, UnknownSporadic as UnknownName, BadKey as BadKeyField}
-use Rattle.live_lines.specs.declared.faults.LineFault.{LineFault}
-use Rattle.live_lines.specs.declared.faults.LineFault.TheVariants.{NoCommand, BadNumber, UnknownSporadic, BadKey, TooLong, NoMoreRows, NoMoreSlots, NotUtf8}
+use Rattle.faults.specs.declared.arrival_fault.ArrivalFault.{ArrivalFault}
+use Rattle.faults.specs.declared.arrival_fault.ArrivalFault.TheVariants.{BadNumber as BadField, UnknownSporadic as UnknownName, BadKey as BadKeyField}
+use Rattle.live_lines.specs.declared.line_fault.LineFault.{LineFault}
+use Rattle.live_lines.specs.declared.line_fault.LineFault.TheVariants.{NoCommand, BadNumber, UnknownSporadic, BadKey, TooLong, NoMoreRows, NoMoreSlots, NotUtf8}
 
 -- the fault of a line whose words after the kind are read as the fields of an arrivals file: they
 -- stand one place further to the front, since a line tells no slot

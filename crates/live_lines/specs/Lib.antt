@@ -1,3 +1,5 @@
 pub mod Commands
 pub mod FaultTexts
+pub mod LineLaws
+pub mod Lines
 pub mod Rows

@@ -6,9 +6,9 @@ ghost use Rattle.slot_core.specs.Sets.Ranges.{is_sound};
 ghost use Rattle.arrival_csv.specs.Reading.{event_of};
 ghost use Rattle.live_lines.specs.Commands.{arrival_command, command_of_text, command_of_two, command_of_word, event_of_fields, fields_of, fits_set, live_command_of, slots_command};
 
-use crate::faults::LineFault;
+use crate::line_fault::LineFault;
 use arrival_csv::{Kind, done_of, firm_of, soft_of, sporadic_of, withdraw_of};
-use arrival_faults::ArrivalFault;
+use faults::ArrivalFault;
 use key_texts::{cut_at, number_between};
 use slot_core::{Event, REPLAY_LIMIT, TaskSet};
 

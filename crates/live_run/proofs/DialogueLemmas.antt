@@ -10,7 +10,7 @@ use Rattle.slot_core.specs.declared.tasks.TaskSet.{TaskSet}
 use Rattle.slot_core.specs.Output.Texts.{trace_text}
 use Rattle.slot_core.specs.Runs.Histories.{History, last_row, time_of}
 use Rattle.slot_core.specs.Runs.Traces.{arrive, entries, history_after, started}
-use Rattle.line_source.specs.Lines.{Heard}
+use Rattle.live_lines.specs.Lines.{Heard}
 use Rattle.live_lines.specs.declared.commands.LiveCommand.TheVariants.{Arrive, Pass, End}
 use Rattle.live_lines.specs.Commands.{Asked}
 use Rattle.live_lines.specs.Rows.{record_row, record_text}

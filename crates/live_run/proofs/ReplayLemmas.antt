@@ -18,11 +18,11 @@ use Rattle.slot_core.specs.Runs.Traces.{arrive, slot, told_of, entries, history_
 use Rattle.slot_core.specs.Sets.Cycles.{cycle_of}
 use Rattle.slot_facts.proofs.Legal.Traces.{last_row-arrival}
 use Rattle.slot_facts.proofs.Replays.Entries.{entries_left, entries_left-arrival, entries_left-end, entries_left-start, entry_after, time_of-arrival}
-use Rattle.line_source.specs.Lines.{Heard, line, too_long, no_more}
+use Rattle.live_lines.specs.Lines.{Heard, line, too_long, no_more}
 use Rattle.live_lines.proofs.CommandLemmas.{command_of_text-fits}
 use Rattle.live_lines.specs.declared.commands.LiveCommand.{LiveCommand}
 use Rattle.live_lines.specs.declared.commands.LiveCommand.TheVariants.{Arrive, Pass, End}
-use Rattle.live_lines.specs.declared.faults.LineFault.{LineFault}
+use Rattle.live_lines.specs.declared.line_fault.LineFault.{LineFault}
 use Rattle.live_lines.specs.Commands.{Asked, fits_set, live_command_of}
 use Rattle.live_run.specs.Dialogues.{Exchange, allowed, asked, asks_end, command_heard, exchanges_from, history_heard, next_history, answers_text, arrivals_made, start_text, GoesOn}
 use Rattle.live_run.specs.Replays.{DialoguesAreReplays, have_slots, is_answered}

@@ -1,6 +1,6 @@
 -- What is told of a record that cannot be written.
 use Rattle.std.proofs.Common.{◌≡◌, ℕ, false, List, [], ◌∷◌, ◌++◌, codes, Option, inl, inr, sym, subst}
-use Rattle.run_outcome.specs.Reports.{IsTold}
+use Rattle.command_line.specs.Reports.{IsTold}
 use Rattle.live_run.specs.Calls.{record_name}
 use Rattle.live_run.specs.declared.refusal.LiveRefusal.{LiveRefusal}
 use Rattle.live_run.specs.Refusals.{is_fixed, live_line}

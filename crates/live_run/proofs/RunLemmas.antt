@@ -1,8 +1,8 @@
 -- How want of memory is told.
 use Rattle.std.proofs.Common.{◌≡◌, ℕ, List, [], Option, inl, inr, refl, ap, ◌∙◌, subst}
-use Rattle.run_outcome.specs.declared.refusal.Refusal.TheVariants.{Memory}
-use Rattle.run_outcome.specs.declared.status.Status.{Status}
-use Rattle.run_outcome.specs.Reports.{IsTold}
+use Rattle.command_line.specs.declared.refusal.Refusal.TheVariants.{Memory}
+use Rattle.command_line.specs.declared.status.Status.{Status}
+use Rattle.command_line.specs.Reports.{IsTold}
 use Rattle.live_run.specs.declared.refusal.LiveRefusal.{LiveRefusal}
 use Rattle.live_run.specs.declared.refusal.LiveRefusal.TheVariants.{Run}
 use Rattle.live_run.specs.Refusals.{live_line, live_status}

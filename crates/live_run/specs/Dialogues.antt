@@ -11,10 +11,10 @@ use Rattle.slot_core.specs.declared.tasks.TaskSet.{TaskSet}
 use Rattle.slot_core.specs.Output.Texts.{entry_line, trace_text}
 use Rattle.slot_core.specs.Runs.Histories.{History, last_row, time_of}
 use Rattle.slot_core.specs.Runs.Traces.{Occurrence, arrive, slot, end_entry, entries, history_after, shown_entry, started}
-use Rattle.line_source.specs.Lines.{Heard, line, too_long, no_more}
+use Rattle.live_lines.specs.Lines.{Heard, line, too_long, no_more}
 use Rattle.live_lines.specs.declared.commands.LiveCommand.{LiveCommand}
 use Rattle.live_lines.specs.declared.commands.LiveCommand.TheVariants.{Arrive, Pass, End}
-use Rattle.live_lines.specs.declared.faults.LineFault.TheVariants.{TooLong, NoMoreRows, NoMoreSlots}
+use Rattle.live_lines.specs.declared.line_fault.LineFault.TheVariants.{TooLong, NoMoreRows, NoMoreSlots}
 use Rattle.live_lines.specs.Commands.{Asked, live_command_of}
 use Rattle.live_lines.specs.FaultTexts.{fault_line}
 use Rattle.live_lines.specs.Rows.{record_text}

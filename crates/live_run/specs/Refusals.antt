@@ -2,9 +2,9 @@
 use Rattle.std.specs.Prelude.{ℕ, Bool, true, false, List, [], ◌∷◌, ◌++◌, codes, Result}
 use Rattle.live_run.specs.declared.streams.DialogueFault.{DialogueFault}
 use Rattle.live_run.specs.declared.streams.DialogueFault.TheVariants.{Input, Record, Output}
-use Rattle.run_outcome.specs.declared.refusal.Refusal.TheVariants.{WriteFault as OutputFault}
-use Rattle.run_outcome.specs.declared.status.Status.{Status}
-use Rattle.run_outcome.specs.Refusals.{has_fixed_line, reason_of, refusal_status}
+use Rattle.command_line.specs.declared.refusal.Refusal.TheVariants.{WriteFault as OutputFault}
+use Rattle.command_line.specs.declared.status.Status.{Status}
+use Rattle.command_line.specs.Refusals.{has_fixed_line, reason_of, refusal_status}
 use Rattle.live_run.specs.declared.refusal.LiveRefusal.{LiveRefusal}
 use Rattle.live_run.specs.declared.refusal.LiveRefusal.TheVariants.{Usage, Run, Unmade, Unrecorded, Unheard}
 use Rattle.live_run.specs.Calls.{record_name}

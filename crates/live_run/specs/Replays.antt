@@ -9,7 +9,7 @@ use Rattle.slot_core.specs.Runs.Histories.{time_of}
 use Rattle.slot_core.specs.Runs.Traces.{started, trace}
 use Rattle.slot_core.specs.Sets.Cycles.{cycle_of}
 use Rattle.live_lines.specs.Commands.{Asked}
-use Rattle.line_source.specs.Lines.{Heard}
+use Rattle.live_lines.specs.Lines.{Heard}
 use Rattle.live_run.specs.Dialogues.{Exchange, exchanges, history_heard, answers_text, arrivals_made, start_text, IsOver}
 
 -- the line is not refused

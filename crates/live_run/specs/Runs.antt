@@ -4,13 +4,13 @@ use Rattle.std.specs.Option.{option_map_or}
 use Rattle.slot_core.specs.Calls.Counts.{Rose}
 use Rattle.slot_core.specs.Keeping.Plans.{PlanParts, IsPlan}
 use Rattle.slot_io.specs.Files.{Held}
-use Rattle.line_source.specs.Lines.{Heard}
+use Rattle.live_lines.specs.Lines.{Heard}
 use Rattle.live_run.specs.declared.streams.DialogueFault.TheVariants.{Input, Record, Output}
 use Rattle.live_run.specs.Streams.{Seen, IsDialogue, IsBroken}
-use Rattle.run_outcome.specs.declared.refusal.Refusal.TheVariants.{WriteFault, Memory}
-use Rattle.run_outcome.specs.declared.status.Status.{Status}
-use Rattle.run_outcome.specs.Refusals.{Outcome}
-use Rattle.run_outcome.specs.Reports.{IsTold}
+use Rattle.command_line.specs.declared.refusal.Refusal.TheVariants.{WriteFault, Memory}
+use Rattle.command_line.specs.declared.status.Status.{Status}
+use Rattle.command_line.specs.Refusals.{Outcome}
+use Rattle.command_line.specs.Reports.{IsTold}
 use Rattle.command_line.specs.Commands.{is_file_of}
 use Rattle.run_steps.specs.Readings.{plan_from}
 use Rattle.run_steps.specs.Steps.{IsReading}

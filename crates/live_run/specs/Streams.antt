@@ -9,7 +9,7 @@ use Rattle.slot_core.specs.Runs.Arrivals.{event_fits}
 use Rattle.slot_core.specs.Runs.Histories.{History}
 use Rattle.slot_core.specs.Runs.Traces.{started}
 use Rattle.slot_io.specs.Sinks.{AppendsPart}
-use Rattle.line_source.specs.Lines.{Heard}
+use Rattle.live_lines.specs.Lines.{Heard}
 use Rattle.live_lines.specs.declared.commands.LiveCommand.TheVariants.{Arrive, Pass, End}
 use Rattle.live_lines.specs.Commands.{Asked}
 use Rattle.live_lines.specs.Rows.{record_text}

@@ -13,7 +13,7 @@ ghost use Rattle.slot_core.specs.declared.tasks.TaskSet.{TaskSet};
 ghost use Rattle.slot_core.specs.Runs.Traces.{arrive, entries, history_after, slot};
 ghost use Rattle.slot_io.specs.Sinks.{AppendsPart};
 ghost use Rattle.live_lines.specs.Commands.{fits_set};
-ghost use Rattle.line_source.specs.Lines.{heard};
+ghost use Rattle.live_lines.specs.Lines.{heard};
 ghost use Rattle.live_run.specs.Dialogues.{allowed, asked, command_heard, next_history};
 ghost use Rattle.live_run.specs.Streams.{exchange_texts, seen, ArePut, ArePutInPart, FitsNow};
 
@@ -21,8 +21,7 @@ use crate::puts::{put_answer, put_end, put_entry, put_fault, put_row};
 use crate::streams::{DialogueFault, Streams};
 use arrival_replay::{happen, tell_arrival};
 use interval_row::SpareTable;
-use line_source::{Given, LineSource};
-use live_lines::{LineFault, LiveCommand, live_command_of};
+use live_lines::{Given, LineFault, LineSource, LiveCommand, live_command_of};
 use slot_core::{ARRIVAL_LIMIT, Arrival, Event, Failed, Steps, TaskSet};
 use slot_exec::Exec;
 use slot_io::Sink;

@@ -1,7 +1,7 @@
 //! What the words of the command line ask for.
 
 ghost use Rattle.std.specs.Prelude.{◌≡◌, IfOk, IfSome};
-ghost use Rattle.run_outcome.specs.Refusals.{word_at};
+ghost use Rattle.command_line.specs.Refusals.{word_at};
 ghost use Rattle.live_run.specs.Calls.{live_call_of, of_table, of_tasks, plan_name, plan_words, recorded_call, record_name, HasPlan};
 
 use command_line::Source;

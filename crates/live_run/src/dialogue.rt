@@ -4,7 +4,7 @@ ghost use Rattle.std.specs.Prelude.{◌≡◌, ◌≤◌, ◌<◌, [], ◌∷◌
 ghost use Rattle.slot_core.specs.Calls.Counts.{Rose};
 ghost use Rattle.slot_core.specs.Keeping.Executives.{StandsFor};
 ghost use Rattle.slot_core.specs.Runs.Traces.{started};
-ghost use Rattle.line_source.specs.Lines.{heard};
+ghost use Rattle.live_lines.specs.Lines.{heard};
 ghost use Rattle.live_run.specs.Dialogues.{is_end};
 ghost use Rattle.live_run.specs.Streams.{seen, IsBroken, IsDialogue};
 
@@ -12,8 +12,7 @@ use crate::answers::{answer, asked_now};
 use crate::puts::put_entry;
 use crate::streams::{DialogueFault, Streams};
 use interval_row::SpareTable;
-use line_source::{Given, LineSource};
-use live_lines::{LineFault, LiveCommand};
+use live_lines::{Given, LineFault, LineSource, LiveCommand};
 use slot_core::{Steps, What};
 use slot_exec::Exec;
 use slot_io::Sink;

@@ -2,15 +2,15 @@
 
 ghost use Rattle.std.specs.Prelude.{◌≡◌, ◌⊎◌, None, IfOk, IsErr};
 ghost use Rattle.std.specs.Process.{exit_status};
-ghost use Rattle.run_outcome.specs.declared.status.Status.{Status};
-ghost use Rattle.run_outcome.specs.Statuses.{exit_number};
+ghost use Rattle.command_line.specs.declared.status.Status.{Status};
+ghost use Rattle.command_line.specs.Statuses.{exit_number};
 ghost use Rattle.live_run.specs.Calls.{live_call_of};
 
 use crate::record::HostRecord;
 use crate::runs::run;
 use crate::streams::Streams;
-use line_source::InputLines;
-use run_outcome::Status;
+use command_line::Status;
+use live_lines::InputLines;
 use slot_core::{Memory, Words};
 use slot_io::{HostFiles, HostSink, words_of};
 use std::io::{BufReader, Input, Write};

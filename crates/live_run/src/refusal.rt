@@ -1,12 +1,12 @@
 //! Every way in which a live run ends that is not Done.
 
 ghost use Rattle.std.specs.Prelude.{◌≡◌};
-ghost use Rattle.run_outcome.specs.declared.refusal.Refusal.TheVariants.{Memory as NoMemory};
+ghost use Rattle.command_line.specs.declared.refusal.Refusal.TheVariants.{Memory as NoMemory};
 ghost use Rattle.live_run.specs.Refusals.{live_status, of_dialogue};
 ghost use Rattle.live_run.specs.declared.refusal.LiveRefusal.TheVariants.{Run as RunRefusal};
 
 use crate::streams::DialogueFault;
-use run_outcome::{Refusal, Status};
+use command_line::{Refusal, Status};
 use slot_core::Memory;
 
 /// Why a live run is not done.

@@ -1,14 +1,14 @@
 //! The line that tells why a live run is refused.
 
 ghost use Rattle.std.specs.Prelude.{◌≡◌, ◌++◌, ◌∷◌, [], IfOk, codes};
-ghost use Rattle.run_outcome.specs.Reports.{IsTold};
+ghost use Rattle.command_line.specs.Reports.{IsTold};
 ghost use Rattle.live_run.specs.Calls.{record_name};
 ghost use Rattle.live_run.specs.Runs.{IsLiveReport, IsRecordReport};
 
 use crate::call::record_name;
 use crate::refusal::LiveRefusal;
-use run_outcome::append::push;
-use run_outcome::{OUT_OF_MEMORY, Refusal, report};
+use command_line::append::push;
+use command_line::{OUT_OF_MEMORY, Refusal, report};
 use slot_core::{Memory, Words};
 use slot_io::Sink;
 use std::alloc::Global;

@@ -16,7 +16,7 @@ use crate::refusal::LiveRefusal;
 use crate::streams::Streams;
 use cycle_plan::Plan;
 use interval_row::ChainTable;
-use line_source::LineSource;
+use live_lines::LineSource;
 use run_steps::plan_from;
 use slot_core::{Failed, Words};
 use slot_exec::Exec;

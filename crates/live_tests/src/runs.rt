@@ -1,9 +1,9 @@
 //! Runs over files, lines and streams in memory.
 
 use crate::record::MemoryRecord;
-use line_source::InputLines;
+use command_line::Status;
+use live_lines::InputLines;
 use live_run::{Streams, run};
-use run_outcome::Status;
 use slot_core::Words;
 use slot_io::{MemoryFiles, MemorySink};
 use std::alloc::Global;

@@ -3,12 +3,12 @@
 ghost use Rattle.std.specs.Prelude.{◌≡◌, ◌∷◌, [], codes, IfOk};
 
 use arrival_csv::ArrivalFault;
-use run_outcome::{File, Refusal, Status, report};
+use command_line::{File, Refusal, Status, report};
+use faults::TableFault;
 use slot_core::{Field, Part, Place, TaskFault, Window, Words};
 use slot_io::MemorySink;
 use std::alloc::Global;
 use std::test::Fail;
-use table_faults::TableFault;
 
 const PERIOD: Place = Place {
     part: Part::Graph(3),

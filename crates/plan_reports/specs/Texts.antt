@@ -4,8 +4,8 @@ use Rattle.slot_core.specs.declared.events.Arrival.{Arrival}
 use Rattle.slot_core.specs.Keeping.Plans.{PlanParts}
 use Rattle.slot_core.specs.Output.Reports.{check_line, show_text}
 use Rattle.table_codec.specs.Grammar.{spelling}
-use Rattle.command_line.specs.declared.PlanOutput.{PlanOutput}
-use Rattle.command_line.specs.declared.PlanOutput.TheVariants.{Counts, Table, Listing, Margins, Lines}
+use Rattle.command_line.specs.declared.commands.PlanOutput.{PlanOutput}
+use Rattle.command_line.specs.declared.commands.PlanOutput.TheVariants.{Counts, Table, Listing, Margins, Lines}
 use Rattle.plan_reports.specs.Lines.{verified_line}
 use Rattle.plan_reports.specs.MarginLines.{margin_text}
 

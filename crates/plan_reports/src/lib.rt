@@ -12,7 +12,7 @@ ghost use Rattle.slot_core.specs.Output.Texts.{worded};
 ghost use Rattle.slot_core.specs.declared.TheConstants.{ARRIVAL_LIMIT, REPLAY_LIMIT};
 ghost use Rattle.slot_io.specs.Sinks.{AppendsPart};
 ghost use Rattle.table_codec.specs.Grammar.{spelling};
-ghost use Rattle.run_outcome.specs.Writings.{IsWriting};
+ghost use Rattle.command_line.specs.Writings.{IsWriting};
 ghost use Rattle.command_line.specs.Commands.{IsPlanOutputInRange};
 ghost use Rattle.plan_reports.specs.Lines.{verified_line};
 ghost use Rattle.plan_reports.specs.MarginLines.{margin_text};
@@ -20,12 +20,11 @@ ghost use Rattle.plan_reports.specs.Texts.{plan_text};
 
 mod margins;
 
-use command_line::PlanOutput;
+use command_line::append::{push, push_worded};
+use command_line::{PlanOutput, Refusal};
 use cycle_plan::Plan;
 use margin_find::find_margins;
 use margins::put_margins;
-use run_outcome::Refusal;
-use run_outcome::append::{push, push_worded};
 use slot_core::{Arrival, Failed, Job, Memory, Span, TaskSet};
 use slot_io::Sink;
 use std::alloc::Global;

@@ -6,21 +6,21 @@ use Rattle.slot_core.specs.declared.tasks.TaskSet.{TaskSet}
 use Rattle.slot_core.specs.Runs.Arrivals.{are_fitting}
 use Rattle.slot_core.specs.Keeping.Plans.{PlanParts}
 use Rattle.slot_core.specs.Calls.Results.{◌>>=◌}
-use Rattle.arrival_faults.specs.declared.faults.ArrivalFault.{ArrivalFault}
+use Rattle.faults.specs.declared.arrival_fault.ArrivalFault.{ArrivalFault}
 use Rattle.arrival_csv.specs.Reading.{reading_of_arrivals}
 use Rattle.arrival_csv.proofs.ReadArrivals.{are_fitting-reading}
 use Rattle.load_gen.specs.LoadArrivals.{load_arrivals}
 use Rattle.load_gen.specs.Loads.{load_set}
 use Rattle.load_gen.proofs.ArrivalLemmas.{load_arrivals-fit}
-use Rattle.run_outcome.specs.declared.refusal.Refusal.TheVariants.{BadArrivals}
-use Rattle.run_outcome.specs.Refusals.{Outcome}
+use Rattle.command_line.specs.declared.refusal.Refusal.TheVariants.{BadArrivals}
+use Rattle.command_line.specs.Refusals.{Outcome}
 use Rattle.slot_io.specs.Files.{Held}
-use Rattle.run_outcome.specs.declared.file.File.TheVariants.{Arrivals as ArrivalsFile}
+use Rattle.command_line.specs.declared.file.File.TheVariants.{Arrivals as ArrivalsFile}
 use Rattle.command_line.specs.declared.TheConstants.{LOAD_SLOTS}
-use Rattle.command_line.specs.declared.Arrivals.{Arrivals}
-use Rattle.command_line.specs.declared.Arrivals.TheVariants.{Absent, Recorded, Generated}
-use Rattle.command_line.specs.declared.Source.{Source}
-use Rattle.command_line.specs.declared.Source.TheVariants.{Load}
+use Rattle.command_line.specs.declared.commands.Arrivals.{Arrivals}
+use Rattle.command_line.specs.declared.commands.Arrivals.TheVariants.{Absent, Recorded, Generated}
+use Rattle.command_line.specs.declared.commands.Source.{Source}
+use Rattle.command_line.specs.declared.commands.Source.TheVariants.{Load}
 use Rattle.command_line.specs.Commands.{slots_in}
 use Rattle.run_steps.specs.Readings.{bytes_of, fitting_arrivals, recorded_arrivals, arrivals_from, plan_from}
 use Rattle.run_steps.proofs.SourcePlans.{tasks-load}

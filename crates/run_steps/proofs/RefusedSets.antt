@@ -11,21 +11,21 @@ use Rattle.slot_core.specs.Feasibility.Feasible.{counterexample}
 use Rattle.slot_core.specs.Keeping.Plans.{PlanParts, planned}
 use Rattle.slot_core.specs.Sets.Ranges.{is_sound}
 use Rattle.slot_io.specs.Files.{Held, first_bytes}
-use Rattle.table_faults.specs.declared.faults.TableFault.{TableFault}
-use Rattle.table_faults.specs.declared.faults.TableFault.TheVariants.{Infeasible as NoPlan}
+use Rattle.faults.specs.declared.table_fault.TableFault.{TableFault}
+use Rattle.faults.specs.declared.table_fault.TableFault.TheVariants.{Infeasible as NoPlan}
 use Rattle.table_codec.specs.Grammar.{reading_of_table}
 use Rattle.table_codec.proofs.Refusals.{IsTableSet-refused}
 use Rattle.task_toml.specs.Reading.{reading_of_tasks}
 use Rattle.task_toml.specs.TomlFields.{Read as TomlRead}
-use Rattle.run_outcome.specs.declared.file.File.{File}
-use Rattle.run_outcome.specs.declared.file.File.TheVariants.{Tasks as TaskFile, Table as TableFile, Second as SecondFile}
-use Rattle.run_outcome.specs.declared.refusal.Refusal.{Refusal}
-use Rattle.run_outcome.specs.declared.refusal.Refusal.TheVariants.{Unreadable, TooLarge, BadTasks, BadTable, Infeasible, SecondInfeasible}
-use Rattle.run_outcome.specs.Refusals.{Outcome, name_of, limit_of}
-use Rattle.command_line.specs.declared.Second.{Second}
-use Rattle.command_line.specs.declared.Second.TheVariants.{Unread, Read}
-use Rattle.command_line.specs.declared.Source.{Source}
-use Rattle.command_line.specs.declared.Source.TheVariants.{Tasks, Spelled, Load}
+use Rattle.command_line.specs.declared.file.File.{File}
+use Rattle.command_line.specs.declared.file.File.TheVariants.{Tasks as TaskFile, Table as TableFile, Second as SecondFile}
+use Rattle.command_line.specs.declared.refusal.Refusal.{Refusal}
+use Rattle.command_line.specs.declared.refusal.Refusal.TheVariants.{Unreadable, TooLarge, BadTasks, BadTable, Infeasible, SecondInfeasible}
+use Rattle.command_line.specs.Refusals.{Outcome, name_of, limit_of}
+use Rattle.command_line.specs.declared.commands.Second.{Second}
+use Rattle.command_line.specs.declared.commands.Second.TheVariants.{Unread, Read}
+use Rattle.command_line.specs.declared.commands.Source.{Source}
+use Rattle.command_line.specs.declared.commands.Source.TheVariants.{Tasks, Spelled, Load}
 use Rattle.run_steps.specs.Readings.{limited_bytes, bytes_of, sound_set, feasible_plan, planned_plan, spelled_plan, plan_from, of_second, second_plan, second_from}
 use Rattle.run_steps.specs.Sets.{set_of_table, spelled_set, set_from, second_set}
 use Rattle.run_steps.proofs.SourcePlans.{is_sound-from_bytes}

@@ -19,16 +19,16 @@ use Rattle.task_toml.specs.TomlFields.{Read as TomlRead}
 use Rattle.task_toml.proofs.SoundReadings.{is_sound-reading}
 use Rattle.slot_facts.proofs.Demand.Feasible.{IsFeasible-from_none}
 use Rattle.slot_facts.proofs.Plans.Planned.{IsPlan-planned}
-use Rattle.table_faults.specs.declared.faults.TableFault.{TableFault}
+use Rattle.faults.specs.declared.table_fault.TableFault.{TableFault}
 use Rattle.table_codec.specs.Grammar.{reading_of_table}
 use Rattle.table_codec.proofs.TableLaws.{settled-from_reading}
-use Rattle.run_outcome.specs.declared.file.File.TheVariants.{Tasks as TaskFile, Table as TableFile, Second as SecondFile}
-use Rattle.run_outcome.specs.declared.refusal.Refusal.TheVariants.{BadTasks, BadTable, Infeasible}
-use Rattle.run_outcome.specs.Refusals.{Outcome}
-use Rattle.command_line.specs.declared.Second.{Second}
-use Rattle.command_line.specs.declared.Second.TheVariants.{Unread, Read}
-use Rattle.command_line.specs.declared.Source.{Source}
-use Rattle.command_line.specs.declared.Source.TheVariants.{Tasks, Spelled, Load}
+use Rattle.command_line.specs.declared.file.File.TheVariants.{Tasks as TaskFile, Table as TableFile, Second as SecondFile}
+use Rattle.command_line.specs.declared.refusal.Refusal.TheVariants.{BadTasks, BadTable, Infeasible}
+use Rattle.command_line.specs.Refusals.{Outcome}
+use Rattle.command_line.specs.declared.commands.Second.{Second}
+use Rattle.command_line.specs.declared.commands.Second.TheVariants.{Unread, Read}
+use Rattle.command_line.specs.declared.commands.Source.{Source}
+use Rattle.command_line.specs.declared.commands.Source.TheVariants.{Tasks, Spelled, Load}
 use Rattle.command_line.specs.Commands.{IsLoadNumber}
 use Rattle.run_steps.specs.Readings.{bytes_of, sound_set, feasible_plan, planned_plan, spelled_plan, plan_from, of_second, second_plan, second_from}
 

@@ -5,7 +5,7 @@ use Rattle.std.specs.Option.{option_map_or}
 use Rattle.std.specs.Result.{result_map_both}
 use Rattle.slot_core.specs.Calls.Results.{◌>>=◌}
 use Rattle.arrival_csv.specs.Reading.{reading_of_arrivals}
-use Rattle.arrival_faults.specs.declared.faults.ArrivalFault.{ArrivalFault}
+use Rattle.faults.specs.declared.arrival_fault.ArrivalFault.{ArrivalFault}
 use Rattle.slot_core.specs.declared.events.Arrival.{Arrival}
 use Rattle.slot_core.specs.declared.faults.TaskFault.{TaskFault}
 use Rattle.slot_core.specs.declared.jobs.Window.{Window}
@@ -15,23 +15,23 @@ use Rattle.slot_core.specs.Feasibility.Feasible.{counterexample}
 use Rattle.slot_core.specs.Keeping.Plans.{PlanParts, planned}
 use Rattle.slot_io.specs.Files.{Held, first_bytes}
 use Rattle.table_codec.specs.Grammar.{reading_of_table}
-use Rattle.table_faults.specs.declared.faults.TableFault.{TableFault}
+use Rattle.faults.specs.declared.table_fault.TableFault.{TableFault}
 use Rattle.task_toml.specs.Reading.{reading_of_tasks}
 use Rattle.trace_verify.specs.Verdicts.{verdict}
-use Rattle.verify_faults.specs.FaultTexts.{verify_fault_text}
-use Rattle.verify_faults.specs.declared.faults.VerifyFault.{VerifyFault}
-use Rattle.run_outcome.specs.declared.file.File.{File}
-use Rattle.run_outcome.specs.declared.file.File.TheVariants.{Tasks as TaskFile, Table as TableFile, Second as SecondFile, Arrivals as ArrivalsFile, Trace as TraceFile}
-use Rattle.run_outcome.specs.declared.refusal.Refusal.TheVariants.{Unreadable, TooLarge, BadTasks, Infeasible, BadTable, BadArrivals, NotVerified, NoRow, NotCycleEnd}
-use Rattle.run_outcome.specs.Refusals.{Outcome, name_of, limit_of, is_found}
-use Rattle.command_line.specs.declared.Arrivals.{Arrivals}
-use Rattle.command_line.specs.declared.Arrivals.TheVariants.{Absent, Recorded, Generated}
-use Rattle.command_line.specs.declared.Check.{Check}
-use Rattle.command_line.specs.declared.Check.TheVariants.{Unchecked, Verified, HasRow, AtCycleEnd}
-use Rattle.command_line.specs.declared.Second.{Second}
-use Rattle.command_line.specs.declared.Second.TheVariants.{Unread, Read}
-use Rattle.command_line.specs.declared.Source.{Source}
-use Rattle.command_line.specs.declared.Source.TheVariants.{Tasks, Spelled, Load}
+use Rattle.faults.specs.VerifyTexts.{verify_fault_text}
+use Rattle.faults.specs.declared.verify_fault.VerifyFault.{VerifyFault}
+use Rattle.command_line.specs.declared.file.File.{File}
+use Rattle.command_line.specs.declared.file.File.TheVariants.{Tasks as TaskFile, Table as TableFile, Second as SecondFile, Arrivals as ArrivalsFile, Trace as TraceFile}
+use Rattle.command_line.specs.declared.refusal.Refusal.TheVariants.{Unreadable, TooLarge, BadTasks, Infeasible, BadTable, BadArrivals, NotVerified, NoRow, NotCycleEnd}
+use Rattle.command_line.specs.Refusals.{Outcome, name_of, limit_of, is_found}
+use Rattle.command_line.specs.declared.commands.Arrivals.{Arrivals}
+use Rattle.command_line.specs.declared.commands.Arrivals.TheVariants.{Absent, Recorded, Generated}
+use Rattle.command_line.specs.declared.commands.Check.{Check}
+use Rattle.command_line.specs.declared.commands.Check.TheVariants.{Unchecked, Verified, HasRow, AtCycleEnd}
+use Rattle.command_line.specs.declared.commands.Second.{Second}
+use Rattle.command_line.specs.declared.commands.Second.TheVariants.{Unread, Read}
+use Rattle.command_line.specs.declared.commands.Source.{Source}
+use Rattle.command_line.specs.declared.commands.Source.TheVariants.{Tasks, Spelled, Load}
 use Rattle.command_line.specs.Commands.{is_file_of, is_second_of, is_recorded_in}
 use Rattle.command_line.proofs.CommandLemmas.{no-plan, no-plan_of_second, no-plan_of_trace}
 use Rattle.run_steps.specs.Readings.{limited_bytes, bytes_of, sound_set, feasible_plan, planned_plan, spelled_plan, plan_from, of_second, second_plan, second_from, fitting_arrivals, recorded_arrivals, arrivals_from, lawful_trace, row_among, whole_cycles, check_from}

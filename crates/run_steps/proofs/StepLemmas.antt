@@ -2,11 +2,11 @@
 use Rattle.std.proofs.Common.{◌≡◌, ℕ, Bool, true, false, List, Option, Some, Ok, Err, refl, sym, ap, subst, ◌∙◌, inl, inr}
 use Rattle.slot_core.specs.Calls.Results.{◌>>=◌}
 use Rattle.slot_io.specs.Files.{Held}
-use Rattle.run_outcome.specs.declared.file.File.{File}
-use Rattle.run_outcome.specs.declared.file.File.TheVariants.{Tasks as TaskFile, Table as TableFile, Second as SecondFile, Arrivals as ArrivalsFile, Trace as TraceFile}
-use Rattle.run_outcome.specs.declared.refusal.Refusal.{Refusal}
-use Rattle.run_outcome.specs.declared.refusal.Refusal.TheVariants.{Unreadable, Memory}
-use Rattle.run_outcome.specs.Refusals.{Outcome, is_found, same_file}
+use Rattle.command_line.specs.declared.file.File.{File}
+use Rattle.command_line.specs.declared.file.File.TheVariants.{Tasks as TaskFile, Table as TableFile, Second as SecondFile, Arrivals as ArrivalsFile, Trace as TraceFile}
+use Rattle.command_line.specs.declared.refusal.Refusal.{Refusal}
+use Rattle.command_line.specs.declared.refusal.Refusal.TheVariants.{Unreadable, Memory}
+use Rattle.command_line.specs.Refusals.{Outcome, is_found, same_file}
 use Rattle.run_steps.specs.Steps.{IsStep, IsUnreadable, IsReading}
 use Rattle.run_steps.proofs.StageLemmas.{AllFound}
 

@@ -15,21 +15,21 @@ use Rattle.load_gen.specs.Loads.{load_set}
 use Rattle.table_codec.specs.Grammar.{reading_of_table}
 use Rattle.task_toml.specs.Reading.{reading_of_tasks}
 use Rattle.trace_verify.specs.Verdicts.{verdict}
-use Rattle.verify_faults.specs.FaultTexts.{verify_fault_text}
-use Rattle.run_outcome.specs.declared.file.File.{File}
-use Rattle.run_outcome.specs.declared.file.File.TheVariants.{Tasks as TaskFile, Table as TableFile, Second as SecondFile, Arrivals as ArrivalsFile, Trace as TraceFile}
-use Rattle.run_outcome.specs.declared.refusal.Refusal.{Refusal}
-use Rattle.run_outcome.specs.declared.refusal.Refusal.TheVariants.{Unreadable, TooLarge, BadTasks, Infeasible, BadTable, BadArrivals, NotVerified, BadSecond, SecondInfeasible, NoRow, NotCycleEnd}
-use Rattle.run_outcome.specs.Refusals.{Outcome, name_of, limit_of}
+use Rattle.faults.specs.VerifyTexts.{verify_fault_text}
+use Rattle.command_line.specs.declared.file.File.{File}
+use Rattle.command_line.specs.declared.file.File.TheVariants.{Tasks as TaskFile, Table as TableFile, Second as SecondFile, Arrivals as ArrivalsFile, Trace as TraceFile}
+use Rattle.command_line.specs.declared.refusal.Refusal.{Refusal}
+use Rattle.command_line.specs.declared.refusal.Refusal.TheVariants.{Unreadable, TooLarge, BadTasks, Infeasible, BadTable, BadArrivals, NotVerified, BadSecond, SecondInfeasible, NoRow, NotCycleEnd}
+use Rattle.command_line.specs.Refusals.{Outcome, name_of, limit_of}
 use Rattle.command_line.specs.declared.TheConstants.{LOAD_SLOTS}
-use Rattle.command_line.specs.declared.Arrivals.{Arrivals}
-use Rattle.command_line.specs.declared.Arrivals.TheVariants.{Absent, Recorded, Generated}
-use Rattle.command_line.specs.declared.Check.{Check}
-use Rattle.command_line.specs.declared.Check.TheVariants.{Unchecked, Verified, HasRow, AtCycleEnd}
-use Rattle.command_line.specs.declared.Second.{Second}
-use Rattle.command_line.specs.declared.Second.TheVariants.{Unread, Read}
-use Rattle.command_line.specs.declared.Source.{Source}
-use Rattle.command_line.specs.declared.Source.TheVariants.{Tasks, Spelled, Load}
+use Rattle.command_line.specs.declared.commands.Arrivals.{Arrivals}
+use Rattle.command_line.specs.declared.commands.Arrivals.TheVariants.{Absent, Recorded, Generated}
+use Rattle.command_line.specs.declared.commands.Check.{Check}
+use Rattle.command_line.specs.declared.commands.Check.TheVariants.{Unchecked, Verified, HasRow, AtCycleEnd}
+use Rattle.command_line.specs.declared.commands.Second.{Second}
+use Rattle.command_line.specs.declared.commands.Second.TheVariants.{Unread, Read}
+use Rattle.command_line.specs.declared.commands.Source.{Source}
+use Rattle.command_line.specs.declared.commands.Source.TheVariants.{Tasks, Spelled, Load}
 
 -- the bytes of a file within its limit
 abbrev pub limited_bytes : File → List ℕ → Outcome (List ℕ)

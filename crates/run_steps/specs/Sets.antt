@@ -5,14 +5,14 @@ use Rattle.slot_core.specs.Calls.Results.{◌>>=◌}
 use Rattle.slot_core.specs.declared.tasks.TaskSet.{TaskSet}
 use Rattle.slot_io.specs.Files.{Held}
 use Rattle.load_gen.specs.Loads.{load_set}
-use Rattle.table_faults.specs.declared.faults.TableFault.{TableFault}
+use Rattle.faults.specs.declared.table_fault.TableFault.{TableFault}
 use Rattle.table_codec.specs.Readers.{go_on, value_of}
 use Rattle.table_codec.specs.Grammar.{head_form, source_form}
-use Rattle.run_outcome.specs.declared.file.File.TheVariants.{Tasks as TaskFile, Table as TableFile, Second as SecondFile}
-use Rattle.run_outcome.specs.declared.refusal.Refusal.TheVariants.{BadTable}
-use Rattle.run_outcome.specs.Refusals.{Outcome}
-use Rattle.command_line.specs.declared.Source.{Source}
-use Rattle.command_line.specs.declared.Source.TheVariants.{Tasks, Spelled, Load}
+use Rattle.command_line.specs.declared.file.File.TheVariants.{Tasks as TaskFile, Table as TableFile, Second as SecondFile}
+use Rattle.command_line.specs.declared.refusal.Refusal.TheVariants.{BadTable}
+use Rattle.command_line.specs.Refusals.{Outcome}
+use Rattle.command_line.specs.declared.commands.Source.{Source}
+use Rattle.command_line.specs.declared.commands.Source.TheVariants.{Tasks, Spelled, Load}
 use Rattle.run_steps.specs.Readings.{bytes_of, sound_set}
 
 -- the sound set at the front of a table, which is read before its plan

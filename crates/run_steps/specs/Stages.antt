@@ -1,9 +1,9 @@
 -- The order of the work: at which stage it is refused.
 use Rattle.std.specs.Prelude.{ℕ, Ok, Err}
-use Rattle.run_outcome.specs.declared.file.File.TheVariants.{Tasks, Table, Second, Arrivals, Trace}
-use Rattle.run_outcome.specs.declared.refusal.Refusal.{Refusal}
-use Rattle.run_outcome.specs.declared.refusal.Refusal.TheVariants.{Usage, Unreadable, TooLarge, BadTasks, Infeasible, BadTable, BadArrivals, NotVerified, BadSecond, SecondInfeasible, NoRow, NotCycleEnd, NoChange, WriteFault, Memory}
-use Rattle.run_outcome.specs.Refusals.{Outcome}
+use Rattle.command_line.specs.declared.file.File.TheVariants.{Tasks, Table, Second, Arrivals, Trace}
+use Rattle.command_line.specs.declared.refusal.Refusal.{Refusal}
+use Rattle.command_line.specs.declared.refusal.Refusal.TheVariants.{Usage, Unreadable, TooLarge, BadTasks, Infeasible, BadTable, BadArrivals, NotVerified, BadSecond, SecondInfeasible, NoRow, NotCycleEnd, NoChange, WriteFault, Memory}
+use Rattle.command_line.specs.Refusals.{Outcome}
 
 -- the stage of the work at which a refusal comes: the words, the plan, the second plan, the
 -- arrivals, what is asked of them, and the writing

@@ -4,12 +4,12 @@ use Rattle.slot_core.specs.Calls.Counts.{Rose}
 use Rattle.slot_core.specs.declared.events.Arrival.{Arrival}
 use Rattle.slot_core.specs.Keeping.Plans.{PlanParts}
 use Rattle.slot_io.specs.Files.{Held}
-use Rattle.run_outcome.specs.declared.file.File.{File}
-use Rattle.run_outcome.specs.declared.refusal.Refusal.{Refusal}
-use Rattle.run_outcome.specs.declared.refusal.Refusal.TheVariants.{Unreadable, Memory}
-use Rattle.run_outcome.specs.Refusals.{Outcome, name_of, is_found}
-use Rattle.command_line.specs.declared.Check.{Check}
-use Rattle.command_line.specs.declared.Check.TheVariants.{HasRow, AtCycleEnd}
+use Rattle.command_line.specs.declared.file.File.{File}
+use Rattle.command_line.specs.declared.refusal.Refusal.{Refusal}
+use Rattle.command_line.specs.declared.refusal.Refusal.TheVariants.{Unreadable, Memory}
+use Rattle.command_line.specs.Refusals.{Outcome, name_of, is_found}
+use Rattle.command_line.specs.declared.commands.Check.{Check}
+use Rattle.command_line.specs.declared.commands.Check.TheVariants.{HasRow, AtCycleEnd}
 
 -- a step over bytes answers with what is due of them, as this view of its value, or with want of
 -- memory

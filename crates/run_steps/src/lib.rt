@@ -8,23 +8,22 @@ ghost use Rattle.slot_core.specs.Keeping.Plans.{IsPlan, planned};
 ghost use Rattle.slot_core.specs.Sets.Ranges.{is_sound};
 ghost use Rattle.load_gen.specs.LoadArrivals.{load_arrivals};
 ghost use Rattle.load_gen.specs.Loads.{load_set};
-ghost use Rattle.run_outcome.specs.declared.refusal.Refusal.TheVariants.{NotVerified};
-ghost use Rattle.run_outcome.specs.Refusals.{same_file};
-ghost use Rattle.verify_faults.specs.FaultTexts.{names_known, verify_fault_text};
+ghost use Rattle.command_line.specs.declared.refusal.Refusal.TheVariants.{NotVerified};
+ghost use Rattle.command_line.specs.Refusals.{same_file};
+ghost use Rattle.faults.specs.VerifyTexts.{names_known, verify_fault_text};
 ghost use Rattle.command_line.specs.Commands.{is_file_of, is_recorded_in, is_second_of, is_verified_in, slots_in, AreInRange, IsCheckInRange, IsLoadNumber};
 ghost use Rattle.run_steps.specs.Readings.{arrivals_from, bytes_of, check_from, feasible_plan, fitting_arrivals, lawful_trace, of_second, plan_from, planned_plan, recorded_arrivals, recorded_trace, row_among, second_from, second_plan, sound_set, spelled_plan, whole_cycles};
 ghost use Rattle.run_steps.specs.Steps.{IsChecked, IsStep, IsReading};
 
 use arrival_csv::read_arrivals;
-use command_line::{Arrivals, Check, LOAD_SLOTS, Second, Source};
+use command_line::{Arrivals, Check, File, LOAD_SLOTS, Reason, Refusal, Second, Source};
 use cycle_plan::{Plan, PlanFault, make_plan};
+use faults::VerifyFault;
 use load_gen::{arrivals_of, tasks_of};
-use run_outcome::{File, Reason, Refusal};
 use slot_core::{Arrival, TaskSet, Words};
 use slot_io::{Files, ReadFault};
 use std::alloc::Global;
 use trace_verify::{fault_text, verify};
-use verify_faults::VerifyFault;
 
 /// The bytes of a file of the command line, where they are within its limit.
 fn read_file<F: Files>(

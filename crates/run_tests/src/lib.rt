@@ -1,4 +1,4 @@
-//! Tests of the crates that run a plan.
+//! Tests of the crates that run a plan, and a caller of the executive that is proved.
 #![tactic(auto)]
 
 #[cfg(test)]
@@ -15,5 +15,6 @@ mod offers;
 mod queues;
 #[cfg(test)]
 mod reserves;
+pub mod table_caller;
 #[cfg(test)]
 mod tables;

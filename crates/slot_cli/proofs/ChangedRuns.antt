@@ -6,11 +6,11 @@ use Rattle.std.proofs.lemmas.List.{take_all}
 use Rattle.slot_core.specs.Calls.Results.{◌>>=◌}
 use Rattle.slot_core.specs.Output.Texts.{trace_text}
 use Rattle.slot_io.specs.Files.{Held}
-use Rattle.run_outcome.specs.declared.file.File.TheVariants.{Second as SecondFile}
-use Rattle.run_outcome.specs.Refusals.{Outcome}
-use Rattle.run_outcome.specs.Writings.{whole_of}
-use Rattle.command_line.specs.declared.Second.{Second}
-use Rattle.command_line.specs.declared.Second.TheVariants.{Read}
+use Rattle.command_line.specs.declared.file.File.TheVariants.{Second as SecondFile}
+use Rattle.command_line.specs.Refusals.{Outcome}
+use Rattle.command_line.specs.Writings.{whole_of}
+use Rattle.command_line.specs.declared.commands.Second.{Second}
+use Rattle.command_line.specs.declared.commands.Second.TheVariants.{Read}
 use Rattle.run_steps.specs.Readings.{bytes_of, of_second, planned_plan, second_from, second_plan}
 use Rattle.slot_facts.proofs.Legal.Traces.{every_trace_is_legal}
 use Rattle.slot_core.specs.declared.events.Arrival.{Arrival}

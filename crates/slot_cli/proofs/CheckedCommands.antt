@@ -3,12 +3,12 @@ use Rattle.std.proofs.Common.{◌≡◌, ℕ, List, refl, subst}
 use Rattle.std.specs.Prelude.{⊤}
 use Rattle.slot_core.specs.declared.events.Arrival.{Arrival}
 use Rattle.slot_core.specs.Keeping.Plans.{PlanParts}
-use Rattle.command_line.specs.declared.Check.{Check}
-use Rattle.command_line.specs.declared.Check.TheVariants.{HasRow, AtCycleEnd}
-use Rattle.command_line.specs.declared.Command.{Command}
-use Rattle.command_line.specs.declared.Output.{Output}
-use Rattle.command_line.specs.declared.Output.TheVariants.{OfPlan, OfRun, Change}
-use Rattle.command_line.specs.declared.RunOutput.TheVariants.{Trace, Chart, Tally, Explanation}
+use Rattle.command_line.specs.declared.commands.Check.{Check}
+use Rattle.command_line.specs.declared.commands.Check.TheVariants.{HasRow, AtCycleEnd}
+use Rattle.command_line.specs.declared.commands.Command.{Command}
+use Rattle.command_line.specs.declared.commands.Output.{Output}
+use Rattle.command_line.specs.declared.commands.Output.TheVariants.{OfPlan, OfRun, Change}
+use Rattle.command_line.specs.declared.commands.RunOutput.TheVariants.{Trace, Chart, Tally, Explanation}
 use Rattle.command_line.specs.Commands.{slots_of, IsInRange}
 use Rattle.run_steps.specs.Steps.{IsChecked}
 use Rattle.slot_cli.specs.Due.{MayBeWritten}

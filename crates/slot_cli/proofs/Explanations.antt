@@ -30,7 +30,7 @@ use Rattle.slot_facts.proofs.Offers.Answers.{short-from_no_room}
 use Rattle.slot_facts.proofs.Offers.Exact.{offered-from_due, not_a_slot}
 use Rattle.slot_facts.proofs.Sets.Ranges.{bounds}
 use Rattle.arrival_replay.specs.Replays.{StandsBefore, entries_before, entry_of, history_before}
-use Rattle.run_outcome.specs.Writings.{Writing, in_whole}
+use Rattle.command_line.specs.Writings.{Writing, in_whole}
 use Rattle.slot_cli.specs.declared.rows.RefusedOffer.{RefusedOffer}
 use Rattle.slot_cli.specs.Explained.{explained, explained_arrival, explained_entry, offer_text, refused_offer}
 

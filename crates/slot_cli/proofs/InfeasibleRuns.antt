@@ -6,12 +6,12 @@ use Rattle.slot_core.specs.declared.jobs.Window.{Window}
 use Rattle.slot_core.specs.declared.tasks.TaskSet.{TaskSet}
 use Rattle.slot_core.specs.Keeping.Plans.{PlanParts}
 use Rattle.slot_io.specs.Files.{Held}
-use Rattle.table_faults.specs.declared.faults.TableFault.TheVariants.{Infeasible as NoPlan}
-use Rattle.run_outcome.specs.declared.refusal.Refusal.{Refusal}
-use Rattle.run_outcome.specs.declared.refusal.Refusal.TheVariants.{Usage, BadTable, Infeasible, SecondInfeasible}
-use Rattle.run_outcome.specs.Refusals.{Outcome}
-use Rattle.run_outcome.specs.Writings.{Writing, whole_of}
-use Rattle.command_line.specs.declared.Command.{Command}
+use Rattle.faults.specs.declared.table_fault.TableFault.TheVariants.{Infeasible as NoPlan}
+use Rattle.command_line.specs.declared.refusal.Refusal.{Refusal}
+use Rattle.command_line.specs.declared.refusal.Refusal.TheVariants.{Usage, BadTable, Infeasible, SecondInfeasible}
+use Rattle.command_line.specs.Refusals.{Outcome}
+use Rattle.command_line.specs.Writings.{Writing, whole_of}
+use Rattle.command_line.specs.declared.commands.Command.{Command}
 use Rattle.command_line.specs.Commands.{command_of}
 use Rattle.run_steps.specs.Readings.{plan_from, second_from}
 use Rattle.run_steps.specs.Sets.{set_from, second_set}

@@ -7,10 +7,10 @@ use Rattle.std.proofs.lemmas.List.{take_all}
 use Rattle.slot_core.specs.Calls.Results.{◌>>=◌}
 use Rattle.slot_core.specs.declared.events.Arrival.{Arrival}
 use Rattle.slot_core.specs.declared.tasks.TaskSet.{TaskSet}
-use Rattle.run_outcome.specs.declared.file.File.{File}
-use Rattle.run_outcome.specs.declared.file.File.TheVariants.{Arrivals as ArrivalsFile}
-use Rattle.run_outcome.specs.declared.refusal.Refusal.TheVariants.{Unreadable, TooLarge}
-use Rattle.run_outcome.specs.Refusals.{Outcome, limit_of}
+use Rattle.command_line.specs.declared.file.File.{File}
+use Rattle.command_line.specs.declared.file.File.TheVariants.{Arrivals as ArrivalsFile}
+use Rattle.command_line.specs.declared.refusal.Refusal.TheVariants.{Unreadable, TooLarge}
+use Rattle.command_line.specs.Refusals.{Outcome, limit_of}
 use Rattle.run_steps.specs.Readings.{limited_bytes, fitting_arrivals}
 
 -- the words of a table, and those of a replay and of a verification: the file of a plan, that of

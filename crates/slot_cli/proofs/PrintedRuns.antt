@@ -6,17 +6,17 @@ use Rattle.std.specs.Io.KnownBytes.{Appends}
 use Rattle.slot_core.specs.Calls.Results.{◌>>=◌}
 use Rattle.slot_core.specs.Keeping.Plans.{PlanParts}
 use Rattle.slot_io.specs.Files.{Held}
-use Rattle.run_outcome.specs.declared.refusal.Refusal.TheVariants.{Usage}
-use Rattle.run_outcome.specs.Refusals.{Outcome}
-use Rattle.run_outcome.specs.Writings.{Writing, whole_of}
-use Rattle.command_line.specs.declared.Command.{Command}
+use Rattle.command_line.specs.declared.refusal.Refusal.TheVariants.{Usage}
+use Rattle.command_line.specs.Refusals.{Outcome}
+use Rattle.command_line.specs.Writings.{Writing, whole_of}
+use Rattle.command_line.specs.declared.commands.Command.{Command}
 use Rattle.command_line.specs.Commands.{command_of, slots_of}
 use Rattle.run_steps.specs.Readings.{plan_from, second_from}
 use Rattle.slot_cli.specs.Due.{arrivals_for, check_for, expected, output_due, plan_of_run, writing_for, writing_from, writing_of}
 use Rattle.slot_cli.specs.Printed.{IsPrinted}
 use Rattle.slot_cli.proofs.ExplainedRows.{row-shows_why}
-use Rattle.command_line.specs.declared.Output.{Output}
-use Rattle.command_line.specs.declared.Output.TheVariants.{Change}
+use Rattle.command_line.specs.declared.commands.Output.{Output}
+use Rattle.command_line.specs.declared.commands.Output.TheVariants.{Change}
 use Rattle.command_line.proofs.CommandLemmas.{in_range-command}
 use Rattle.run_steps.proofs.SourcePlans.{IsPlan-second}
 use Rattle.slot_cli.proofs.ChangedRuns.{granted-of_text, second-there}

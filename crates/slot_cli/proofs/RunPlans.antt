@@ -6,9 +6,9 @@ use Rattle.slot_core.specs.Runs.Arrivals.{are_fitting}
 use Rattle.slot_core.specs.Keeping.Plans.{PlanParts, IsPlan}
 use Rattle.slot_io.specs.Files.{Held}
 use Rattle.load_gen.specs.Loads.{load_set}
-use Rattle.run_outcome.specs.declared.refusal.Refusal.TheVariants.{Usage}
-use Rattle.command_line.specs.declared.Arrivals.TheVariants.{Generated}
-use Rattle.command_line.specs.declared.Command.{Command}
+use Rattle.command_line.specs.declared.refusal.Refusal.TheVariants.{Usage}
+use Rattle.command_line.specs.declared.commands.Arrivals.TheVariants.{Generated}
+use Rattle.command_line.specs.declared.commands.Command.{Command}
 use Rattle.command_line.specs.Commands.{command_of, slots_of}
 use Rattle.command_line.proofs.CommandLemmas.{in_range-command}
 use Rattle.run_steps.specs.Readings.{plan_from}

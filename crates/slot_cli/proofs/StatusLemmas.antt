@@ -1,22 +1,22 @@
 -- What a status says of the files.
 use Rattle.std.proofs.Common.{◌≡◌, ◌⊎◌, ℕ, Bool, true, false, List, Option, None, Some, IfSome, Result, Ok, Err, refl, sym, ap, subst, ◌∙◌, inl, inr}
 use Rattle.std.proofs.lemmas.Option.{IfSome_then}
-use Rattle.arrival_faults.specs.declared.faults.ArrivalFault.{ArrivalFault}
+use Rattle.faults.specs.declared.arrival_fault.ArrivalFault.{ArrivalFault}
 use Rattle.slot_core.specs.declared.faults.TaskFault.{TaskFault}
 use Rattle.slot_core.specs.declared.jobs.Evidence.{Evidence}
 use Rattle.slot_core.specs.declared.jobs.Window.{Window}
 use Rattle.std.specs.Io.KnownBytes.{Appends}
 use Rattle.slot_core.specs.Calls.Results.{◌>>=◌}
 use Rattle.slot_io.specs.Files.{Held}
-use Rattle.table_faults.specs.declared.faults.TableFault.{TableFault}
-use Rattle.run_outcome.specs.declared.status.Status.{Status}
-use Rattle.run_outcome.specs.declared.file.File.{File}
-use Rattle.run_outcome.specs.declared.refusal.Refusal.{Refusal}
-use Rattle.run_outcome.specs.declared.refusal.Refusal.TheVariants.{Usage, Unreadable, TooLarge, BadTasks, Infeasible, BadTable, BadArrivals, NotVerified, BadSecond, SecondInfeasible, NoRow, NotCycleEnd, NoChange, WriteFault, Memory}
-use Rattle.run_outcome.specs.Refusals.{Outcome, refusal_status, has_fixed_line, is_found}
-use Rattle.run_outcome.specs.Writings.{Writing, IsPut, all_after, all_of, leaves_output, whole_of}
+use Rattle.faults.specs.declared.table_fault.TableFault.{TableFault}
+use Rattle.command_line.specs.declared.status.Status.{Status}
+use Rattle.command_line.specs.declared.file.File.{File}
+use Rattle.command_line.specs.declared.refusal.Refusal.{Refusal}
+use Rattle.command_line.specs.declared.refusal.Refusal.TheVariants.{Usage, Unreadable, TooLarge, BadTasks, Infeasible, BadTable, BadArrivals, NotVerified, BadSecond, SecondInfeasible, NoRow, NotCycleEnd, NoChange, WriteFault, Memory}
+use Rattle.command_line.specs.Refusals.{Outcome, refusal_status, has_fixed_line, is_found}
+use Rattle.command_line.specs.Writings.{Writing, IsPut, all_after, all_of, leaves_output, whole_of}
 use Rattle.command_line.specs.Commands.{command_of}
-use Rattle.command_line.specs.declared.Command.{Command}
+use Rattle.command_line.specs.declared.commands.Command.{Command}
 use Rattle.slot_cli.specs.Due.{expected, writing_due}
 use Rattle.slot_cli.specs.Runs.{IsHostFault, IsAnswerTo, HasFrontAtMost, IsRefusedChange, leaves_output_at}
 

@@ -15,19 +15,19 @@ use Rattle.slot_io.specs.Files.{Held}
 use Rattle.table_codec.specs.Grammar.{Spells, spelling}
 use Rattle.table_codec.proofs.Lengths.{length-spelled}
 use Rattle.table_codec.proofs.TableLaws.{reading-from_spelled}
-use Rattle.run_outcome.specs.declared.file.File.TheVariants.{Table as TableFile, Arrivals as ArrivalsFile}
-use Rattle.run_outcome.specs.declared.refusal.Refusal.TheVariants.{Unreadable, TooLarge, BadTable}
-use Rattle.run_outcome.specs.Refusals.{Outcome, limit_of}
-use Rattle.command_line.specs.declared.Arrivals.TheVariants.{Recorded}
-use Rattle.command_line.specs.declared.Command.{Command}
-use Rattle.command_line.specs.declared.Output.TheVariants.{OfRun}
-use Rattle.command_line.specs.declared.RunOutput.TheVariants.{Trace}
-use Rattle.command_line.specs.declared.Check.TheVariants.{Unchecked}
-use Rattle.command_line.specs.declared.Second.TheVariants.{Unread}
-use Rattle.command_line.specs.declared.Source.{Source}
-use Rattle.command_line.specs.declared.Source.TheVariants.{Tasks, Spelled}
+use Rattle.command_line.specs.declared.file.File.TheVariants.{Table as TableFile, Arrivals as ArrivalsFile}
+use Rattle.command_line.specs.declared.refusal.Refusal.TheVariants.{Unreadable, TooLarge, BadTable}
+use Rattle.command_line.specs.Refusals.{Outcome, limit_of}
+use Rattle.command_line.specs.declared.commands.Arrivals.TheVariants.{Recorded}
+use Rattle.command_line.specs.declared.commands.Command.{Command}
+use Rattle.command_line.specs.declared.commands.Output.TheVariants.{OfRun}
+use Rattle.command_line.specs.declared.commands.RunOutput.TheVariants.{Trace}
+use Rattle.command_line.specs.declared.commands.Check.TheVariants.{Unchecked}
+use Rattle.command_line.specs.declared.commands.Second.TheVariants.{Unread}
+use Rattle.command_line.specs.declared.commands.Source.{Source}
+use Rattle.command_line.specs.declared.commands.Source.TheVariants.{Tasks, Spelled}
 use Rattle.command_line.specs.Commands.{number_up_to, over_slots}
-use Rattle.run_outcome.specs.Writings.{Writing, in_whole, whole_of}
+use Rattle.command_line.specs.Writings.{Writing, in_whole, whole_of}
 use Rattle.run_steps.specs.Readings.{limited_bytes, bytes_of, spelled_plan, fitting_arrivals, recorded_arrivals, plan_from}
 use Rattle.slot_cli.specs.Due.{writing_of, due_of, expected}
 use Rattle.slot_cli.specs.Tables.{AWrittenTableReplaysTheSame, EachSpellingReplaysTheSame}

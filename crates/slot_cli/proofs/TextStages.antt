@@ -6,9 +6,9 @@ use Rattle.slot_core.specs.declared.events.Arrival.{Arrival}
 use Rattle.slot_core.specs.declared.jobs.Evidence.{Evidence}
 use Rattle.slot_core.specs.Keeping.Plans.{PlanParts}
 use Rattle.slot_io.specs.Files.{Held}
-use Rattle.run_outcome.specs.Refusals.{Outcome}
-use Rattle.run_outcome.specs.Writings.{Writing, whole_of}
-use Rattle.command_line.specs.declared.Command.{Command}
+use Rattle.command_line.specs.Refusals.{Outcome}
+use Rattle.command_line.specs.Writings.{Writing, whole_of}
+use Rattle.command_line.specs.declared.commands.Command.{Command}
 use Rattle.command_line.specs.Commands.{slots_of}
 use Rattle.run_steps.specs.Readings.{plan_from, second_from}
 use Rattle.run_steps.specs.Stages.{stage_due}

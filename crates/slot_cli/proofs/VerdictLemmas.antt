@@ -4,9 +4,9 @@ use Rattle.slot_core.specs.declared.jobs.Window.{Window}
 use Rattle.slot_core.specs.declared.tasks.TaskSet.{TaskSet}
 use Rattle.slot_io.specs.Files.{Held}
 use Rattle.demand_test.proofs.Schedules.{unserved-from_some}
-use Rattle.run_outcome.specs.declared.refusal.Refusal.{Refusal}
-use Rattle.run_outcome.specs.Refusals.{Outcome, refusal_line}
-use Rattle.run_outcome.specs.Reports.{IsTold}
+use Rattle.command_line.specs.declared.refusal.Refusal.{Refusal}
+use Rattle.command_line.specs.Refusals.{Outcome, refusal_line}
+use Rattle.command_line.specs.Reports.{IsTold}
 use Rattle.slot_cli.specs.Due.{expected}
 use Rattle.slot_cli.specs.Verdicts.{IsInfeasibleRun}
 use Rattle.run_steps.proofs.RefusedSets.{IsRefused}

@@ -25,20 +25,20 @@ use Rattle.trace_verify.specs.Verdicts.{verdict}
 use Rattle.trace_verify.proofs.FromVerdict.{lawful-from_verdict}
 use Rattle.trace_verify.proofs.ToVerdict.{verdict-from_lawful}
 use Rattle.plan_reports.specs.Lines.{verified_line}
-use Rattle.run_outcome.specs.declared.file.File.TheVariants.{Tasks as TaskFile, Arrivals as ArrivalsFile, Trace as TraceFile}
-use Rattle.run_outcome.specs.declared.refusal.Refusal.{Refusal}
-use Rattle.run_outcome.specs.declared.refusal.Refusal.TheVariants.{Unreadable, TooLarge}
-use Rattle.run_outcome.specs.Refusals.{Outcome, limit_of}
-use Rattle.run_outcome.specs.Writings.{Writing, in_whole, whole_of}
-use Rattle.command_line.specs.declared.Arrivals.TheVariants.{Recorded}
-use Rattle.command_line.specs.declared.Check.{Check}
-use Rattle.command_line.specs.declared.Check.TheVariants.{Unchecked, Verified}
-use Rattle.command_line.specs.declared.Command.{Command}
-use Rattle.command_line.specs.declared.Output.TheVariants.{OfPlan, OfRun}
-use Rattle.command_line.specs.declared.PlanOutput.TheVariants.{Lines}
-use Rattle.command_line.specs.declared.RunOutput.TheVariants.{Trace}
-use Rattle.command_line.specs.declared.Second.TheVariants.{Unread}
-use Rattle.command_line.specs.declared.Source.TheVariants.{Tasks}
+use Rattle.command_line.specs.declared.file.File.TheVariants.{Tasks as TaskFile, Arrivals as ArrivalsFile, Trace as TraceFile}
+use Rattle.command_line.specs.declared.refusal.Refusal.{Refusal}
+use Rattle.command_line.specs.declared.refusal.Refusal.TheVariants.{Unreadable, TooLarge}
+use Rattle.command_line.specs.Refusals.{Outcome, limit_of}
+use Rattle.command_line.specs.Writings.{Writing, in_whole, whole_of}
+use Rattle.command_line.specs.declared.commands.Arrivals.TheVariants.{Recorded}
+use Rattle.command_line.specs.declared.commands.Check.{Check}
+use Rattle.command_line.specs.declared.commands.Check.TheVariants.{Unchecked, Verified}
+use Rattle.command_line.specs.declared.commands.Command.{Command}
+use Rattle.command_line.specs.declared.commands.Output.TheVariants.{OfPlan, OfRun}
+use Rattle.command_line.specs.declared.commands.PlanOutput.TheVariants.{Lines}
+use Rattle.command_line.specs.declared.commands.RunOutput.TheVariants.{Trace}
+use Rattle.command_line.specs.declared.commands.Second.TheVariants.{Unread}
+use Rattle.command_line.specs.declared.commands.Source.TheVariants.{Tasks}
 use Rattle.command_line.specs.Commands.{command_of, number_up_to, of_trace, over_slots, slots_of}
 use Rattle.command_line.proofs.CommandLemmas.{in_range-command}
 use Rattle.run_steps.specs.Readings.{arrivals_from, bytes_of, check_from, fitting_arrivals, lawful_trace, limited_bytes, plan_from, planned_plan, second_from}

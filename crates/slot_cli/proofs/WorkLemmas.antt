@@ -10,12 +10,12 @@ use Rattle.slot_core.specs.declared.jobs.Evidence.{Evidence}
 use Rattle.slot_core.specs.Keeping.Plans.{PlanParts}
 use Rattle.slot_io.specs.Files.{Held}
 use Rattle.slot_io.specs.Sinks.{AppendsPart}
-use Rattle.run_outcome.specs.declared.file.File.{File}
-use Rattle.run_outcome.specs.declared.refusal.Refusal.{Refusal}
-use Rattle.run_outcome.specs.declared.refusal.Refusal.TheVariants.{Usage, Unreadable, TooLarge, BadTasks, Infeasible, BadTable, BadArrivals, NotVerified, BadSecond, SecondInfeasible, NoRow, NotCycleEnd, NoChange, WriteFault, Memory}
-use Rattle.run_outcome.specs.Refusals.{Outcome, is_found}
-use Rattle.run_outcome.specs.Writings.{Writing, IsPut, IsPartWriting, IsWriting, all_after, all_of, in_whole, leaves_output, whole_of}
-use Rattle.command_line.specs.declared.Command.{Command}
+use Rattle.command_line.specs.declared.file.File.{File}
+use Rattle.command_line.specs.declared.refusal.Refusal.{Refusal}
+use Rattle.command_line.specs.declared.refusal.Refusal.TheVariants.{Usage, Unreadable, TooLarge, BadTasks, Infeasible, BadTable, BadArrivals, NotVerified, BadSecond, SecondInfeasible, NoRow, NotCycleEnd, NoChange, WriteFault, Memory}
+use Rattle.command_line.specs.Refusals.{Outcome, is_found}
+use Rattle.command_line.specs.Writings.{Writing, IsPut, IsPartWriting, IsWriting, all_after, all_of, in_whole, leaves_output, whole_of}
+use Rattle.command_line.specs.declared.commands.Command.{Command}
 use Rattle.command_line.specs.Commands.{is_file_of, is_second_of, is_recorded_in, is_verified_in, reads, writes_in_parts}
 use Rattle.run_steps.specs.Readings.{plan_from, second_from}
 use Rattle.run_steps.specs.Stages.{stage_of, stage_due}

@@ -15,7 +15,7 @@ use Rattle.mode_switch.specs.Grants.{CanChange}
 use Rattle.mode_switch.specs.Keeping.{carried_from}
 use Rattle.mode_switch.specs.Runs.{IsServedAfter, after_change}
 use Rattle.mode_switch.specs.Texts.{change_text}
-use Rattle.run_outcome.specs.Writings.{Writing}
+use Rattle.command_line.specs.Writings.{Writing}
 
 -- the history of the trace of so many slots
 abbrev pub history_to : PlanParts → List Arrival → ℕ → History

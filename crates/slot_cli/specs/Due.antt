@@ -6,12 +6,12 @@ use Rattle.slot_core.specs.declared.events.Arrival.{Arrival}
 use Rattle.slot_core.specs.declared.tasks.TaskSet.{TaskSet}
 use Rattle.slot_core.specs.Keeping.Plans.{PlanParts}
 use Rattle.slot_io.specs.Files.{Held}
-use Rattle.run_outcome.specs.declared.refusal.Refusal.TheVariants.{Usage}
-use Rattle.run_outcome.specs.Refusals.{Outcome}
-use Rattle.run_outcome.specs.Writings.{Writing, in_whole, whole_of}
-use Rattle.command_line.specs.declared.Command.{Command}
-use Rattle.command_line.specs.declared.Output.{Output}
-use Rattle.command_line.specs.declared.Output.TheVariants.{OfPlan, OfRun, Change}
+use Rattle.command_line.specs.declared.refusal.Refusal.TheVariants.{Usage}
+use Rattle.command_line.specs.Refusals.{Outcome}
+use Rattle.command_line.specs.Writings.{Writing, in_whole, whole_of}
+use Rattle.command_line.specs.declared.commands.Command.{Command}
+use Rattle.command_line.specs.declared.commands.Output.{Output}
+use Rattle.command_line.specs.declared.commands.Output.TheVariants.{OfPlan, OfRun, Change}
 use Rattle.command_line.specs.Commands.{command_of, slots_of}
 use Rattle.plan_reports.specs.Texts.{plan_text}
 use Rattle.slot_cli.specs.RunTexts.{run_writing, HasRow}

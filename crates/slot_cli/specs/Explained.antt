@@ -15,7 +15,7 @@ use Rattle.slot_core.specs.Runs.Scenes.{scene_of}
 use Rattle.slot_core.specs.Runs.Traces.{trace}
 use Rattle.arrival_replay.specs.Replays.{entries_before, history_before}
 use Rattle.future_check.specs.Explanations.{explanation, shown_slots}
-use Rattle.run_outcome.specs.Writings.{Writing, in_whole}
+use Rattle.command_line.specs.Writings.{Writing, in_whole}
 use Rattle.slot_cli.specs.declared.rows.RefusedOffer.{RefusedOffer}
 
 -- the offer of an entry that refuses it for want of room, if it is such an entry

@@ -9,11 +9,11 @@ use Rattle.slot_core.specs.Keeping.Plans.{PlanParts, IsPlan}
 use Rattle.slot_core.specs.Claims.Service.{IsServed, IsOrdered}
 use Rattle.slot_core.specs.Runs.Traces.{trace, history_of}
 use Rattle.slot_io.specs.Files.{Held}
-use Rattle.command_line.specs.declared.Command.{Command}
-use Rattle.command_line.specs.declared.Output.TheVariants.{OfRun, Change}
-use Rattle.command_line.specs.declared.RunOutput.TheVariants.{Explanation}
+use Rattle.command_line.specs.declared.commands.Command.{Command}
+use Rattle.command_line.specs.declared.commands.Output.TheVariants.{OfRun, Change}
+use Rattle.command_line.specs.declared.commands.RunOutput.TheVariants.{Explanation}
 use Rattle.command_line.specs.Commands.{command_of, slots_of}
-use Rattle.run_outcome.specs.Writings.{whole_of}
+use Rattle.command_line.specs.Writings.{whole_of}
 use Rattle.run_steps.specs.Readings.{second_from}
 use Rattle.slot_cli.specs.Changed.{IsGranted}
 use Rattle.slot_cli.specs.Explained.{RowShowsWhy}

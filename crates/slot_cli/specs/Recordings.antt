@@ -10,8 +10,8 @@ use Rattle.slot_core.specs.Keeping.Plans.{PlanParts}
 use Rattle.slot_core.specs.Output.Texts.{trace_text}
 use Rattle.slot_core.specs.Runs.Traces.{history_of}
 use Rattle.slot_io.specs.Files.{Held}
-use Rattle.run_outcome.specs.declared.file.File.TheVariants.{Trace as TraceFile}
-use Rattle.command_line.specs.declared.Command.{Command}
+use Rattle.command_line.specs.declared.file.File.TheVariants.{Trace as TraceFile}
+use Rattle.command_line.specs.declared.commands.Command.{Command}
 use Rattle.command_line.specs.Commands.{command_of, slots_of}
 use Rattle.plan_reports.specs.Lines.{verified_line}
 use Rattle.run_steps.specs.Readings.{bytes_of}

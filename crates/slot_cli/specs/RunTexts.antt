@@ -5,9 +5,9 @@ use Rattle.slot_core.specs.Keeping.Plans.{PlanParts}
 use Rattle.slot_core.specs.Output.Charts.{chart_text, tally_text}
 use Rattle.slot_core.specs.Output.Texts.{trace_text}
 use Rattle.slot_core.specs.Runs.Traces.{trace}
-use Rattle.run_outcome.specs.Writings.{Writing, in_whole}
-use Rattle.command_line.specs.declared.RunOutput.{RunOutput}
-use Rattle.command_line.specs.declared.RunOutput.TheVariants.{Trace, Chart, Tally, Explanation}
+use Rattle.command_line.specs.Writings.{Writing, in_whole}
+use Rattle.command_line.specs.declared.commands.RunOutput.{RunOutput}
+use Rattle.command_line.specs.declared.commands.RunOutput.TheVariants.{Trace, Chart, Tally, Explanation}
 use Rattle.slot_cli.specs.Explained.{explained}
 
 -- what is written of the run of a plan with these arrivals over so many slots

@@ -3,14 +3,14 @@ use Rattle.std.specs.Prelude.{◌≡◌, ℕ, ◌≤◌, ◌⊎◌, ⊤, Bool, t
 use Rattle.std.specs.Io.KnownBytes.{Appends}
 use Rattle.slot_core.specs.declared.jobs.Evidence.{Evidence}
 use Rattle.slot_io.specs.Files.{Held}
-use Rattle.run_outcome.specs.declared.file.File.{File}
-use Rattle.run_outcome.specs.declared.refusal.Refusal.{Refusal}
-use Rattle.run_outcome.specs.declared.refusal.Refusal.TheVariants.{Unreadable, NotCycleEnd, NoChange, WriteFault, Memory}
-use Rattle.run_outcome.specs.declared.status.Status.{Status}
-use Rattle.run_outcome.specs.Refusals.{Outcome, name_of, status_of, fault_line}
-use Rattle.run_outcome.specs.Reports.{IsTold}
-use Rattle.run_outcome.specs.Writings.{Writing, IsPut, leaves_output}
-use Rattle.command_line.specs.declared.Command.{Command}
+use Rattle.command_line.specs.declared.file.File.{File}
+use Rattle.command_line.specs.declared.refusal.Refusal.{Refusal}
+use Rattle.command_line.specs.declared.refusal.Refusal.TheVariants.{Unreadable, NotCycleEnd, NoChange, WriteFault, Memory}
+use Rattle.command_line.specs.declared.status.Status.{Status}
+use Rattle.command_line.specs.Refusals.{Outcome, name_of, status_of, fault_line}
+use Rattle.command_line.specs.Reports.{IsTold}
+use Rattle.command_line.specs.Writings.{Writing, IsPut, leaves_output}
+use Rattle.command_line.specs.declared.commands.Command.{Command}
 use Rattle.command_line.specs.Commands.{command_of, reads, writes_in_parts}
 use Rattle.run_steps.specs.Stages.{stage_of, stage_due}
 use Rattle.slot_cli.specs.Due.{expected, writing_due}

@@ -4,7 +4,7 @@ use Rattle.std.specs.FinMap.{get}
 use Rattle.slot_io.specs.Files.{Held}
 use Rattle.slot_core.specs.Keeping.Plans.{PlanParts}
 use Rattle.table_codec.specs.Grammar.{Spells}
-use Rattle.command_line.specs.declared.Source.TheVariants.{Tasks}
+use Rattle.command_line.specs.declared.commands.Source.TheVariants.{Tasks}
 use Rattle.run_steps.specs.Readings.{plan_from}
 use Rattle.slot_cli.specs.Due.{expected}
 

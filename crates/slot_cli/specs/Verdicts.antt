@@ -6,12 +6,12 @@ use Rattle.slot_core.specs.declared.tasks.TaskSet.{TaskSet}
 use Rattle.slot_core.specs.Claims.Futures.{CyclesCanBeServed, DensestLeavesNone}
 use Rattle.slot_core.specs.Keeping.Plans.{PlanParts}
 use Rattle.slot_io.specs.Files.{Held}
-use Rattle.table_faults.specs.declared.faults.TableFault.TheVariants.{Infeasible as NoPlan}
-use Rattle.run_outcome.specs.declared.refusal.Refusal.{Refusal}
-use Rattle.run_outcome.specs.declared.refusal.Refusal.TheVariants.{Usage, Infeasible, BadTable, SecondInfeasible}
-use Rattle.run_outcome.specs.declared.status.Status.{Status}
-use Rattle.run_outcome.specs.Refusals.{Outcome, refusal_line}
-use Rattle.run_outcome.specs.Reports.{IsTold}
+use Rattle.faults.specs.declared.table_fault.TableFault.TheVariants.{Infeasible as NoPlan}
+use Rattle.command_line.specs.declared.refusal.Refusal.{Refusal}
+use Rattle.command_line.specs.declared.refusal.Refusal.TheVariants.{Usage, Infeasible, BadTable, SecondInfeasible}
+use Rattle.command_line.specs.declared.status.Status.{Status}
+use Rattle.command_line.specs.Refusals.{Outcome, refusal_line}
+use Rattle.command_line.specs.Reports.{IsTold}
 use Rattle.command_line.specs.Commands.{command_of}
 use Rattle.run_steps.specs.Sets.{set_from, second_set}
 use Rattle.slot_cli.specs.Due.{plan_of_run, expected}

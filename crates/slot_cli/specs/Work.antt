@@ -2,12 +2,12 @@
 use Rattle.std.specs.Prelude.{◌≡◌, ◌↔◌, ℕ, true, List, Option, None, Some, Ok, Err, IfOk, IfErr}
 use Rattle.slot_core.specs.Calls.Counts.{Rose}
 use Rattle.slot_io.specs.Files.{Held}
-use Rattle.run_outcome.specs.declared.file.File.{File}
-use Rattle.run_outcome.specs.declared.refusal.Refusal.{Refusal}
-use Rattle.run_outcome.specs.declared.refusal.Refusal.TheVariants.{Usage, Unreadable, WriteFault}
-use Rattle.run_outcome.specs.Refusals.{Outcome, name_of}
-use Rattle.run_outcome.specs.Writings.{Writing, IsPut, leaves_output}
-use Rattle.command_line.specs.declared.Command.{Command}
+use Rattle.command_line.specs.declared.file.File.{File}
+use Rattle.command_line.specs.declared.refusal.Refusal.{Refusal}
+use Rattle.command_line.specs.declared.refusal.Refusal.TheVariants.{Usage, Unreadable, WriteFault}
+use Rattle.command_line.specs.Refusals.{Outcome, name_of}
+use Rattle.command_line.specs.Writings.{Writing, IsPut, leaves_output}
+use Rattle.command_line.specs.declared.commands.Command.{Command}
 use Rattle.slot_cli.specs.Due.{due_of, writing_for}
 use Rattle.slot_cli.specs.Runs.{Reads, IsAnswerTo, in_parts}
 

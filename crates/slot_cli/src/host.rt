@@ -2,12 +2,12 @@
 
 ghost use Rattle.std.specs.Prelude.{◌≡◌, ◌↔◌, None, IfOk, IsErr};
 ghost use Rattle.std.specs.Process.{exit_status};
-ghost use Rattle.run_outcome.specs.declared.status.Status.{Status};
-ghost use Rattle.run_outcome.specs.Statuses.{exit_number};
+ghost use Rattle.command_line.specs.declared.status.Status.{Status};
+ghost use Rattle.command_line.specs.Statuses.{exit_number};
 ghost use Rattle.command_line.specs.Commands.{command_of};
 
 use crate::run;
-use run_outcome::Status;
+use command_line::Status;
 use slot_core::{Memory, Words};
 use slot_io::{HostFiles, HostSink, words_of};
 use std::alloc::Global;

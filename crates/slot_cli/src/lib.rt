@@ -3,7 +3,7 @@
 
 ghost use Rattle.std.specs.Prelude.{◌≡◌, ◌≢◌, ◌↔◌, ◌⊎◌, ℕ, true, List, None, Some, Ok, Err, IfSome};
 ghost use Rattle.std.specs.Io.KnownBytes.{Appends};
-ghost use Rattle.arrival_faults.specs.declared.faults.ArrivalFault.{ArrivalFault};
+ghost use Rattle.faults.specs.declared.arrival_fault.ArrivalFault.{ArrivalFault};
 ghost use Rattle.slot_core.specs.declared.events.Arrival.{Arrival};
 ghost use Rattle.slot_core.specs.declared.faults.TaskFault.{TaskFault};
 ghost use Rattle.slot_core.specs.declared.jobs.Window.{Window};
@@ -13,11 +13,11 @@ ghost use Rattle.slot_core.specs.Keeping.Plans.{IsPlan, PlanParts};
 ghost use Rattle.slot_core.specs.Claims.Service.{IsServed, IsOrdered};
 ghost use Rattle.slot_core.specs.Runs.Traces.{trace, history_of};
 ghost use Rattle.slot_core.specs.Calls.Counts.{Rose};
-ghost use Rattle.table_faults.specs.declared.faults.TableFault.{TableFault};
-ghost use Rattle.run_outcome.specs.declared.file.File.{File};
-ghost use Rattle.run_outcome.specs.declared.refusal.Refusal.{Refusal};
-ghost use Rattle.command_line.specs.declared.Check.{Check};
-ghost use Rattle.command_line.specs.declared.Command.{Command};
+ghost use Rattle.faults.specs.declared.table_fault.TableFault.{TableFault};
+ghost use Rattle.command_line.specs.declared.file.File.{File};
+ghost use Rattle.command_line.specs.declared.refusal.Refusal.{Refusal};
+ghost use Rattle.command_line.specs.declared.commands.Check.{Check};
+ghost use Rattle.command_line.specs.declared.commands.Command.{Command};
 ghost use Rattle.command_line.specs.Commands.{command_of, slots_of};
 ghost use Rattle.slot_cli.specs.Changed.{history_to, IsChangeExact};
 ghost use Rattle.slot_cli.specs.Due.{arrivals_for, expected, plan_of_run, writing_due};
@@ -34,9 +34,9 @@ mod runs;
 mod traces;
 mod work;
 
+use command_line::report;
+pub use command_line::{File, OUT_OF_MEMORY, Refusal, Status};
 pub use host::run_on_host;
-use run_outcome::report;
-pub use run_outcome::{File, OUT_OF_MEMORY, Refusal, Status};
 use slot_core::Words;
 use slot_io::{Files, Sink};
 use std::alloc::Global;

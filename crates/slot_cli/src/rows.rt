@@ -6,13 +6,13 @@ ghost use Rattle.slot_core.specs.Keeping.Executives.{StandsFor};
 ghost use Rattle.slot_core.specs.Runs.Arrivals.{are_fitting};
 ghost use Rattle.slot_core.specs.Runs.Histories.{History};
 ghost use Rattle.slot_core.specs.Runs.Scenes.{horizon};
-ghost use Rattle.run_outcome.specs.Writings.{IsPartWriting, IsWriting};
+ghost use Rattle.command_line.specs.Writings.{IsPartWriting, IsWriting};
 ghost use Rattle.slot_cli.specs.Explained.{explained, offer_text, refusal_text, refused_offer};
 
 use arrival_replay::{advance, tell_arrival};
+use command_line::Refusal;
 use future_check::{ExplainFault, explain};
 use interval_row::ChainTable;
-use run_outcome::Refusal;
 use slot_core::{Arrival, Firm, What};
 use slot_exec::Exec;
 use slot_io::Sink;

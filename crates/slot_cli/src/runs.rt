@@ -4,16 +4,15 @@
 ghost use Rattle.std.specs.Prelude.{◌≡◌, true, []};
 ghost use Rattle.slot_core.specs.Keeping.Executives.{StandsFor};
 ghost use Rattle.slot_core.specs.Runs.Arrivals.{are_fitting};
-ghost use Rattle.run_outcome.specs.Writings.{IsPartWriting};
+ghost use Rattle.command_line.specs.Writings.{IsPartWriting};
 ghost use Rattle.command_line.specs.Commands.{tells_in_parts, IsRunOutputInRange};
 ghost use Rattle.slot_cli.specs.RunTexts.{run_writing, HasRow};
 
 use crate::rows::tell_row;
 use crate::traces::{count_trace, draw_trace, tell_trace};
-use command_line::RunOutput;
+use command_line::{Refusal, RunOutput};
 use cycle_plan::Plan;
 use interval_row::ChainTable;
-use run_outcome::Refusal;
 use slot_core::Arrival;
 use slot_exec::Exec;
 use slot_io::Sink;

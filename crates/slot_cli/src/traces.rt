@@ -8,13 +8,13 @@ ghost use Rattle.slot_core.specs.Output.Texts.{trace_text};
 ghost use Rattle.slot_core.specs.Runs.Arrivals.{are_fitting};
 ghost use Rattle.slot_core.specs.Runs.Traces.{trace};
 ghost use Rattle.gantt_print.specs.Drawings.{empty_chart};
-ghost use Rattle.run_outcome.specs.Writings.{IsWriting};
+ghost use Rattle.command_line.specs.Writings.{IsWriting};
 
 use arrival_replay::{drive, replay};
+use command_line::Refusal;
 use gantt_print::Chart;
 use interval_row::ChainTable;
 use load_gen::Tally;
-use run_outcome::Refusal;
 use slot_core::Arrival;
 use slot_exec::Exec;
 use slot_io::Sink;

@@ -2,17 +2,16 @@
 
 ghost use Rattle.std.specs.Prelude.{◌≡◌, true, Some};
 ghost use Rattle.slot_core.specs.Runs.Arrivals.{are_fitting};
-ghost use Rattle.run_outcome.specs.Writings.{IsPartWriting};
+ghost use Rattle.command_line.specs.Writings.{IsPartWriting};
 ghost use Rattle.command_line.specs.Commands.{command_of, writes_in_parts, IsInRange, IsOutputInRange};
 ghost use Rattle.slot_cli.specs.Due.{output_due, MayBeWritten};
 ghost use Rattle.slot_cli.specs.Work.{IsWork};
 
 use crate::change::change_plan;
 use crate::runs::write_run;
-use command_line::{Command, Output, command_of};
+use command_line::{Command, Output, Refusal, command_of};
 use cycle_plan::Plan;
 use plan_reports::write_plan;
-use run_outcome::Refusal;
 use run_steps::{arrivals_from, check_arrivals, plan_from, second_from};
 use slot_core::{Arrival, Words};
 use slot_io::{Files, Sink};

@@ -25,6 +25,9 @@ pub use taker::Taker;
 pub use tasks::{Afters, Graph, Graphs, Jobs, Spans, Sporadic, Sporadics, Task, TaskSet, Tasks};
 pub use words::Words;
 
+/// The version of the programs, of the library and of what they read and write.
+pub const VERSION: &[u8] = b"1.0.0";
+
 /// Most bytes of a name.
 pub const NAME_LIMIT: usize = 24;
 

@@ -1,8 +1,8 @@
 -- The faults of a table in numbers.
 use Rattle.std.specs.Prelude.{◌≡◌, ◌⊎◌, ℕ, List, Err}
 use Rattle.slot_core.specs.Output.FaultNumbers.{fault_number as task_fault_number}
-use Rattle.table_faults.specs.declared.faults.TableFault.{TableFault}
-use Rattle.table_faults.specs.declared.faults.TableFault.TheVariants.{Memory, Short, BadMagic, BadVersion, BadSource, Infeasible, WrongJobCount, WrongJob, WrongSpanCount, WrongSpan, Trailing}
+use Rattle.faults.specs.declared.table_fault.TableFault.{TableFault}
+use Rattle.faults.specs.declared.table_fault.TableFault.TheVariants.{Memory, Short, BadMagic, BadVersion, BadSource, Infeasible, WrongJobCount, WrongJob, WrongSpanCount, WrongSpan, Trailing}
 use Rattle.table_codec.specs.Grammar.{reading_of_table}
 use Rattle.slot_port.specs.declared.numbers.Told.{Told}
 use Rattle.slot_port.specs.declared.status.TheConstants.{MEMORY, BAD_TABLE}

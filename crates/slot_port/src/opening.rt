@@ -5,7 +5,7 @@ ghost use Rattle.slot_core.specs.Keeping.Executives.{StandsFor};
 ghost use Rattle.slot_core.specs.Keeping.Plans.{IsPlan, PlanParts};
 ghost use Rattle.slot_core.specs.Runs.Traces.{started};
 ghost use Rattle.table_codec.specs.Grammar.{Spells};
-ghost use Rattle.table_faults.specs.declared.faults.TableFault.TheVariants.{Memory as NoMemory};
+ghost use Rattle.faults.specs.declared.table_fault.TableFault.TheVariants.{Memory as NoMemory};
 ghost use Rattle.slot_port.specs.declared.status.TheConstants.{BAD_TABLE, MEMORY};
 ghost use Rattle.slot_port.specs.Faults.{IsRefused, fault_numbers};
 

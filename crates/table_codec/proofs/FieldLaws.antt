@@ -12,7 +12,7 @@ use Rattle.slot_core.specs.declared.faults.Field.{Field}
 use Rattle.slot_core.specs.Sets.Names.{is_name}
 use Rattle.slot_core.specs.Sets.Ranges.{is_between}
 use Rattle.slot_facts.proofs.Sets.Ranges.{bounds}
-use Rattle.table_faults.specs.declared.faults.TableFault.{TableFault}
+use Rattle.faults.specs.declared.table_fault.TableFault.{TableFault}
 use Rattle.table_codec.specs.declared.layout.Layout.{Layout}
 use Rattle.table_codec.specs.declared.layout.NumberWidth.{NumberWidth}
 use Rattle.table_codec.specs.declared.layout.NumberWidth.TheVariants.{Two, Four}

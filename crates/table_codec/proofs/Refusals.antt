@@ -24,8 +24,8 @@ use Rattle.slot_core.specs.Keeping.Plans.{PlanParts, planned}
 use Rattle.slot_core.specs.Sets.Ranges.{is_between, is_sound}
 use Rattle.table_codec.specs.declared.layout.Layout.{Layout}
 use Rattle.table_codec.specs.Faults.{IsOfSet, NamesUnknown}
-use Rattle.table_faults.specs.declared.faults.TableFault.{TableFault}
-use Rattle.table_faults.specs.declared.faults.TableFault.TheVariants.{Short, BadMagic, BadVersion, BadSource, Infeasible, WrongJobCount, WrongJob, WrongSpanCount, WrongSpan, Trailing}
+use Rattle.faults.specs.declared.table_fault.TableFault.{TableFault}
+use Rattle.faults.specs.declared.table_fault.TableFault.TheVariants.{Short, BadMagic, BadVersion, BadSource, Infeasible, WrongJobCount, WrongJob, WrongSpanCount, WrongSpan, Trailing}
 use Rattle.table_codec.specs.Readers.{Unread, Read, Reader, go_on, settled, bytes_at, end_at, each_at, same_at, value_of}
 use Rattle.table_codec.specs.Forms.{Form, bytes_form, byte_form, number_form, tested, stored, each, up_to, one_up_to, same_count, bad_name, text_form, name_form}
 use Rattle.table_codec.specs.Grammar.{number_width, spare_width, layout_1, layout_2, layout_of, head_form, slots_form, range_form, index_form, task_form, graph_form, sporadic_form, set_form, sound_set, source_form, plan_of, key_form, job_form, spare_form, span_form, is_same_job, is_same_span, jobs_form, spans_form, stored_form, plan_form, table_form, reading_of_table}

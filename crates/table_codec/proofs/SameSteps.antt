@@ -4,8 +4,8 @@ use Rattle.std.specs.Prelude.{⊤}
 use Rattle.std.proofs.lemmas.List.{at_drop_more}
 use Rattle.std.proofs.lemmas.Option.{get_or_from_slice_get}
 use Rattle.slot_facts.proofs.Sets.Tasks.{slice_get-within}
-use Rattle.table_faults.specs.declared.faults.TableFault.{TableFault}
-use Rattle.table_faults.specs.declared.faults.TableFault.TheVariants.{Memory}
+use Rattle.faults.specs.declared.table_fault.TableFault.{TableFault}
+use Rattle.faults.specs.declared.table_fault.TableFault.TheVariants.{Memory}
 use Rattle.table_codec.specs.Readers.{Unread, Read, Reader, same_at}
 
 -- the things from place i on: the first, and the others

@@ -13,8 +13,8 @@ use Rattle.slot_core.specs.declared.jobs.Job.{Job}
 use Rattle.slot_core.specs.declared.jobs.Span.{Span}
 use Rattle.slot_core.specs.Offline.Keys.{key_order}
 use Rattle.slot_facts.proofs.Choice.Earliest.{same_from_order}
-use Rattle.table_faults.specs.declared.faults.TableFault.{TableFault}
-use Rattle.table_faults.specs.declared.faults.TableFault.TheVariants.{WrongJobCount, WrongJob, WrongSpanCount, WrongSpan}
+use Rattle.faults.specs.declared.table_fault.TableFault.{TableFault}
+use Rattle.faults.specs.declared.table_fault.TableFault.TheVariants.{WrongJobCount, WrongJob, WrongSpanCount, WrongSpan}
 use Rattle.table_codec.specs.declared.layout.Layout.{Layout}
 use Rattle.table_codec.specs.Readers.{Unread}
 use Rattle.table_codec.specs.Forms.{number_form, same_count, stored}

@@ -27,8 +27,8 @@ use Rattle.slot_core.specs.Feasibility.Feasible.{counterexample}
 use Rattle.slot_core.specs.Keeping.Plans.{PlanParts, IsPlan, planned}
 use Rattle.slot_core.specs.Sets.Ranges.{graph_in_range, is_in_range, is_sound}
 use Rattle.slot_facts.proofs.Sets.Ranges.{SetRanges-from_test, few_tasks}
-use Rattle.table_faults.specs.declared.faults.TableFault.{TableFault}
-use Rattle.table_faults.specs.declared.faults.TableFault.TheVariants.{Memory, Short, BadMagic, BadVersion, BadSource, Infeasible, WrongJobCount, WrongJob, WrongSpanCount, WrongSpan, Trailing}
+use Rattle.faults.specs.declared.table_fault.TableFault.{TableFault}
+use Rattle.faults.specs.declared.table_fault.TableFault.TheVariants.{Memory, Short, BadMagic, BadVersion, BadSource, Infeasible, WrongJobCount, WrongJob, WrongSpanCount, WrongSpan, Trailing}
 use Rattle.table_codec.specs.declared.layout.Layout.{Layout}
 use Rattle.table_codec.specs.Readers.{Unread, Read, go_on, settled, end_at, value_of}
 use Rattle.table_codec.specs.Faults.{NamesUnknown}

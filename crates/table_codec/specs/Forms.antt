@@ -8,8 +8,8 @@ use Rattle.slot_core.specs.declared.faults.Field.TheVariants.{Name}
 use Rattle.slot_core.specs.declared.faults.TaskFault.TheVariants.{Missing, OutOfRange, BadName, TooMany}
 use Rattle.slot_core.specs.Sets.Names.{is_name}
 use Rattle.slot_core.specs.Sets.Ranges.{is_between}
-use Rattle.table_faults.specs.declared.faults.TableFault.{TableFault}
-use Rattle.table_faults.specs.declared.faults.TableFault.TheVariants.{BadSource}
+use Rattle.faults.specs.declared.table_fault.TableFault.{TableFault}
+use Rattle.faults.specs.declared.table_fault.TableFault.TheVariants.{BadSource}
 use Rattle.table_codec.specs.Readers.{Reader, go_on, settled, bytes_at, end_at, each_at, same_at}
 
 -- how a part of a whole is spelled and read: its value in the whole, the bytes that it writes of

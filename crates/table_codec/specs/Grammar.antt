@@ -24,8 +24,8 @@ use Rattle.slot_core.specs.Sets.Faults.{set_fault}
 use Rattle.slot_core.specs.Feasibility.Feasible.{counterexample}
 use Rattle.slot_core.specs.Offline.Keys.{key_order}
 use Rattle.slot_core.specs.Keeping.Plans.{PlanParts, planned}
-use Rattle.table_faults.specs.declared.faults.TableFault.{TableFault}
-use Rattle.table_faults.specs.declared.faults.TableFault.TheVariants.{Memory, BadMagic, BadVersion, BadSource, Infeasible, WrongJobCount, WrongJob, WrongSpanCount, WrongSpan}
+use Rattle.faults.specs.declared.table_fault.TableFault.{TableFault}
+use Rattle.faults.specs.declared.table_fault.TableFault.TheVariants.{Memory, BadMagic, BadVersion, BadSource, Infeasible, WrongJobCount, WrongJob, WrongSpanCount, WrongSpan}
 use Rattle.table_codec.specs.declared.layout.Layout.{Layout}
 use Rattle.table_codec.specs.declared.layout.NumberWidth.{NumberWidth}
 use Rattle.table_codec.specs.declared.layout.NumberWidth.TheVariants.{Two, Four}

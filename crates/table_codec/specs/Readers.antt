@@ -1,7 +1,7 @@
 -- Reading bytes from left to right.
 use Rattle.std.specs.Prelude.{◌≡◌, ◌≢◌, MatchResult, ℕ, zero, suc, ◌+◌, ◌-◌, ◌==◌, nat_lt, Bool, List, [], ◌∷◌, length, take, drop, if◌then◌else◌, Result, Ok, Err, ⊤}
-use Rattle.table_faults.specs.declared.faults.TableFault.{TableFault}
-use Rattle.table_faults.specs.declared.faults.TableFault.TheVariants.{Memory, Short, Trailing}
+use Rattle.faults.specs.declared.table_fault.TableFault.{TableFault}
+use Rattle.faults.specs.declared.table_fault.TableFault.TheVariants.{Memory, Short, Trailing}
 
 -- the bytes of a table that are not read yet, and the number of all its bytes
 pub record Unread : Type 0 where

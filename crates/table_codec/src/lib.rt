@@ -15,12 +15,12 @@ mod table;
 mod writer;
 
 use cycle_plan::Plan;
+pub use faults::TableFault;
 use layout::Layout;
 use reader::Input;
 use slot_core::Memory;
 use std::alloc::Global;
 use table::read_table;
-pub use table_faults::TableFault;
 use writer::put_table;
 
 /// The bytes of the plan: its one spelling in the second version.

@@ -22,7 +22,7 @@ use Rattle.trace_verify.specs.Laws.{IsLawfulText}
 use Rattle.trace_verify.specs.Verdicts.{Checking, needed_line, told_by, same_line, in_time, entry_in, line_told, no_more, last_line, lines_told, first_line, verdict}
 use Rattle.trace_verify.proofs.SameVerdicts.{rest_told}
 use Rattle.trace_verify.proofs.ToldLines.{passed, told-may}
-use Rattle.verify_faults.specs.declared.faults.VerifyFault.TheVariants.{Short, Differs}
+use Rattle.faults.specs.declared.verify_fault.VerifyFault.TheVariants.{Short, Differs}
 
 -- the parts of a text that is cut, or that it is short
 abbrev parts_or_short : ℕ → Option (List ℕ × List ℕ) → Checking (List ℕ × List ℕ)

@@ -29,8 +29,8 @@ use Rattle.trace_text.specs.RunLines.{is_known, run_of_line, TellsRun}
 use Rattle.trace_text.proofs.ReadRuns.{TellsRun-from_run, run-from_TellsRun}
 use Rattle.trace_verify.specs.SceneLines.{line_in}
 use Rattle.trace_verify.specs.Verdicts.{Checking, entry_in, in_time, same_line, told_by, told_where_ready}
-use Rattle.verify_faults.specs.declared.faults.VerifyFault.{VerifyFault}
-use Rattle.verify_faults.specs.declared.faults.VerifyFault.TheVariants.{Late, NoRun}
+use Rattle.faults.specs.declared.verify_fault.VerifyFault.{VerifyFault}
+use Rattle.faults.specs.declared.verify_fault.VerifyFault.TheVariants.{Late, NoRun}
 
 -- a text with a line feed is a line with one exactly where the text is the line
 pub ended-same : (line start : List ℕ) → bytes_eq start line ≡ bytes_eq (line ++ 10 ∷ []) (start ++ 10 ∷ [])

@@ -40,9 +40,9 @@ use Rattle.key_texts.specs.KeyTexts.{cut_at}
 use Rattle.trace_verify.specs.Verdicts.{Checking, needed_line, told_where_ready, told_by, same_line, first_late, in_time, entry_in, line_told, no_more, last_line, lines_told, first_line, verdict}
 use Rattle.trace_verify.proofs.SameVerdicts.{rest_told}
 use Rattle.trace_verify.proofs.ToldLines.{passed, ran-told, rest-told}
-use Rattle.verify_faults.specs.FaultTexts.{names_known}
-use Rattle.verify_faults.specs.declared.faults.VerifyFault.{VerifyFault}
-use Rattle.verify_faults.specs.declared.faults.VerifyFault.TheVariants.{Short, NoRun, NotReady, Differs, Late, Trailing}
+use Rattle.faults.specs.VerifyTexts.{names_known}
+use Rattle.faults.specs.declared.verify_fault.VerifyFault.{VerifyFault}
+use Rattle.faults.specs.declared.verify_fault.VerifyFault.TheVariants.{Short, NoRun, NotReady, Differs, Late, Trailing}
 
 -- each sporadic arrival of the history is of a task of the set
 abbrev AreNamed : TaskSet → History → Type 0

@@ -32,7 +32,7 @@ use Rattle.key_texts.proofs.KeyBytes.{IsNoKeyByte, key_text-lacks}
 use Rattle.key_texts.proofs.KeyLemmas.{sporadic_name-at, name_lacks, Lacks-append}
 use Rattle.key_texts.proofs.NameLemmas.{sporadic_is_named}
 use Rattle.trace_verify.specs.Verdicts.{needed_line}
-use Rattle.verify_faults.specs.declared.faults.VerifyFault.TheVariants.{Short}
+use Rattle.faults.specs.declared.verify_fault.VerifyFault.TheVariants.{Short}
 
 -- no digit is a line feed
 glyph-lacks : (d : ℕ) → (digit_glyph false d == 10) ≡ false

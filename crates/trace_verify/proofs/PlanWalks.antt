@@ -18,7 +18,7 @@ use Rattle.trace_verify.specs.Checked.{IsChecked}
 use Rattle.trace_verify.specs.SceneLines.{line_and_rest, first_line_in, next_of, IsNext, IsCheckedAfter, first_due}
 use Rattle.trace_verify.specs.Verdicts.{Checking, first_line, lines_told, verdict}
 use Rattle.trace_verify.proofs.Walks.{IsWalking, walking-checked, walking-next, walking-after, walking-stopped, walking-passed, walking-falls, walking-started, first_line-same, first-checked}
-use Rattle.verify_faults.specs.declared.faults.VerifyFault.{VerifyFault}
+use Rattle.faults.specs.declared.verify_fault.VerifyFault.{VerifyFault}
 
 -- the next line is passed, and the scene follows it
 abbrev pub HasPassed : TaskSet → ℕ → Scene → Scene → ℕ → Occurrence → List ℕ → List ℕ → Type 0

@@ -31,7 +31,7 @@ use Rattle.trace_text.specs.RunLines.{run_of_line}
 use Rattle.trace_verify.specs.SceneLines.{line_in}
 use Rattle.trace_verify.specs.Verdicts.{Checking, told_where_ready, told_by, same_line, in_time, entry_in, line_told}
 use Rattle.trace_verify.proofs.LineFacts.{in_time-same}
-use Rattle.verify_faults.specs.declared.faults.VerifyFault.TheVariants.{NoRun, NotReady}
+use Rattle.faults.specs.declared.verify_fault.VerifyFault.TheVariants.{NoRun, NotReady}
 
 -- what line n tells after what it says happened: it is the line of that, and the jobs are in time
 abbrev pub rest_told : TaskSet → ℕ → Scene → Scene → ℕ → Occurrence → List ℕ → What → Checking What

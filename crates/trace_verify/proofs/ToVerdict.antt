@@ -44,7 +44,7 @@ use Rattle.trace_verify.proofs.FittingOccurrences.{AllFit, all_fit}
 use Rattle.trace_verify.proofs.LineFacts.{told_by-run}
 use Rattle.trace_verify.proofs.OneLineFeed.{entry_text, IsKnown, needed_line-entry}
 use Rattle.trace_verify.proofs.SameVerdicts.{rest_told}
-use Rattle.verify_faults.specs.declared.faults.VerifyFault.TheVariants.{NotReady, Differs, Late}
+use Rattle.faults.specs.declared.verify_fault.VerifyFault.TheVariants.{NotReady, Differs, Late}
 
 -- where the first step gives a value, and the second from that, both do
 both-pass : {X Y E : Type 0} (r : Result X E) (f : X → Result Y E) (x : X) (y : Y) → r ≡ Ok x → f x ≡ Ok y → (r >>= f) ≡ Ok y

@@ -21,7 +21,7 @@ use Rattle.slot_facts.proofs.Lists.Tests.{list_all-from_Has}
 use Rattle.trace_text.specs.RunLines.{run_of_line}
 use Rattle.trace_verify.specs.Verdicts.{Checking, told_where_ready, told_by, same_line, in_time, entry_in, line_told}
 use Rattle.trace_verify.proofs.SameVerdicts.{rest_told}
-use Rattle.verify_faults.specs.declared.faults.VerifyFault.TheVariants.{NoRun, NotReady, Late}
+use Rattle.faults.specs.declared.verify_fault.VerifyFault.TheVariants.{NoRun, NotReady, Late}
 
 -- where two steps give a value, the first gives one, and the second gives it from that
 pub passed : {X Y E : Type 0} (r : Result X E) (f : X → Result Y E) (y : Y) → (r >>= f) ≡ Ok y → (x : X) × (r ≡ Ok x) × (f x ≡ Ok y)

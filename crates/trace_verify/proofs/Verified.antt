@@ -10,9 +10,9 @@ use Rattle.trace_verify.specs.Verdicts.{AnswersAs, verdict}
 use Rattle.trace_verify.proofs.FromVerdict.{lawful-from_verdict}
 use Rattle.trace_verify.proofs.NamedFaults.{names_known-verdict}
 use Rattle.trace_verify.proofs.ToVerdict.{verdict-from_lawful}
-use Rattle.verify_faults.specs.FaultTexts.{names_known}
-use Rattle.verify_faults.specs.declared.faults.VerifyFault.{VerifyFault}
-use Rattle.verify_faults.specs.declared.faults.VerifyFault.TheVariants.{Memory, Short, NoRun, NotReady, Differs, Late, Trailing}
+use Rattle.faults.specs.VerifyTexts.{names_known}
+use Rattle.faults.specs.declared.verify_fault.VerifyFault.{VerifyFault}
+use Rattle.faults.specs.declared.verify_fault.VerifyFault.TheVariants.{Memory, Short, NoRun, NotReady, Differs, Late, Trailing}
 
 -- where the fault is that of the verdict or want of memory, it names what the set has
 names_known-fault : (plan : PlanParts) (arrivals : List Arrival) (slots : ℕ) (text : List ℕ) (e : VerifyFault) → IsPlan plan → are_fitting plan.tasks slots arrivals ≡ true → (e ≢ Memory → verdict plan.tasks plan.cycle arrivals slots text ≡ Err e) → names_known plan.tasks e ≡ true

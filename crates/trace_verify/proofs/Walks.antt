@@ -45,7 +45,7 @@ use Rattle.trace_verify.specs.Verdicts.{Checking, needed_line, same_line, line_t
 use Rattle.trace_verify.proofs.CheckedScenes.{checked-lawful, checked-after, follows-tells}
 use Rattle.trace_verify.proofs.SameVerdicts.{line_told-same}
 use Rattle.trace_verify.proofs.ToldLines.{passed, told-may}
-use Rattle.verify_faults.specs.declared.faults.VerifyFault.{VerifyFault}
+use Rattle.faults.specs.declared.verify_fault.VerifyFault.{VerifyFault}
 use Rattle.slot_facts.proofs.Legal.Kept.{no_row}
 
 -- a row above the last one is above those of the remaining jobs

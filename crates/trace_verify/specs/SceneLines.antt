@@ -18,8 +18,8 @@ use Rattle.slot_core.specs.Runs.Traces.{Occurrence, arrive, slot}
 use Rattle.scene_steps.specs.Steps.{after_ran, scene_after}
 use Rattle.trace_verify.specs.Checked.{IsChecked}
 use Rattle.trace_verify.specs.Verdicts.{Checking, line_told, needed_line, same_line}
-use Rattle.verify_faults.specs.declared.faults.VerifyFault.{VerifyFault}
-use Rattle.verify_faults.specs.declared.faults.VerifyFault.TheVariants.{Memory}
+use Rattle.faults.specs.declared.verify_fault.VerifyFault.{VerifyFault}
+use Rattle.faults.specs.declared.verify_fault.VerifyFault.TheVariants.{Memory}
 
 -- what line n tells of an occurrence in a scene
 abbrev pub line_in : TaskSet → ℕ → Scene → ℕ → Occurrence → List ℕ → Checking What

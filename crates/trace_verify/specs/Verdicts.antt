@@ -23,8 +23,8 @@ use Rattle.slot_core.specs.Runs.Spans.{shown_of}
 use Rattle.slot_core.specs.Runs.Traces.{Occurrence, arrive, slot, end_entry, occurrences_of, shown_entry, started}
 use Rattle.key_texts.specs.KeyTexts.{cut_at}
 use Rattle.trace_text.specs.RunLines.{run_of_line}
-use Rattle.verify_faults.specs.declared.faults.VerifyFault.{VerifyFault}
-use Rattle.verify_faults.specs.declared.faults.VerifyFault.TheVariants.{Memory, Short, NoRun, NotReady, Differs, Late, Trailing}
+use Rattle.faults.specs.declared.verify_fault.VerifyFault.{VerifyFault}
+use Rattle.faults.specs.declared.verify_fault.VerifyFault.TheVariants.{Memory, Short, NoRun, NotReady, Differs, Late, Trailing}
 
 -- what a check gives, or the first fault
 abbrev pub Checking : Type 0 → Type 0

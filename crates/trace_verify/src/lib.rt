@@ -18,6 +18,6 @@ mod soft;
 pub mod texts;
 pub mod walk;
 
+pub use faults::VerifyFault;
 pub use texts::{FAULT_LIMIT, fault_text};
-pub use verify_faults::VerifyFault;
 pub use walk::verify;

@@ -14,10 +14,10 @@ ghost use Rattle.trace_verify.specs.Verdicts.{in_time, last_line, needed_line, n
 
 use crate::checker::Checker;
 use cycle_plan::Plan;
+use faults::VerifyFault;
 use key_texts::cut_at;
 use slot_core::{Arrival, Entry, Ran, Shown, TaskSet, What};
 use trace_text::{entry_line, read_run};
-use verify_faults::VerifyFault;
 
 /// The first line, which tells the start, and the text after it.
 pub(crate) fn first_line<'a>(

@@ -5,11 +5,11 @@ ghost use Rattle.slot_core.specs.Output.Texts.{key_text, worded};
 ghost use Rattle.slot_core.specs.Runs.Arrivals.{key_in_set};
 ghost use Rattle.trace_text.specs.declared.TheConstants.{DECIMAL_LIMIT};
 ghost use Rattle.trace_verify.specs.declared.texts.TheConstants.{FAULT_LIMIT, FAULT_WORDS_LIMIT};
-ghost use Rattle.verify_faults.specs.FaultTexts.{names_known, verify_fault_text};
+ghost use Rattle.faults.specs.VerifyTexts.{names_known, verify_fault_text};
 
+use faults::VerifyFault;
 use slot_core::{Key, TaskSet};
 use trace_text::{DECIMAL_LIMIT, KEY_LIMIT, Line, key_text};
-use verify_faults::VerifyFault;
 
 /// Most bytes of the words of a fault.
 const FAULT_WORDS_LIMIT: usize = 100;

@@ -9,15 +9,15 @@ ghost use Rattle.sporadic_reserve.specs.Reserves.{without_name};
 ghost use Rattle.trace_verify.specs.Laws.{IsLawfulText};
 ghost use Rattle.trace_verify.specs.SceneLines.{first_due};
 ghost use Rattle.trace_verify.specs.Verdicts.{AnswersAs, verdict};
-ghost use Rattle.verify_faults.specs.FaultTexts.{names_known};
-ghost use Rattle.verify_faults.specs.declared.faults.VerifyFault.TheVariants.{Memory};
+ghost use Rattle.faults.specs.VerifyTexts.{names_known};
+ghost use Rattle.faults.specs.declared.verify_fault.VerifyFault.TheVariants.{Memory};
 
 use crate::checker::Checker;
 use crate::lines::{first_line, last_line, pass_line};
 use cycle_plan::Plan;
+use faults::VerifyFault;
 use slot_core::Arrival;
 use std::alloc::Global;
-use verify_faults::VerifyFault;
 
 /// Whether the text is that of a lawful trace of the plan's set, these arrivals and so many slots;
 /// else the first fault of its lines, whose key lies in the set. Want of memory may come at any

@@ -4,16 +4,16 @@ use Rattle.std.specs.Prelude.{IfSome, IfErr}
 use Rattle.slot_core.specs.Calls.Counts.{Rose}
 use Rattle.slot_core.specs.Keeping.Plans.{IsPlan, PlanParts}
 use Rattle.slot_io.specs.Files.{Held}
-use Rattle.command_line.specs.declared.Source.{Source as PlanSource}
-use Rattle.run_outcome.specs.declared.file.File.{File}
-use Rattle.run_outcome.specs.declared.refusal.Refusal.{Refusal}
-use Rattle.run_outcome.specs.declared.refusal.Refusal.TheVariants.{Usage, Unreadable, TooLarge, BadTasks, Infeasible, BadTable, BadArrivals, NotVerified, BadSecond, SecondInfeasible, NoRow, NotCycleEnd, NoChange, WriteFault, Memory}
-use Rattle.run_outcome.specs.Refusals.{Outcome}
+use Rattle.command_line.specs.declared.commands.Source.{Source as PlanSource}
+use Rattle.command_line.specs.declared.file.File.{File}
+use Rattle.command_line.specs.declared.refusal.Refusal.{Refusal}
+use Rattle.command_line.specs.declared.refusal.Refusal.TheVariants.{Usage, Unreadable, TooLarge, BadTasks, Infeasible, BadTable, BadArrivals, NotVerified, BadSecond, SecondInfeasible, NoRow, NotCycleEnd, NoChange, WriteFault, Memory}
+use Rattle.command_line.specs.Refusals.{Outcome}
 use Rattle.run_steps.specs.Readings.{plan_from}
 use Rattle.std.proofs.lemmas.Bool.{false≢true}
 use Rattle.std.specs.Prelude.{IfOk, false}
-use Rattle.run_outcome.specs.Refusals.{is_found, refusal_status}
-use Rattle.run_outcome.specs.declared.status.Status.{Status}
+use Rattle.command_line.specs.Refusals.{is_found, refusal_status}
+use Rattle.command_line.specs.declared.status.Status.{Status}
 use Rattle.command_line.specs.Commands.{is_file_of}
 use Rattle.run_steps.specs.Steps.{IsOfReading, IsReading}
 use Rattle.trace_lines.specs.Texts.{lines_text}

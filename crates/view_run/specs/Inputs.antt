@@ -2,9 +2,9 @@
 use Rattle.std.specs.Prelude.{◌≡◌, ◌<◌, ◌≤◌, ℕ, ⊤, List, codes, length, Option, Some, IfSome}
 use Rattle.slot_core.specs.Calls.Counts.{Rose}
 use Rattle.slot_io.specs.Files.{Held, first_bytes}
-use Rattle.run_outcome.specs.declared.file.File.TheVariants.{Trace}
-use Rattle.run_outcome.specs.declared.refusal.Refusal.{Refusal}
-use Rattle.run_outcome.specs.declared.refusal.Refusal.TheVariants.{Unreadable, TooLarge, NotVerified, Memory}
+use Rattle.command_line.specs.declared.file.File.TheVariants.{Trace}
+use Rattle.command_line.specs.declared.refusal.Refusal.{Refusal}
+use Rattle.command_line.specs.declared.refusal.Refusal.TheVariants.{Unreadable, TooLarge, NotVerified, Memory}
 use Rattle.trace_lines.specs.Traces.{Breaks}
 use Rattle.view_run.specs.declared.TheConstants.{INPUT_LIMIT}
 use Rattle.view_run.specs.Refusals.{no_line}

@@ -1,6 +1,6 @@
 -- The names of the files of a view.
 use Rattle.std.specs.Prelude.{ℕ, List, [], ◌∷◌, codes}
-use Rattle.run_outcome.specs.Refusals.{word_at}
+use Rattle.command_line.specs.Refusals.{word_at}
 use Rattle.view_run.specs.declared.views.Source.TheVariants.{Tasks, Table}
 use Rattle.view_run.specs.declared.views.View.{View}
 use Rattle.view_run.specs.declared.views.View.TheVariants.{Lines, Jobs}

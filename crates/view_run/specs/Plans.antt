@@ -4,9 +4,9 @@ use Rattle.slot_core.specs.Calls.Counts.{Rose}
 use Rattle.slot_core.specs.Keeping.Plans.{IsPlan, PlanParts}
 use Rattle.slot_io.specs.Files.{Held}
 use Rattle.command_line.specs.Commands.{is_file_of}
-use Rattle.run_outcome.specs.Refusals.{is_found, name_of}
-use Rattle.run_outcome.specs.declared.refusal.Refusal.{Refusal}
-use Rattle.run_outcome.specs.declared.refusal.Refusal.TheVariants.{Usage, Unreadable, WriteFault, Memory}
+use Rattle.command_line.specs.Refusals.{is_found, name_of}
+use Rattle.command_line.specs.declared.refusal.Refusal.{Refusal}
+use Rattle.command_line.specs.declared.refusal.Refusal.TheVariants.{Usage, Unreadable, WriteFault, Memory}
 use Rattle.run_steps.specs.Readings.{plan_from}
 use Rattle.view_run.specs.declared.views.Source.{Source}
 use Rattle.view_run.specs.Views.{plan_source}

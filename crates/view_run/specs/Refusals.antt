@@ -3,8 +3,8 @@ use Rattle.std.specs.Prelude.{ℕ, codes}
 use Rattle.slot_core.specs.Output.Texts.{worded}
 use Rattle.csv_table.specs.declared.faults.CsvFault.{CsvFault}
 use Rattle.csv_table.specs.declared.faults.CsvFault.TheVariants.{Memory as TableMemory, Failed as TableFailed}
-use Rattle.run_outcome.specs.declared.refusal.Refusal.{Refusal}
-use Rattle.run_outcome.specs.declared.refusal.Refusal.TheVariants.{NotVerified, WriteFault, Memory}
+use Rattle.command_line.specs.declared.refusal.Refusal.{Refusal}
+use Rattle.command_line.specs.declared.refusal.Refusal.TheVariants.{NotVerified, WriteFault, Memory}
 use Rattle.trace_lines.specs.declared.trace.TraceFault.{TraceFault}
 use Rattle.trace_lines.specs.declared.trace.TraceFault.TheVariants.{Memory as TraceMemory, NoLine}
 use Rattle.view_jobs.specs.declared.faults.JobsFault.{JobsFault}

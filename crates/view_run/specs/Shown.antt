@@ -4,8 +4,8 @@ use Rattle.std.specs.Io.KnownBytes.{Appends}
 use Rattle.slot_core.specs.Calls.Counts.{Rose}
 use Rattle.run_blocks.specs.declared.rows.Row.{Row}
 use Rattle.run_blocks.specs.Rows.{AreRowsOf, have_few_firms, may_all_stand}
-use Rattle.run_outcome.specs.declared.refusal.Refusal.{Refusal}
-use Rattle.run_outcome.specs.declared.refusal.Refusal.TheVariants.{NotVerified, WriteFault, Memory}
+use Rattle.command_line.specs.declared.refusal.Refusal.{Refusal}
+use Rattle.command_line.specs.declared.refusal.Refusal.TheVariants.{NotVerified, WriteFault, Memory}
 use Rattle.slot_core.specs.Keeping.Plans.{PlanParts}
 use Rattle.slot_io.specs.Files.{Held}
 use Rattle.slot_io.specs.Sinks.{AppendsPart}

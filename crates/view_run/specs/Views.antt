@@ -1,9 +1,9 @@
 -- The command line: which words ask for which view.
 use Rattle.std.specs.Prelude.{ℕ, ◌==◌, List, codes, length, if◌then◌else◌, Option, Some, None, option_map}
 use Rattle.std.specs.Str.{bytes_eq}
-use Rattle.run_outcome.specs.Refusals.{word_at}
-use Rattle.command_line.specs.declared.Source.{Source as PlanSource}
-use Rattle.command_line.specs.declared.Source.TheVariants.{Tasks as TasksSource, Spelled}
+use Rattle.command_line.specs.Refusals.{word_at}
+use Rattle.command_line.specs.declared.commands.Source.{Source as PlanSource}
+use Rattle.command_line.specs.declared.commands.Source.TheVariants.{Tasks as TasksSource, Spelled}
 use Rattle.view_run.specs.declared.views.Source.{Source}
 use Rattle.view_run.specs.declared.views.Source.TheVariants.{Tasks, Table}
 use Rattle.view_run.specs.declared.views.View.{View}

@@ -3,9 +3,9 @@
 #![tactic(auto)]
 
 ghost use Rattle.std.specs.Prelude.{◌≡◌, ◌≢◌, ◌↔◌, None, Some};
-ghost use Rattle.run_outcome.specs.declared.refusal.Refusal.{Refusal};
-ghost use Rattle.run_outcome.specs.Refusals.{refusal_line, refusal_status};
-ghost use Rattle.run_outcome.specs.Reports.{IsTold};
+ghost use Rattle.command_line.specs.declared.refusal.Refusal.{Refusal};
+ghost use Rattle.command_line.specs.Refusals.{refusal_line, refusal_status};
+ghost use Rattle.command_line.specs.Reports.{IsTold};
 ghost use Rattle.view_run.specs.declared.TheConstants.{USAGE};
 ghost use Rattle.view_run.specs.declared.views.View.{View};
 ghost use Rattle.view_run.specs.Names.{names_of};
@@ -20,10 +20,10 @@ mod refusals;
 pub mod views;
 mod work;
 
+use command_line::{OUT_OF_MEMORY, Status, report};
 pub use host::run_on_host;
 pub use input::HostInput;
 use names::{Names, names_of};
-use run_outcome::{OUT_OF_MEMORY, Status, report};
 use slot_core::{Memory, Words};
 use slot_io::{Files, Sink};
 use std::alloc::Global;

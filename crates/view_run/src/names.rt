@@ -1,7 +1,7 @@
 //! The names of the files of a view.
 
 ghost use Rattle.std.specs.Prelude.{◌≡◌, IfOk};
-ghost use Rattle.run_outcome.specs.Refusals.{word_at};
+ghost use Rattle.command_line.specs.Refusals.{word_at};
 ghost use Rattle.view_run.specs.Names.{names_of, plan_name};
 
 use crate::INPUT_NAME;

@@ -2,12 +2,12 @@
 
 ghost use Rattle.std.specs.Prelude.{◌≡◌, ◌≤◌, length};
 ghost use Rattle.slot_core.specs.Output.Texts.{worded};
-ghost use Rattle.run_outcome.specs.declared.refusal.Refusal.TheVariants.{NotVerified};
+ghost use Rattle.command_line.specs.declared.refusal.Refusal.TheVariants.{NotVerified};
 ghost use Rattle.view_run.specs.declared.refusals.TheConstants.{WORDS_LIMIT};
 ghost use Rattle.view_run.specs.Refusals.{of_jobs, of_picture, of_table, of_text};
 
+use command_line::{Reason, Refusal};
 use csv_table::CsvFault;
-use run_outcome::{Reason, Refusal};
 use trace_lines::TraceFault;
 use trace_text::Line;
 use view_jobs::JobsFault;

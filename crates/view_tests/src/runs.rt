@@ -1,6 +1,6 @@
 //! Runs of slotview over files, an input and sinks in memory.
 
-use run_outcome::Status;
+use command_line::Status;
 use slot_core::Words;
 use slot_io::{MemoryFiles, MemorySink};
 use std::alloc::Global;

@@ -1,10 +1,10 @@
 use Rattle.std.proofs.Common.{◌≡◌, Vec, Global, Ok, refl}
 use Rattle.slot_core.specs.declared.events.Arrival.{Arrival}
 use Rattle.load_gen.specs.LoadArrivals.{load_arrivals}
-use Rattle.run_outcome.specs.declared.file.File.TheVariants.{Arrivals as ArrivalsFile}
-use Rattle.run_outcome.specs.Refusals.{same_file}
+use Rattle.command_line.specs.declared.file.File.TheVariants.{Arrivals as ArrivalsFile}
+use Rattle.command_line.specs.Refusals.{same_file}
 use Rattle.command_line.specs.declared.TheConstants.{LOAD_SLOTS}
-use Rattle.command_line.specs.declared.Arrivals.TheVariants.{Recorded, Generated}
+use Rattle.command_line.specs.declared.commands.Arrivals.TheVariants.{Recorded, Generated}
 use Rattle.command_line.specs.Commands.{is_recorded_in}
 use Rattle.run_steps.specs.Readings.{arrivals_from, recorded_arrivals}
 use Rattle.command_line.proofs.CommandLemmas.{file-recorded}

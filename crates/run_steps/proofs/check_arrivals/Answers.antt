@@ -1,7 +1,7 @@
 use Rattle.std.proofs.Common.{◌≡◌, refl}
-use Rattle.run_outcome.specs.declared.file.File.TheVariants.{Trace as TraceFile}
-use Rattle.run_outcome.specs.Refusals.{same_file}
-use Rattle.command_line.specs.declared.Check.TheVariants.{Verified, HasRow, AtCycleEnd}
+use Rattle.command_line.specs.declared.file.File.TheVariants.{Trace as TraceFile}
+use Rattle.command_line.specs.Refusals.{same_file}
+use Rattle.command_line.specs.declared.commands.Check.TheVariants.{Verified, HasRow, AtCycleEnd}
 use Rattle.command_line.specs.Commands.{is_verified_in}
 use Rattle.run_steps.specs.Readings.{check_from, recorded_trace, row_among, whole_cycles}
 use Rattle.command_line.proofs.CommandLemmas.{file-verified}

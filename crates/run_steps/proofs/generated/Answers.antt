@@ -1,7 +1,7 @@
 use Rattle.std.proofs.Common.{◌≡◌, Ok, ap, ◌∙◌}
 use Rattle.load_gen.specs.Loads.{load_set}
 use Rattle.slot_core.specs.Keeping.Plans.{planned, PlanParts}
-use Rattle.run_outcome.specs.Refusals.{Outcome}
+use Rattle.command_line.specs.Refusals.{Outcome}
 use Rattle.slot_core.specs.declared.tasks.TaskSet.{TaskSet}
 use Rattle.run_steps.specs.Readings.{feasible_plan}
 use Rattle.run_steps.proofs.PlannedSets.{feasible_plan-from_feasible}

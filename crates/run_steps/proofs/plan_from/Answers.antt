@@ -2,9 +2,9 @@ use Rattle.std.proofs.Common.{◌≡◌, refl}
 use Rattle.std.proofs.lemmas.Result.{err_from_is_err_and}
 use Rattle.slot_core.specs.Keeping.Plans.{PlanParts}
 use Rattle.slot_core.specs.Calls.Results.{◌>>=◌}
-use Rattle.run_outcome.specs.declared.file.File.TheVariants.{Tasks as TaskFile, Table as TableFile}
-use Rattle.run_outcome.specs.Refusals.{same_file}
-use Rattle.command_line.specs.declared.Source.TheVariants.{Tasks, Spelled}
+use Rattle.command_line.specs.declared.file.File.TheVariants.{Tasks as TaskFile, Table as TableFile}
+use Rattle.command_line.specs.Refusals.{same_file}
+use Rattle.command_line.specs.declared.commands.Source.TheVariants.{Tasks, Spelled}
 use Rattle.command_line.specs.Commands.{is_file_of}
 use Rattle.run_steps.specs.Readings.{bytes_of, planned_plan, spelled_plan, plan_from}
 use Rattle.command_line.proofs.CommandLemmas.{file-of_tasks, file-of_spelled}

@@ -1,7 +1,7 @@
 use Rattle.std.proofs.Common.{Vec, Global}
 use Rattle.std.proofs.lemmas.Result.{err_from_is_err_and}
 use Rattle.slot_core.specs.declared.events.Arrival.{Arrival}
-use Rattle.run_outcome.specs.declared.file.File.TheVariants.{Arrivals}
+use Rattle.command_line.specs.declared.file.File.TheVariants.{Arrivals}
 use Rattle.run_steps.specs.Readings.{bytes_of, fitting_arrivals}
 use Rattle.run_steps.proofs.StageLemmas.{found-fitting}
 use Rattle.run_steps.proofs.StepLemmas.{reading-refused, reading-then}

@@ -1,5 +1,5 @@
 use Rattle.std.proofs.lemmas.Result.{err_from_is_err_and}
-use Rattle.run_outcome.specs.declared.file.File.TheVariants.{Trace}
+use Rattle.command_line.specs.declared.file.File.TheVariants.{Trace}
 use Rattle.run_steps.specs.Readings.{bytes_of, lawful_trace}
 use Rattle.run_steps.proofs.StageLemmas.{found-lawful}
 use Rattle.run_steps.proofs.StepLemmas.{reading-refused, reading-then}

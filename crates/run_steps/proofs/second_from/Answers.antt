@@ -3,9 +3,9 @@ use Rattle.std.specs.Prelude.{Option}
 use Rattle.std.proofs.lemmas.Result.{err_from_is_err_and}
 use Rattle.slot_core.specs.Keeping.Plans.{PlanParts}
 use Rattle.slot_core.specs.Calls.Results.{◌>>=◌}
-use Rattle.run_outcome.specs.declared.file.File.TheVariants.{Second as SecondFile}
-use Rattle.run_outcome.specs.Refusals.{same_file}
-use Rattle.command_line.specs.declared.Second.TheVariants.{Read}
+use Rattle.command_line.specs.declared.file.File.TheVariants.{Second as SecondFile}
+use Rattle.command_line.specs.Refusals.{same_file}
+use Rattle.command_line.specs.declared.commands.Second.TheVariants.{Read}
 use Rattle.command_line.specs.Commands.{is_second_of}
 use Rattle.run_steps.specs.Readings.{bytes_of, second_from, second_plan}
 use Rattle.command_line.proofs.CommandLemmas.{file-second}

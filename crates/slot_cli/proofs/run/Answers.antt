@@ -1,9 +1,9 @@
 use Rattle.std.proofs.Common.{Some, Err, inl, inr, refl, ap, ◌∙◌}
-use Rattle.table_faults.specs.declared.faults.TableFault.TheVariants.{Infeasible as NoPlan}
-use Rattle.run_outcome.specs.declared.refusal.Refusal.TheVariants.{TooLarge, BadTasks, Infeasible, BadTable, BadArrivals, NotVerified, BadSecond, SecondInfeasible, NoRow, NotCycleEnd}
-use Rattle.run_outcome.specs.declared.status.Status.{Status}
-use Rattle.run_outcome.specs.Refusals.{is_found}
-use Rattle.run_outcome.specs.Writings.{leaves_output}
+use Rattle.faults.specs.declared.table_fault.TableFault.TheVariants.{Infeasible as NoPlan}
+use Rattle.command_line.specs.declared.refusal.Refusal.TheVariants.{TooLarge, BadTasks, Infeasible, BadTable, BadArrivals, NotVerified, BadSecond, SecondInfeasible, NoRow, NotCycleEnd}
+use Rattle.command_line.specs.declared.status.Status.{Status}
+use Rattle.command_line.specs.Refusals.{is_found}
+use Rattle.command_line.specs.Writings.{leaves_output}
 use Rattle.command_line.specs.Commands.{command_of}
 use Rattle.run_steps.specs.Sets.{second_set}
 use Rattle.slot_cli.specs.Due.{expected, writing_due}

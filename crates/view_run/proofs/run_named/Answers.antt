@@ -1,6 +1,6 @@
 use Rattle.std.proofs.Common.{◌≡◌, Err, refl, sym, ap, subst, ◌∙◌, inl, inr}
-use Rattle.run_outcome.specs.declared.refusal.Refusal.TheVariants.{WriteFault}
-use Rattle.run_outcome.specs.Refusals.{has_fixed_line, refusal_status}
+use Rattle.command_line.specs.declared.refusal.Refusal.TheVariants.{WriteFault}
+use Rattle.command_line.specs.Refusals.{has_fixed_line, refusal_status}
 use Rattle.view_run.specs.Runs.{IsRefused}
 use Rattle.view_run.proofs.Causes.{refused-no_usage, write-by_status}
 use Rattle.view_run.proofs.run_named.Goals as goal

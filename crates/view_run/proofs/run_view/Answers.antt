@@ -1,10 +1,10 @@
 -- The names of the files are those of the words.
 use Rattle.std.proofs.Common.{◌≡◌, ◌≢◌, refl, subst, inl}
-use Rattle.run_outcome.specs.declared.refusal.Refusal.{Refusal}
-use Rattle.run_outcome.specs.declared.refusal.Refusal.TheVariants.{Memory}
-use Rattle.run_outcome.specs.declared.status.Status.{Status}
-use Rattle.run_outcome.specs.Refusals.{refusal_line, refusal_status}
-use Rattle.run_outcome.specs.Reports.{IsTold}
+use Rattle.command_line.specs.declared.refusal.Refusal.{Refusal}
+use Rattle.command_line.specs.declared.refusal.Refusal.TheVariants.{Memory}
+use Rattle.command_line.specs.declared.status.Status.{Status}
+use Rattle.command_line.specs.Refusals.{refusal_line, refusal_status}
+use Rattle.command_line.specs.Reports.{IsTold}
 use Rattle.view_run.specs.Runs.{IsRefused}
 use Rattle.view_run.proofs.run_view.Goals as goal
 

@@ -7,7 +7,7 @@ use Rattle.slot_core.specs.Runs.Histories.{History}
 use Rattle.slot_core.specs.Runs.Traces.{started}
 use Rattle.slot_io.specs.Sinks.{AppendsPart}
 use Rattle.std.proofs.KnownBytes.{Appends-nil}
-use Rattle.line_source.specs.Lines.{Heard, heard}
+use Rattle.live_lines.specs.Lines.{Heard, heard}
 use Rattle.live_run.specs.Dialogues.{asked, history_heard, next_history, start_text, is_end, asks_end}
 use Rattle.live_run.specs.Streams.{seen, exchange_texts, dialogue_texts, ArePut, ArePutInPart, IsBroken}
 use Rattle.live_run.proofs.DialogueLemmas.{turn-put, turn-part, turn-history, IsBroken-at_start, IsBroken-in_answer, end-asked, GoesOn-more, IsOver-now}

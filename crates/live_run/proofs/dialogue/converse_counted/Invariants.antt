@@ -1,7 +1,7 @@
 use Rattle.std.proofs.Common.{◌≡◌, ◌≤◌, List, length}
 use Rattle.slot_core.specs.Keeping.Executives.{StandsFor}
 use Rattle.slot_core.specs.Runs.Traces.{started}
-use Rattle.line_source.specs.Lines.{Heard}
+use Rattle.live_lines.specs.Lines.{Heard}
 use Rattle.live_run.specs.Dialogues.{history_heard, GoesOn}
 use Rattle.live_run.specs.Streams.{seen, dialogue_texts, ArePut}
 use Rattle.live_run.proofs.dialogue.converse_counted.Given as goal

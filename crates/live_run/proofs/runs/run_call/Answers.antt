@@ -1,6 +1,6 @@
 -- Memory runs out before the work.
 use Rattle.std.proofs.Common.{[], Err, inr, refl, subst}
-use Rattle.run_outcome.specs.declared.refusal.Refusal.TheVariants.{Memory}
+use Rattle.command_line.specs.declared.refusal.Refusal.TheVariants.{Memory}
 use Rattle.live_run.specs.Streams.{seen}
 use Rattle.live_run.specs.declared.refusal.LiveRefusal.{LiveRefusal}
 use Rattle.live_run.specs.declared.refusal.LiveRefusal.TheVariants.{Run}

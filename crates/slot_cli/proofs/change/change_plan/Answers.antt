@@ -2,8 +2,8 @@ use Rattle.std.proofs.Common.{◌≡◌, [], Option, None, Some, refl, ap, sym, 
 use Rattle.std.specs.Option.{option_map_or}
 use Rattle.std.proofs.KnownBytes.{Appends-nil}
 use Rattle.slot_core.specs.Keeping.Plans.{PlanParts}
-use Rattle.command_line.specs.declared.Output.TheVariants.{Change}
-use Rattle.run_outcome.specs.Writings.{IsPartWriting}
+use Rattle.command_line.specs.declared.commands.Output.TheVariants.{Change}
+use Rattle.command_line.specs.Writings.{IsPartWriting}
 use Rattle.slot_cli.specs.Due.{output_due}
 use Rattle.slot_cli.proofs.change.change_plan.Goals as goal
 

@@ -1,7 +1,7 @@
 -- The executive has the plan that it was started with.
 use Rattle.std.proofs.Common.{true, subst}
 use Rattle.slot_core.specs.Keeping.Plans.{PlanParts}
-use Rattle.run_outcome.specs.Writings.{IsPartWriting}
+use Rattle.command_line.specs.Writings.{IsPartWriting}
 use Rattle.slot_cli.specs.Changed.{changed}
 use Rattle.slot_cli.proofs.change.change_to.Goals as goal
 

@@ -6,10 +6,10 @@ use Rattle.slot_core.specs.declared.tasks.TaskSet.{TaskSet}
 use Rattle.mode_switch.specs.Keeping.{carried_from, change_from}
 use Rattle.mode_switch.specs.Parts.{ChangeParts}
 use Rattle.mode_switch.specs.Texts.{change_text}
-use Rattle.run_outcome.specs.Writings.{IsRestWriting, IsWriting}
+use Rattle.command_line.specs.Writings.{IsRestWriting, IsWriting}
 use Rattle.slot_cli.specs.Changed.{change_due}
 use Rattle.slot_cli.proofs.ChangedRuns.{change-granted, change-refused}
-use Rattle.run_outcome.proofs.PartWritings.{rest-of_text}
+use Rattle.command_line.proofs.PartWritings.{rest-of_text}
 use Rattle.slot_cli.proofs.change.put_rest.Goals as goal
 
 pub returns-in-Ok : goal.returns-in-Ok

@@ -7,9 +7,9 @@ use Rattle.slot_core.specs.Keeping.Plans.{PlanParts}
 use Rattle.slot_core.specs.Output.Texts.{trace_text}
 use Rattle.slot_core.specs.Runs.Traces.{history_of, trace}
 use Rattle.slot_io.specs.Sinks.{AppendsPart}
-use Rattle.run_outcome.specs.Writings.{IsRestWriting}
+use Rattle.command_line.specs.Writings.{IsRestWriting}
 use Rattle.slot_cli.specs.Changed.{carried_after, change_due, changed, history_to}
-use Rattle.run_outcome.proofs.PartWritings.{parts-front, parts-rest}
+use Rattle.command_line.proofs.PartWritings.{parts-front, parts-rest}
 use Rattle.slot_cli.proofs.change.tell_change.Goals as goal
 
 pub returns-in_err-replay : goal.returns-in_err-replay

@@ -1,7 +1,7 @@
 -- An offer that was just refused may be explained, and its refusal changed nothing.
 use Rattle.std.proofs.Common.{◌≡◌, ℕ, List, [], ◌∷◌, Option, Some, sym, ap, subst, ◌∙◌}
 use Rattle.std.specs.Option.{option_map_or}
-use Rattle.run_outcome.specs.Writings.{IsWriting}
+use Rattle.command_line.specs.Writings.{IsWriting}
 use Rattle.slot_cli.specs.declared.rows.RefusedOffer.{RefusedOffer}
 use Rattle.slot_cli.specs.Explained.{offer_text}
 use Rattle.slot_cli.proofs.Explanations.{IsRefusedBy-told}

@@ -7,12 +7,12 @@ use Rattle.slot_core.specs.declared.events.What.{What}
 use Rattle.slot_core.specs.Keeping.Executives.{StandsFor}
 use Rattle.slot_core.specs.Keeping.Plans.{PlanParts}
 use Rattle.slot_core.specs.Output.Texts.{entry_line}
-use Rattle.run_outcome.specs.declared.refusal.Refusal.TheVariants.{WriteFault}
-use Rattle.run_outcome.specs.Writings.{Writing, IsPartWriting, IsWriting}
+use Rattle.command_line.specs.declared.refusal.Refusal.TheVariants.{WriteFault}
+use Rattle.command_line.specs.Writings.{Writing, IsPartWriting, IsWriting}
 use Rattle.arrival_replay.specs.Replays.{entry_of}
 use Rattle.slot_cli.specs.Explained.{explained_entry, refusal_text}
 use Rattle.slot_cli.proofs.Explanations.{IsBeforeRow-stands, row-at}
-use Rattle.run_outcome.proofs.PartWritings.{parts-front, parts-rest, rest-of_text}
+use Rattle.command_line.proofs.PartWritings.{parts-front, parts-rest, rest-of_text}
 use Rattle.slot_cli.proofs.rows.tell_row.Goals as goal
 
 abbrev arrival_in : List Arrival → ℕ → Arrival

@@ -2,7 +2,7 @@
 use Rattle.slot_core.specs.Output.Charts.{chart_text, tally_text}
 use Rattle.slot_core.specs.Output.Texts.{trace_text}
 use Rattle.slot_core.specs.Runs.Traces.{trace}
-use Rattle.run_outcome.proofs.PartWritings.{parts-of_whole}
+use Rattle.command_line.proofs.PartWritings.{parts-of_whole}
 use Rattle.slot_cli.proofs.runs.tell_run.Goals as goal
 
 pub returns-in-Trace : goal.returns-in-Trace

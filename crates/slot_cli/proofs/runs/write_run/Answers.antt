@@ -1,7 +1,7 @@
 -- The executive has the plan that it was started with.
 use Rattle.std.proofs.Common.{subst}
 use Rattle.slot_core.specs.Keeping.Plans.{PlanParts}
-use Rattle.run_outcome.specs.Writings.{IsPartWriting}
+use Rattle.command_line.specs.Writings.{IsPartWriting}
 use Rattle.command_line.specs.Commands.{tells_in_parts}
 use Rattle.slot_cli.specs.RunTexts.{run_writing}
 use Rattle.slot_cli.proofs.runs.write_run.Goals as goal

@@ -3,8 +3,8 @@ use Rattle.std.proofs.lemmas.Result.{err_from_is_err_and}
 use Rattle.slot_core.specs.declared.events.Arrival.{Arrival}
 use Rattle.std.specs.Prelude.{⊤}
 use Rattle.slot_io.specs.Files.{Held}
-use Rattle.run_outcome.specs.Refusals.{Outcome}
-use Rattle.run_outcome.specs.Writings.{IsPartWriting}
+use Rattle.command_line.specs.Refusals.{Outcome}
+use Rattle.command_line.specs.Writings.{IsPartWriting}
 use Rattle.command_line.specs.Commands.{is_file_of, is_second_of, is_recorded_in, is_verified_in, slots_of, writes_in_parts}
 use Rattle.command_line.proofs.CommandLemmas.{reads-plan, reads-second, reads-recorded, reads-verified}
 use Rattle.run_steps.specs.Readings.{plan_from, second_from}

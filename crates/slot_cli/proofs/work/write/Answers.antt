@@ -1,6 +1,6 @@
 -- What is written of a plan is written whole.
 use Rattle.plan_reports.specs.Texts.{plan_text}
-use Rattle.run_outcome.proofs.PartWritings.{parts-of_whole}
+use Rattle.command_line.proofs.PartWritings.{parts-of_whole}
 use Rattle.slot_cli.proofs.work.write.Goals as goal
 
 pub returns-in-OfPlan : goal.returns-in-OfPlan

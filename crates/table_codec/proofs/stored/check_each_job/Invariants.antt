@@ -1,5 +1,5 @@
 use Rattle.std.proofs.Common.{◌≡◌, drop}
-use Rattle.table_faults.specs.declared.faults.TableFault.TheVariants.{WrongJob}
+use Rattle.faults.specs.declared.table_fault.TableFault.TheVariants.{WrongJob}
 use Rattle.table_codec.specs.Grammar.{is_same_job, job_form}
 use Rattle.table_codec.specs.Readers.{same_at}
 use Rattle.table_codec.proofs.stored.check_each_job.Given as goal

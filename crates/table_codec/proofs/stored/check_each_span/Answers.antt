@@ -1,5 +1,5 @@
 use Rattle.std.proofs.lemmas.Result.{err_from_is_err_and}
-use Rattle.table_faults.specs.declared.faults.TableFault.TheVariants.{WrongSpan}
+use Rattle.faults.specs.declared.table_fault.TableFault.TheVariants.{WrongSpan}
 use Rattle.table_codec.specs.Grammar.{is_same_span, span_form}
 use Rattle.table_codec.specs.Readers.{same_at}
 use Rattle.table_codec.proofs.SameSteps.{ends}

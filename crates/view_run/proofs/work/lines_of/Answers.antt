@@ -1,5 +1,5 @@
 use Rattle.std.proofs.Common.{◌≡◌, ◌⊎◌, ℕ, Err, sym, ap, subst, ◌∙◌}
-use Rattle.run_outcome.specs.declared.refusal.Refusal.TheVariants.{Memory}
+use Rattle.command_line.specs.declared.refusal.Refusal.TheVariants.{Memory}
 use Rattle.trace_lines.specs.Traces.{Breaks}
 use Rattle.view_run.specs.Refusals.{no_line}
 use Rattle.view_run.proofs.Causes.{of_text-cause}

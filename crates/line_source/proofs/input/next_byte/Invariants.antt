@@ -1,7 +1,0 @@
-use Rattle.std.proofs.Common.{◌≡◌, length}
-use Rattle.std.specs.Io.KnownBytes.{Keeps}
-use Rattle.line_source.proofs.input.next_byte.Given as goal
-
-abbrev pub invariant-loop-turn : goal.invariant-loop-turn
-invariant-loop-turn g l =
-    (length l.one ≡ 1) × Keeps (g.R.Read.remaining l.fn.reader) (g.R.Read.remaining l.reader)

@@ -1,6 +1,0 @@
-use Rattle.line_source.proofs.PieceLemmas.{HasFront}
-use Rattle.line_source.proofs.input.read_line.Given as goal
-
-abbrev pub invariant-loop-turn : goal.invariant-loop-turn
-invariant-loop-turn g l =
-    HasFront (g.R.Read.remaining l.fn.reader) (g.R.Read.remaining l.reader) l.given l.line.items

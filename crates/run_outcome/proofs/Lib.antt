@@ -1,2 +1,0 @@
-pub mod JoinedTexts
-pub mod PartWritings

@@ -1,4 +1,0 @@
-pub mod Refusals
-pub mod Reports
-pub mod Statuses
-pub mod Writings

@@ -1,3 +1,0 @@
-pub mod FaultNumbers
-pub mod FaultTexts
-pub mod Sources

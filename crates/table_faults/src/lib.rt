@@ -1,6 +1,0 @@
-//! Why a binary table is refused, with the numbers and texts of the faults.
-#![tactic(auto)]
-
-pub mod faults;
-
-pub use faults::TableFault;
