@@ -28,6 +28,9 @@ pub use words::Words;
 /// The version of the programs, of the library and of what they read and write.
 pub const VERSION: &[u8] = b"1.0.0";
 
+/// The logic of the kit that this version was proved with, as `rt version` tells it.
+pub const LOGIC: &[u8] = b"dac8208d650f15bf";
+
 /// Most bytes of a name.
 pub const NAME_LIMIT: usize = 24;
 
