@@ -1,6 +1,0 @@
-use Rattle.interval_row.specs.Tables.{IsLive}
-use Rattle.run_tests.proofs.tables.expect.Given as goal
-
--- the spot stands in the table
-abbrev pub invariant-loop-ends : goal.invariant-loop-ends
-invariant-loop-ends g l = IsLive (g.T.SpareTable.pairs l.table) l.spot
