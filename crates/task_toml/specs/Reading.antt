@@ -139,6 +139,21 @@ sporadic_of s members = do
       (at_key Deadline known)
   Ok (record { name = name; wcet = wcet; separation = separation; deadline = deadline })
 
+-- the graphs of the whole table
+abbrev pub graphs_at : Members → Read (List Graph)
+graphs_at members = do
+  tables ←
+      some_tables_at (record { part = Top; field = GraphKey }) GRAPH_LIMIT
+      (at_key GraphKey members)
+  each graph_of 0 tables
+
+-- the sporadic tasks of the whole table
+abbrev pub sporadics_at : Members → Read (List SporadicTask)
+sporadics_at members = do
+  tables ←
+      tables_at (record { part = Top; field = Sporadic }) SPORADIC_LIMIT (at_key Sporadic members)
+  each sporadic_of 0 tables
+
 -- the task set of the whole table, its shape alone checked
 abbrev pub shaped_set : Members → Read TaskSet
 shaped_set members = do

@@ -3,7 +3,8 @@
 
 ghost use Rattle.std.specs.Prelude.{◌≡◌, ◌≢◌, Ok, Err, true, IfOk, IfErr};
 ghost use Rattle.slot_core.specs.Sets.Ranges.{is_sound};
-ghost use Rattle.task_toml.specs.Reading.{document_of, reading_of_tasks, shaped_set};
+ghost use Rattle.task_toml.specs.Reading.{document_of, reading_of_tasks};
+ghost use Rattle.task_toml.specs.Reading.{graphs_at, shaped_set, sporadics_at};
 ghost use Rattle.task_toml.specs.TomlFields.{Answers, AnswersAs};
 ghost use Rattle.toml.specs.View.{table_view};
 
@@ -14,7 +15,8 @@ mod tables;
 use fields::{check_keys, number_at};
 use graphs::{read_graphs, read_sporadics};
 use slot_core::{
-    Field, GRAPH_LIMIT, Part, SOFT_DEFAULT, SOFT_LIMIT, SPORADIC_LIMIT, TaskFault, TaskSet,
+    Field, GRAPH_LIMIT, Graphs, Part, SOFT_DEFAULT, SOFT_LIMIT, SPORADIC_LIMIT, Sporadics,
+    TaskFault, TaskSet,
 };
 use source_check::check;
 use std::alloc::Global;
@@ -53,13 +55,27 @@ fn read_set(alloc: Global, table: &Table) -> Result<TaskSet, TaskFault>
     let part = Part::Top;
     check_keys(table, part)?;
     let soft_limit = number_at(table, part, Field::Soft, 1, SOFT_LIMIT, Some(SOFT_DEFAULT))?;
-    let tables = some_tables_at(alloc, table, part, Field::Graph, GRAPH_LIMIT)?;
-    let graphs = read_graphs(alloc, tables.items())?;
-    let tables = tables_at(alloc, table, part, Field::Sporadic, SPORADIC_LIMIT)?;
-    let sporadics = read_sporadics(alloc, tables.items())?;
+    let graphs = graphs_at(alloc, table)?;
+    let sporadics = sporadics_at(alloc, table)?;
     Ok(TaskSet {
         soft_limit,
         graphs,
         sporadics,
     })
+}
+
+/// The graphs of the whole table.
+fn graphs_at(alloc: Global, table: &Table) -> Result<Graphs, TaskFault>
+    ensures { Answers result (graphs_at (table_view table.now)) }
+{
+    let tables = some_tables_at(alloc, table, Part::Top, Field::Graph, GRAPH_LIMIT)?;
+    read_graphs(alloc, tables.items())
+}
+
+/// The sporadic tasks of the whole table.
+fn sporadics_at(alloc: Global, table: &Table) -> Result<Sporadics, TaskFault>
+    ensures { Answers result (sporadics_at (table_view table.now)) }
+{
+    let tables = tables_at(alloc, table, Part::Top, Field::Sporadic, SPORADIC_LIMIT)?;
+    read_sporadics(alloc, tables.items())
 }
