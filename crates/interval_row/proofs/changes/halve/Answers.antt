@@ -80,3 +80,16 @@ returns-clause-spans g c =
     ∙ ap (λ k. set (insert rows index first) k second) next
     ∙ halves-filled at index rows first second c.requires.filled.filled c.requires.inside later earlier
     ∙ ap filled (sym (cut-halved (first_start rows) at index rows c.requires.filled.consecutive c.requires.found c.requires.inside))
+
+pub returns-clause-marks : goal.returns-clause-marks
+returns-clause-marks g c = c.set.ensures.marks ∙ c.insert.ensures.marks
+
+pub returns-clause-room : goal.returns-clause-room
+returns-clause-room g c = c.set.ensures.room ∙ c.insert.ensures.room
+
+pub returns-clause-steps : goal.returns-clause-steps
+returns-clause-steps g c = omega (arith, c.insert.ensures.three_steps, c.set.ensures.one_step)
+
+pub overflow_add-place : goal.overflow_add-place
+overflow_add-place g c =
+    omega (arith, slice_get_within (g.S.Store.spans c.args.store.now) c.args.place.index c.args.place.span c.requires.span, c.requires.filled.few)

@@ -96,3 +96,78 @@ loop-last-preserved g c =
       room = c.follow_run-next.ensures.room ∙ c.loop-last.invariant.room;
       steps = omega (arith, c.follow_run-next.ensures.two_steps, c.loop-last.invariant.steps);
     }
+
+pub returns-after-loop-last-clause-spans : goal.returns-after-loop-last-clause-spans
+returns-after-loop-last-clause-spans g c = c.loop-last.invariant.spans
+
+pub returns-after-loop-last-clause-reached : goal.returns-after-loop-last-clause-reached
+returns-after-loop-last-clause-reached g c = c.loop-last.invariant.reached
+
+pub returns-after-loop-last-clause-front : goal.returns-after-loop-last-clause-front
+returns-after-loop-last-clause-front g c = c.loop-last.invariant.front
+
+pub returns-after-loop-last-clause-rest : goal.returns-after-loop-last-clause-rest
+returns-after-loop-last-clause-rest g c = c.loop-last.invariant.rest
+
+pub returns-after-loop-last-clause-laps : goal.returns-after-loop-last-clause-laps
+returns-after-loop-last-clause-laps g c = c.loop-last.invariant.laps
+
+pub returns-after-loop-last-clause-room : goal.returns-after-loop-last-clause-room
+returns-after-loop-last-clause-room g c = c.loop-last.invariant.room
+
+pub returns-after-loop-last-clause-high : goal.returns-after-loop-last-clause-high
+returns-after-loop-last-clause-high g c = c.loop-last.invariant.high
+
+pub returns-after-loop-last-clause-two_steps : goal.returns-after-loop-last-clause-two_steps
+returns-after-loop-last-clause-two_steps g c = c.loop-last.invariant.steps
+
+pub returns-else-last-ne0-clause-spans : goal.returns-else-last-ne0-clause-spans
+returns-else-last-ne0-clause-spans g c = c.loop-last.invariant.spans
+
+pub returns-else-last-ne0-clause-reached : goal.returns-else-last-ne0-clause-reached
+returns-else-last-ne0-clause-reached g c = c.loop-last.invariant.reached
+
+pub returns-else-last-ne0-clause-front : goal.returns-else-last-ne0-clause-front
+returns-else-last-ne0-clause-front g c = c.loop-last.invariant.front
+
+pub returns-else-last-ne0-clause-rest : goal.returns-else-last-ne0-clause-rest
+returns-else-last-ne0-clause-rest g c = c.loop-last.invariant.rest
+
+pub returns-else-last-ne0-clause-laps : goal.returns-else-last-ne0-clause-laps
+returns-else-last-ne0-clause-laps g c = c.loop-last.invariant.laps
+
+pub returns-else-last-ne0-clause-room : goal.returns-else-last-ne0-clause-room
+returns-else-last-ne0-clause-room g c = c.loop-last.invariant.room
+
+pub returns-else-last-ne0-clause-high : goal.returns-else-last-ne0-clause-high
+returns-else-last-ne0-clause-high g c = c.loop-last.invariant.high
+
+pub returns-else-last-ne0-clause-two_steps : goal.returns-else-last-ne0-clause-two_steps
+returns-else-last-ne0-clause-two_steps g c = c.loop-last.invariant.steps
+
+pub returns-else-page-last-clause-spans : goal.returns-else-page-last-clause-spans
+returns-else-page-last-clause-spans g c = c.loop-last.invariant.spans
+
+pub returns-else-page-last-clause-reached : goal.returns-else-page-last-clause-reached
+returns-else-page-last-clause-reached g c = c.loop-last.invariant.reached
+
+pub returns-else-page-last-clause-front : goal.returns-else-page-last-clause-front
+returns-else-page-last-clause-front g c = c.loop-last.invariant.front
+
+pub returns-else-page-last-clause-rest : goal.returns-else-page-last-clause-rest
+returns-else-page-last-clause-rest g c = c.loop-last.invariant.rest
+
+pub returns-else-page-last-clause-laps : goal.returns-else-page-last-clause-laps
+returns-else-page-last-clause-laps g c = c.loop-last.invariant.laps
+
+pub returns-else-page-last-clause-room : goal.returns-else-page-last-clause-room
+returns-else-page-last-clause-room g c = c.loop-last.invariant.room
+
+pub returns-else-page-last-clause-high : goal.returns-else-page-last-clause-high
+returns-else-page-last-clause-high g c = c.loop-last.invariant.high
+
+pub returns-else-page-last-clause-two_steps : goal.returns-else-page-last-clause-two_steps
+returns-else-page-last-clause-two_steps g c = c.loop-last.invariant.steps
+
+pub follow_run-next-requires-clause-near : goal.follow_run-next-requires-clause-near
+follow_run-next-requires-clause-near g c = c.requires.near

@@ -1,12 +1,14 @@
-use Rattle.std.proofs.Common.{◌≡◌, ◌*◌, ◌∙◌, ◌+ℤ◌, IfSome, Some, FitsSigned, get_or, slice_get, ap, refl, sym, subst, arith, rules, w64, to_z, of_z}
+use Rattle.std.proofs.Common.{◌≡◌, ℕ, ◌+◌, ◌*◌, ◌<◌, ◌≤◌, ◌∙◌, ◌+ℤ◌, List, drop, length, take, IfSome, Some, FitsSigned, get_or, slice_get, ap, refl, sym, subst, arith, ltb, rules, w64, to_z, of_z}
+use Rattle.std.proofs.lemmas.Grind.{common_steps}
 use Rattle.std.proofs.lemmas.Int.{ints, clamps, to_z-of_z}
+use Rattle.std.proofs.lemmas.List.Sums.{count_by-le-length}
 use Rattle.std.proofs.lemmas.Option.{slice_get-get_or}
 use Rattle.slot_core.specs.declared.jobs.Span.{Span}
 use Rattle.spare_capacity.specs.Lending.{repaid}
 use Rattle.spare_capacity.proofs.Steps.{no_row}
 use Rattle.node_chain.specs.declared.raises.Raise.{Raise}
-use Rattle.node_chain.specs.Raises.{spare_under}
-use Rattle.interval_row.specs.Lifts.{lifted, lifted_in}
+use Rattle.node_chain.specs.Raises.{map_between, spare_under}
+use Rattle.interval_row.specs.Lifts.{lifted, lifted_by, lifted_in}
 use Rattle.interval_row.specs.Spans.{AreFilled}
 use Rattle.interval_row.specs.Walks.{others_between, walked, HaveAtMost}
 use Rattle.interval_row.proofs.RunWalks.{first-of-run, follows-lifted, repaid_by, FollowsRun, IsRun, IsRun-follows, IsRun-reached, IsRun-spare, IsRun-up, IsRun-within}
@@ -148,3 +150,48 @@ returns-clause-high g c =
     let up = IsRun-up lifts c.args.page c.args.lift (raise g w) k n rows (is g w) c.raise_back-raised.result.high c.raise_back-raised.ensures.high in
     subst (λ h. HaveAtMost h (others_between k n (lifted lifts (g.S.Shelf.spans c.raise_back-raised.new.self)))) (sym (to_z-of_z w64 c.raise_back-raised.result.high high))
     (subst (λ xs. HaveAtMost c.raise_back-raised.result.high (others_between k n (lifted lifts xs))) (sym c.raise_back-raised.ensures.spans) up)
+
+pub returns-clause-before : goal.returns-clause-before
+returns-clause-before g c = c.raise_back-raised.ensures.before
+
+-- the spans before those that change stay
+front-kept : {X : Type 0} (f : X → X) (k n : ℕ) (xs : List X) → k ≤ length xs → take k (map_between f k n xs) ≡ take k xs
+front-kept f k n xs within = grind (arith, common_steps)
+
+pub returns-clause-front : goal.returns-clause-front
+returns-clause-front g c =
+    let w = (goal.at.returns-clause-front g c).After-raise_back-raised in
+    let lifts = (g.S.Shelf.laps c.args.shelf.now).lifts in
+    let rows = g.S.Shelf.spans c.args.shelf.now in
+    let k = c.raise_back-raised.result.index in
+    let few = IsRun-within lifts c.args.page c.args.lift (raise g w) k c.args.from.index rows (is g w) in
+    ap (take k) c.raise_back-raised.ensures.spans ∙ front-kept (lifted_by (raise g w).more) k c.args.from.index rows (omega (arith, c.raise_back-raised.ensures.before, few))
+
+-- and so do those after them
+rest-kept : {X : Type 0} (f : X → X) (k n : ℕ) (xs : List X) → k < n → n ≤ length xs → drop n (map_between f k n xs) ≡ drop n xs
+rest-kept f k n xs before within = grind (arith, common_steps)
+
+pub returns-clause-rest : goal.returns-clause-rest
+returns-clause-rest g c =
+    let w = (goal.at.returns-clause-rest g c).After-raise_back-raised in
+    let lifts = (g.S.Shelf.laps c.args.shelf.now).lifts in
+    let rows = g.S.Shelf.spans c.args.shelf.now in
+    let k = c.raise_back-raised.result.index in
+    let few = IsRun-within lifts c.args.page c.args.lift (raise g w) k c.args.from.index rows (is g w) in
+    ap (drop c.args.from.index) c.raise_back-raised.ensures.spans ∙ rest-kept (lifted_by (raise g w).more) k c.args.from.index rows c.raise_back-raised.ensures.before few
+
+pub returns-clause-laps : goal.returns-clause-laps
+returns-clause-laps g c = c.raise_back-raised.ensures.laps
+
+pub returns-clause-room : goal.returns-clause-room
+returns-clause-room g c = c.raise_back-raised.ensures.room
+
+pub returns-clause-two_steps : goal.returns-clause-two_steps
+returns-clause-two_steps g c =
+    omega (arith, c.raise_back-raised.ensures.two_steps, c.raise_back-raised.ensures.before)
+
+pub raise_back-raised-requires : goal.raise_back-raised-requires
+raise_back-raised-requires g c = record {
+  some = omega (arith, c.requires.some);
+  within = omega (arith, c.requires.place, count_by-le-length (λ (s : Span). ltb s.end ((c.args.page + 1) * 64)) (g.S.Shelf.spans c.args.shelf.now));
+}

@@ -1,4 +1,4 @@
-use Rattle.std.proofs.Common.{◌≡◌, ◌<◌, ◌∙◌, FitsSigned, Some, get_or, length, set, refl, ap, sym, arith, rules, w64, to_z, of_z}
+use Rattle.std.proofs.Common.{◌≡◌, ℕ, zero, suc, List, [], ◌∷◌, take, ◌<◌, ◌∙◌, FitsSigned, Some, get_or, length, set, refl, ap, sym, arith, rules, w64, to_z, of_z}
 use Rattle.std.proofs.lemmas.Grind.{get_or-set_at}
 use Rattle.std.proofs.lemmas.Int.{ints, clamps}
 use Rattle.std.proofs.lemmas.List.{length-set}
@@ -41,3 +41,29 @@ returns-clause-placed g c =
     let low : k < length rows = slice_get_within rows k c.args.place.span c.requires.span in
     let new = set rows k c.args.span in
     rw c.set.ensures.spans (slice_get-get_or new k no_row (omega (arith, low, length-set rows k c.args.span)) ∙ ap Some (get_or-set_at rows k k c.args.span no_row refl low))
+
+-- the spans before the one that is set stay
+front-kept : {X : Type 0} (k : ℕ) (x : X) (xs : List X) → take k (set xs k x) ≡ take k xs
+front-kept k x [] = refl
+front-kept zero x (y ∷ ys) = refl
+front-kept (suc k) x (y ∷ ys) = ap (λ zs. y ∷ zs) (front-kept k x ys)
+
+pub returns-clause-front : goal.returns-clause-front
+returns-clause-front g c =
+    ap (take c.args.place.index) c.set.ensures.spans ∙ front-kept c.args.place.index c.args.span (g.S.Store.spans c.args.store.now)
+
+pub returns-clause-index : goal.returns-clause-index
+returns-clause-index g c = refl
+
+pub returns-clause-marks : goal.returns-clause-marks
+returns-clause-marks g c = c.set.ensures.marks
+
+pub returns-clause-one_step : goal.returns-clause-one_step
+returns-clause-one_step g c = c.set.ensures.one_step
+
+pub returns-clause-room : goal.returns-clause-room
+returns-clause-room g c = c.set.ensures.room
+
+pub set-requires : goal.set-requires
+set-requires g c =
+    slice_get_within (g.S.Store.spans c.args.store.now) c.args.place.index c.args.place.span c.requires.span

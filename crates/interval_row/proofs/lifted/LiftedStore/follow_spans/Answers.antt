@@ -98,3 +98,46 @@ returns-clause-front g c =
     let rows = g.S.Shelf.spans c.self.inside.shelf in
     let new = g.S.Shelf.spans c.follow_back-followed.new.shelf in
     ap (take k) (now g w) ∙ take-lifted lifts k new rows c.follow_back-followed.ensures.front ∙ ap (λ (v : StoreParts). take k v.spans) c.self.view_is
+
+pub returns-clause-before : goal.returns-clause-before
+returns-clause-before g c = c.follow_back-followed.ensures.before
+
+pub returns-clause-two_steps : goal.returns-clause-two_steps
+returns-clause-two_steps g c = c.follow_back-followed.ensures.two_steps
+
+pub returns-clause-room : goal.returns-clause-room
+returns-clause-room g c =
+    c.set_lift.ensures.room ∙ c.follow_back-followed.ensures.room ∙ ap (λ (v : StoreParts). v.room) c.self.view_is
+
+pub returns-clause-marks : goal.returns-clause-marks
+returns-clause-marks g c =
+    ap (λ (l : Laps). l.marks) c.set_lift.ensures.laps ∙ ap (λ (l : Laps). l.marks) c.follow_back-followed.ensures.laps ∙ ap (λ (v : StoreParts). v.marks) c.self.view_is
+
+pub returns-clause-reached : goal.returns-clause-reached
+returns-clause-reached g c =
+    let shelf = c.self.inside.shelf in
+    let same = ends_before-lifted (g.S.Shelf.laps shelf).lifts (c.args.page * 64) (g.S.Shelf.spans shelf) in
+    let seen = ap (λ (v : StoreParts). ends_before (c.args.page * 64) v.spans) c.self.view_is in
+    omega (arith, c.follow_back-followed.ensures.reached, same, seen)
+
+pub follow_back-followed-requires-clause-lift : goal.follow_back-followed-requires-clause-lift
+follow_back-followed-requires-clause-lift g c =
+    ap (slice_get (g.S.Shelf.laps c.self.inside.shelf).lifts) (sym c.index_of_page-index.ensures) ∙ c.lift-lift.ensures
+
+pub follow_back-followed-requires-clause-some : goal.follow_back-followed-requires-clause-some
+follow_back-followed-requires-clause-some g c =
+    let shelf = c.self.inside.shelf in
+    let same = ends_before-lifted (g.S.Shelf.laps shelf).lifts (c.args.page * 64) (g.S.Shelf.spans shelf) in
+    let seen = ap (λ (v : StoreParts). ends_before (c.args.page * 64) v.spans) c.self.view_is in
+    omega (arith, c.requires.some, same, seen)
+
+pub follow_back-followed-requires-clause-place : goal.follow_back-followed-requires-clause-place
+follow_back-followed-requires-clause-place g c =
+    let shelf = c.self.inside.shelf in
+    let same = ends_before-lifted (g.S.Shelf.laps shelf).lifts ((c.args.page + 1) * 64) (g.S.Shelf.spans shelf) in
+    let seen = ap (λ (v : StoreParts). ends_before ((c.args.page + 1) * 64) v.spans) c.self.view_is in
+    omega (arith, c.requires.place, same, seen)
+
+pub follow_back-followed-requires-clause-filled : goal.follow_back-followed-requires-clause-filled
+follow_back-followed-requires-clause-filled g c =
+    subst (λ (v : StoreParts). AreFilled (after_walk c.args.from v.spans)) (sym c.self.view_is) c.requires.filled

@@ -66,3 +66,62 @@ pub returns-clause-place : goal.returns-clause-place
 returns-clause-place g c =
     let shelf = c.loop-last.self-inside.shelf in
     c.loop-last.invariant.place ∙ sym (ends_before-lifted (g.S.Shelf.laps shelf).lifts (c.loop-last.last.page * 64) (g.S.Shelf.spans shelf))
+
+pub pass_run-last-requires-clause-covered : goal.pass_run-last-requires-clause-covered
+pass_run-last-requires-clause-covered g c = c.loop-last.invariant.covered
+
+pub pass_run-last-requires-clause-place : goal.pass_run-last-requires-clause-place
+pass_run-last-requires-clause-place g c = c.loop-last.invariant.place
+
+pub returns-then-low-last-clause-spans : goal.returns-then-low-last-clause-spans
+returns-then-low-last-clause-spans g c = c.pass_run-last.ensures.spans ∙ c.loop-last.invariant.spans
+
+pub returns-then-low-last-clause-more : goal.returns-then-low-last-clause-more
+returns-then-low-last-clause-more g c = c.pass_run-last.ensures.more ∙ c.loop-last.invariant.more
+
+pub returns-then-low-last-clause-room : goal.returns-then-low-last-clause-room
+returns-then-low-last-clause-room g c = c.pass_run-last.ensures.room ∙ c.loop-last.invariant.room
+
+pub returns-then-low-last-clause-marks : goal.returns-then-low-last-clause-marks
+returns-then-low-last-clause-marks g c = c.pass_run-last.ensures.marks ∙ c.loop-last.invariant.marks
+
+pub returns-then-low-last-clause-first : goal.returns-then-low-last-clause-first
+returns-then-low-last-clause-first g c = omega (arith, c.pass_run-last.ensures.first, c.max-low.ensures)
+
+pub returns-then-low-last-clause-last : goal.returns-then-low-last-clause-last
+returns-then-low-last-clause-last g c = omega (arith, c.pass_run-last.ensures.last, c.loop-last.invariant.last)
+
+pub returns-then-low-last-clause-before : goal.returns-then-low-last-clause-before
+returns-then-low-last-clause-before g c = omega (arith, c.pass_run-last.ensures.before, c.loop-last.invariant.before)
+
+pub returns-then-low-last-clause-place : goal.returns-then-low-last-clause-place
+returns-then-low-last-clause-place g c =
+    let shelf = c.pass_run-last.new.shelf in
+    c.pass_run-last.ensures.place ∙ sym (ends_before-lifted (g.S.Shelf.laps shelf).lifts (c.pass_run-last.result.page * 64) (g.S.Shelf.spans shelf))
+
+pub returns-clause-spans : goal.returns-clause-spans
+returns-clause-spans g c = c.loop-last.invariant.spans
+
+pub returns-clause-more : goal.returns-clause-more
+returns-clause-more g c = c.loop-last.invariant.more
+
+pub returns-clause-first : goal.returns-clause-first
+returns-clause-first g c = c.loop-last.invariant.first
+
+pub returns-clause-last : goal.returns-clause-last
+returns-clause-last g c = c.loop-last.invariant.last
+
+pub returns-clause-before : goal.returns-clause-before
+returns-clause-before g c = c.loop-last.invariant.before
+
+pub returns-clause-front : goal.returns-clause-front
+returns-clause-front g c = c.loop-last.invariant.front
+
+pub returns-clause-room : goal.returns-clause-room
+returns-clause-room g c = c.loop-last.invariant.room
+
+pub returns-clause-marks : goal.returns-clause-marks
+returns-clause-marks g c = c.loop-last.invariant.marks
+
+pub returns-clause-ended : goal.returns-clause-ended
+returns-clause-ended g c = λ more. absurd (omega (arith, more, c.loop-last-test.false))
