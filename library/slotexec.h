@@ -17,8 +17,8 @@
  * The library is tried on x86-64, and on aarch64 under qemu (`make aarch64`). Of other processors
  * nothing is said.
  *
- * How long the calls take on a PC, for two controllers of examples/, stands in README.md under
- * 'Speed' (`make test` measures it). Of them the slot that ends a cycle brings in the jobs and spans
+ * How long the calls take on a PC, for two controllers of examples/, stands in docs/PERFORMANCE.md
+ * (`make test` measures it). Of them the slot that ends a cycle brings in the jobs and spans
  * of another one, `ss_open` computes the plan again, and `ss_close` gives back all that it keeps: so
  * each of the three takes longer for a longer cycle. A firm or sporadic arrival, an early end, a
  * withdrawal and a slot go along the jobs that remain and the spans ahead, three cycles of them at
