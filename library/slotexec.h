@@ -18,8 +18,8 @@
  * nothing is said.
  *
  * How long the calls take on a PC, for two controllers of examples/, stands in docs/PERFORMANCE.md
- * (`make test` measures it). Of them the slot that ends a cycle brings in the jobs and spans
- * of another one, `ss_open` computes the plan again, and `ss_close` gives back all that it keeps: so
+ * (`make -C library test` measures it). Of them the slot that ends a cycle brings in the jobs and
+ * spans of another one, `ss_open` makes the plan again, and `ss_close` gives back all it keeps: so
  * each of the three takes longer for a longer cycle. A firm or sporadic arrival, an early end, a
  * withdrawal and a slot go along the jobs that remain and the spans ahead, three cycles of them at
  * most; the others take no longer for a longer cycle.
