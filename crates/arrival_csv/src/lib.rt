@@ -87,7 +87,9 @@ fn read_plain(
     }
 }
 
-/// The arrivals that the bytes of any file write.
+/// The arrivals that the bytes of any file write. It stands apart, so that the stack of its reader is
+/// given back before the arrivals are replayed.
+#[inline(never)]
 fn read_records(
     alloc: Global,
     bytes: &[u8],

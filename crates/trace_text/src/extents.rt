@@ -14,8 +14,17 @@ use slot_core::Span;
 use std::array::from_fn;
 use std::marker::Model;
 
-/// How many texts of extents are kept: the last byte of an end is the place of its cell.
-const EXTENT_COUNT: usize = 256;
+/// How many texts of extents are kept: for the eight spans of a line, and others. While they are
+/// made, some copies of all of them stand on the stack.
+const EXTENT_COUNT: usize = 64;
+
+/// An end is multiplied by 2 to the power of 31 over the golden ratio, and six bits of the product
+/// are the place of its cell: so ends in equal steps, as those of periods are, have places that lie
+/// apart.
+const SPREAD: u64 = 1_327_217_885;
+
+/// How many bits of the product stand below the place.
+const SPREAD_SHIFT: u32 = 25;
 
 /// How many texts of spare capacities are kept: the last byte of one is the place of its cell.
 const SPARE_COUNT: usize = 256;
@@ -299,8 +308,8 @@ impl SpareCell {
     }
 }
 
-/// The texts of extents, each in the cell of the last byte of its end: so they stay where time
-/// passes and spans go. And those of spare capacities, each in the cell of its own last byte.
+/// The texts of extents, each in a cell that its end tells: so they stay where time passes and
+/// spans go. And those of spare capacities, each in the cell of its own last byte.
 #[derive(Drop)]
 pub(crate) struct Cells {
     extents: [ExtentCell; EXTENT_COUNT],
@@ -330,12 +339,12 @@ impl Cells {
     }
 }
 
-/// The place of the cell of the extent of the span.
+/// The place of the cell of the extent of the span, which only its end tells.
 #[inline]
 fn extent_place(span: &Span) -> usize
     ensures { result < EXTENT_COUNT }
 {
-    span.end as usize % EXTENT_COUNT
+    (span.end.wrapping_mul(SPREAD) >> SPREAD_SHIFT) as usize % EXTENT_COUNT
 }
 
 /// The place of the cell of a spare capacity.
