@@ -65,6 +65,14 @@ CANNOT_WRITE = Ran(7, None, b"cannot write\n")
 OUT_OF_MEMORY = Ran(8, b"", b"out of memory\n")
 
 
+def at_hand(name):
+    """The path of the program of this name that was built here, or else that of dist/."""
+    found = subprocess.run([f"{TOP}/start/at-hand", name], stdout=subprocess.PIPE, text=True)
+    if found.returncode:
+        sys.exit(2)
+    return found.stdout.rstrip("\n")
+
+
 def example(name):
     return f"{TOP}/examples/{name}"
 
@@ -260,7 +268,7 @@ class Check:
     def __init__(self, about, *options, programs=("slotshift",)):
         parser = argparse.ArgumentParser(description=about)
         for name in programs:
-            parser.add_argument(name, nargs="?", default=f"{TOP}/crates/{name}/out/{name}")
+            parser.add_argument(name, nargs="?")
         for name, how in options:
             parser.add_argument(name, **how)
         self.words = parser.parse_args()
@@ -274,9 +282,9 @@ class Check:
 
     def found(self, name):
         """The path of this program, if it is there."""
-        path = os.path.abspath(vars(self.words)[name])
+        path = os.path.abspath(vars(self.words)[name] or at_hand(name))
         if not os.access(path, os.X_OK):
-            print(f"{self.name}: there is no program {path}: ./{name} builds it")
+            print(f"{self.name}: there is no program {path}: ./build {name} builds it")
             sys.exit(2)
         return path
 

@@ -1,0 +1,24 @@
+# make            sees that the programs are at hand, and builds what is not
+# make test       tries the programs at hand: those that were built here, or those of dist/ (no kit is needed)
+# make prove      the gate: each proof, the wrong bodies, the tests and the programs (needs rt of the Rattle kit)
+# make install    puts programs, man pages, completions and the library for C below PREFIX
+# make uninstall  takes them away again
+PREFIX = /usr/local
+DESTDIR =
+
+.PHONY: all test prove install uninstall
+
+all:
+	@for it in slotshift slotlive slotview; do start/at-hand $$it || ./build $$it || exit; done
+
+test:
+	@checks/quick
+
+prove:
+	@.ci/run
+
+install:
+	@DESTDIR='$(DESTDIR)' PREFIX='$(PREFIX)' start/install
+
+uninstall:
+	@DESTDIR='$(DESTDIR)' PREFIX='$(PREFIX)' start/install --remove
