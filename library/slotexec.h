@@ -47,6 +47,9 @@
 extern "C" {
 #endif
 
+/* The version of this header. That of the library is told by ss_version. */
+#define SS_VERSION "1.0.0"
+
 /* How a call ended. */
 enum {
     SS_OK = 0,         /* the call did what it says */
@@ -109,6 +112,11 @@ typedef struct {
     uint64_t start, end, work;
     int64_t spare;
 } ss_span;
+
+/* Writes the version of the library to the front of `text`, with no zero after it, and tells its
+ * length. SS_BAD_NUMBER where it is longer than `room`. It needs no executive. The library is the
+ * one of this header where the text is SS_VERSION. */
+uint32_t ss_version(uint8_t *text, size_t room, size_t *length);
 
 /* Opens the plan of a binary table, as `slotshift table` writes it, before its first slot.
  * SS_STILL_OPEN, SS_MEMORY, or SS_BAD_TABLE. With the last one `fault->answer` is the number of the
