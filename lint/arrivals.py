@@ -7,7 +7,7 @@ that it tells.
 import re
 
 from .limits import ARRIVAL_LIMIT, NUMBER_LIMIT, OFFER_LIMIT, REPLAY_LIMIT
-from .places import Finding, bare, counted, did_you_mean, listed, nearest, shown
+from .places import Finding, bare, did_you_mean, listed, nearest, shown
 
 # The fields of each kind of row.
 FORMS = {
@@ -30,8 +30,7 @@ OTHER_KINDS = {
     "cancel": "a request is taken back by withdraw",
 }
 
-# The kinds of rows that name a job: what stands before the number of its row, and its kind.
-ROW_KEYS = {"firm": "firm", "soft": "soft"}
+OPEN_QUOTE = "the quote that opens here is not closed, so the rest of the file belongs to this field"
 
 
 class ArrivalsFile:
@@ -117,7 +116,7 @@ class ArrivalsFile:
         text = row.fields[0].text
         form = "a row is SLOT,KIND,.., as 0,soft,2"
         if not text.strip():
-            return "a line of spaces alone is a row without fields, and an empty line is none: take them out"
+            return "this line has spaces, so it is a row without fields: take them out; an empty line is none"
         if text.lstrip().startswith(("#", "//", ";", "%")):
             return "an arrivals file has no comments: take the line out"
         for mark, name in ((";", "semicolons"), ("\t", "tabs")):
@@ -148,7 +147,7 @@ class ArrivalsFile:
         kinds = list(FORMS)
         word = field.text.strip()
         if field.is_open:
-            message = "the quote that opens here is not closed, so the rest of the file belongs to this field"
+            message = OPEN_QUOTE
         elif word in FORMS:
             message = f"{shown(field.text)} has a space in it: write none beside the commas, as 0,{word},.."
         elif word.lower() in OTHER_KINDS:
@@ -168,7 +167,7 @@ class ArrivalsFile:
         if number is not None and least <= number <= most:
             return number
         if field.is_open:
-            message = "the quote that opens here is not closed, so the rest of the file belongs to this field"
+            message = OPEN_QUOTE
         elif index == 0:
             message = self.why_no_slot(row)
         else:
@@ -197,7 +196,7 @@ class ArrivalsFile:
             return
         message = f"no sporadic task has the name {shown(field.text)}"
         if field.is_open:
-            message = "the quote that opens here is not closed, so the rest of the file belongs to this field"
+            message = OPEN_QUOTE
         elif field.text.strip() in names:
             message += ": take out the space"
         elif field.text in [graph.name.data for graph in self.tasks.graphs if graph.name]:
@@ -217,7 +216,7 @@ class ArrivalsFile:
         field = row.fields[2]
         why = self.why_no_key(field.text)
         if field.is_open and why:
-            why = "the quote that opens here is not closed, so the rest of the file belongs to this field"
+            why = OPEN_QUOTE
         if why:
             self.tell("key", row, field, why, f"bad key {row.number}")
 
@@ -233,7 +232,7 @@ class ArrivalsFile:
                 return f"{shown(text)}: no sporadic task has the name {shown(name)}{hint}"
             return self.why_no_row(text, number)
         word, mark, number = text.partition(":")
-        if mark and word in ROW_KEYS:
+        if mark and word in ("firm", "soft"):
             return self.why_no_row(text, number)
         if text in names:
             return f"{shown(text)} names no job: its row is missing, as {bare(text)}@1"

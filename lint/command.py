@@ -165,11 +165,13 @@ def objects_of(run):
         made = {"file": run.words.program, "word": number}
         objects.append(made | {"kind": "fault", "rule": "words", "message": message})
     for judged in run.judged:
-        objects += [object_of(judged, found) for found in judged.in_order]
+        first = judged.first_fault
+        objects += [object_of(judged, found, found is first) for found in judged.in_order]
     return objects
 
 
-def object_of(judged, found):
+def object_of(judged, found, is_first):
+    """What was found, as an object for editors."""
     text = judged.text
     made = {
         "file": judged.name,
@@ -184,7 +186,7 @@ def object_of(judged, found):
     }
     if found.fault:
         made["program"] = found.fault
-        made["is_first"] = found is judged.faults[0]
+        made["is_first"] = is_first
     return made
 
 
@@ -198,8 +200,9 @@ def print_run(run, options):
     for line in word_lines(run.words) if run.words else []:
         print(line)
     for judged in run.judged:
-        for line in lines_of(judged, options.all):
-            print(line)
+        # (of a task file that was given for its arrivals it is not said that it is right)
+        if judged.name != options.tasks or judged.findings:
+            print("\n".join(lines_of(judged, options.all)))
 
 
 def answer(words):

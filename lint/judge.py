@@ -13,8 +13,8 @@ NOT_TOML = "tasks not toml"
 
 
 class Judged:
-    """A file with its text, what was found in it, and what it writes where that is known. The
-    first fault is the one that the program tells."""
+    """A file with its text, what was found in it in the order of the program's checks, and what it
+    writes, where that is known."""
 
     def __init__(self, name, text, findings, content=None):
         self.name = name
@@ -25,6 +25,11 @@ class Judged:
     @property
     def faults(self):
         return [it for it in self.findings if it.fault]
+
+    @property
+    def first_fault(self):
+        """The fault that the program tells, or none."""
+        return next((it for it in self.findings if it.fault), None)
 
     @property
     def in_order(self):
@@ -73,9 +78,9 @@ def judge_arrivals(name, data, tasks, slots):
     file = ArrivalsFile(text, rows_of(text.characters), known, slots)
     if file.findings and (message := other_kind(data, text.characters)):
         # (the fault of its first row is the one that the program tells)
-        first = next(it for it in file.findings if it.fault)
-        first.owner, first.message, first.rule = "", message, "other kind"
-        return Judged(name, text, [first], file)
+        first = file.findings[0]
+        other = Finding("other kind", first.start, first.end, "", message, first.fault)
+        return Judged(name, text, [other], file)
     if tasks and not tasks.faults:
         for note in arrival_notes.NOTES:
             note(file)

@@ -3,7 +3,7 @@
 import os
 import re
 
-from .places import Finding, nearest, shown
+from .places import nearest
 
 MARK = b"\xef\xbb\xbf"
 OTHER_MARKS = {
@@ -91,7 +91,7 @@ def look_of(characters):
     if re.match(r"SLOT[\0-\x08\x0e-\x1f]", characters):
         return "a binary table, which slotshift table wrote: name the task file from which it was made"
     if re.match(rf'"?[0-9]+"?\s*[,;\t]\s*"?(?:{KINDS})', first) or re.match(r"[0-9]+\s*,", first):
-        return "an arrivals file: give it behind --tasks T, as slotlint --tasks flight.toml flight.csv"
+        return "an arrivals file, and a task file is due here (slotlint takes arrivals behind --tasks T)"
     if re.match(r"[0-9]+ (?:start|run|idle)\b", first):
         return "a trace: name the task file from which it was made"
     if first.startswith("{"):

@@ -2,7 +2,6 @@
 
 import math
 
-from .demand import cycle_of
 from .limits import SLOT_LIMIT
 
 

@@ -140,19 +140,19 @@ def cycle_length(file):
             continue
         message = (
             f"{key} = {number.value} makes the cycle {longer} slots, and {SLOT_LIMIT} is the most: it is "
-            f"the least common multiple of all periods and separations, and {cycle} up to this one; "
+            f"the least common multiple of all periods and separations, {cycle} before this one; "
             f"{that_fit(cycle, number.value)}"
         )
         file.tell("cycle too long", owner, number.entry.value, message, f"cycle too long {longer}")
 
 
 def that_fit(cycle, number):
-    """The numbers next to this one that divide the cycle or are a multiple of it."""
+    """The numbers near to this one that divide the cycle or are a multiple of it."""
     fits = [it for it in range(1, SLOT_LIMIT + 1) if cycle % it == 0 or it % cycle == 0]
-    below = [it for it in fits if it < number][-1:]
-    above = [it for it in fits if it > number][:1]
-    near = listed(map(str, below + above), "or")
-    return f"choose one that divides the cycle or is a multiple of it, as {near}"
+    below = [it for it in fits if number <= 2 * it and it < number][-1:]
+    above = [it for it in fits if number < it <= 2 * number][:1]
+    near = f", as {listed(map(str, below + above), 'or')}" if below + above else ""
+    return f"choose one that divides {cycle} or is a multiple of it{near}"
 
 
 def demand(file):

@@ -159,8 +159,8 @@ def why_no_name(text):
         why = "has a space in it" if strange[0] == " " else f"has {shown(strange[0])} in it"
     else:
         why = f"begins with {shown(text[0])}"
-    plain = re.sub(r"[^A-Za-z0-9_-]+", "_", text).lstrip("0123456789_-")[:NAME_LIMIT].rstrip("_-")
-    return f"the name {shown(text)} {why}: {rule}{', as ' + shown(plain) if plain else ''}"
+    plain = re.sub(r"[^A-Za-z0-9_-]+", "_", text)[:NAME_LIMIT].rstrip("_-")
+    return f"the name {shown(text)} {why}: {rule}{', as ' + shown(plain) if NAME.fullmatch(plain) else ''}"
 
 
 def too_many(key, count, most):

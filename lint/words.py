@@ -4,7 +4,7 @@ import os
 import re
 
 from .limits import ARRIVAL_LIMIT, CHART_LIMIT, LOAD_LIMIT, REPLAY_LIMIT
-from .places import counted, did_you_mean, listed, shown
+from .places import did_you_mean, listed, shown
 
 # What the letters of a usage line are.
 LETTERS = {
@@ -89,11 +89,10 @@ class Words:
 
     def why_count(self, form):
         """What is wrong with how many words there are."""
-        takes = listed(f"{letter}, {meaning(form[0], letter)}" for letter in form[1:])
+        takes = listed(f"{letter} ({meaning(form[0], letter)})" for letter in form[1:])
         count = len(self.words) - 1
-        here = "here is 1" if count == 1 else f"here are {count or 'none'}"
-        due = f"{counted(len(form) - 1, 'word')} behind {form[0]}"
-        message = f"{' '.join(form)} takes {due}, {takes}; {here}"
+        here = "is 1 word" if count == 1 else f"are {count or 'no'} words"
+        message = f"{form[0]} takes {takes}, and here {here} behind it"
         if count > len(form) - 1 and all(os.path.exists(it) for it in self.words[1:]):
             return f"{message}: give the files one at a time"
         if count == len(form) - 2 and "A" in form and not any(it.endswith(".csv") for it in self.words):
