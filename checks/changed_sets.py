@@ -7,13 +7,15 @@ or bytes of it are.
 
 CYCLES = [1, 2, 4, 6, 8, 10, 12, 16, 20, 24, 30, 36, 40, 48, 60, 64, 96, 128, 240]
 NAMES = ["", "9a", "a.b", "a b", "x" * 24, "x" * 25, "Z_-9", "g0", "t0", "s0"]
-NUMBERS = [-1, 0, 1, 2, 3, 5, 7, 11, 8191, 8192, 8193, 2**31, 2**63 - 1, 2**63, "1.0", '"1"', "0x10", "[]", "{}"]
+NUMBERS = [-1, 0, 1, 2, 3, 5, 7, 11, 8191, 8192, 8193, 2**31, 2**63 - 1, 2**63, -(2**63), -(2**63) - 1]
+NUMBERS += ["1.0", '"1"', "0x10", "0o17", "0o18", "0b11", "0b12", "010", "1_0", "1__0", "1e3", "-0", "[]", "{}"]
 LINES = [
-    "soft = 1", "soft = 1025", "graph = []", "graph = 1", "[[graph]]", "[graph]", "[[graph.task]]", "[graph.task]",
-    "[[sporadic]]", "[sporadic]", "sporadic = []", "after = []", 'after = ["t0"]', 'after = ["t0", "t0"]', 'after = "t0"',
-    "after = [1]", "offset = 0", "offset = -1", "deadline = 0", "deadline = 1", "wcet = 1", "wcet = 0", "period = 9",
-    "period = 10ms", "perid = 8", "colour = 1", 'name = "w"', "name = w", 'name = "w', "task.name = 1", "x.y = 1",
-    "# a remark", "// a remark", "}", "]", "= 1", "a b", '"""', "[[", "wcet = 1 wcet = 2", "\t", "\r", "\x7f",
+    *("soft = 1", "soft = 1025", "graph = []", "graph = 1", "[[graph]]", "[graph]", "[[graph.task]]"),
+    *("[graph.task]", "[[sporadic]]", "[sporadic]", "sporadic = []", "after = []", 'after = ["t0"]'),
+    *('after = ["t0", "t0"]', 'after = "t0"', "after = [1]", "offset = 0", "offset = -1", "deadline = 0"),
+    *("deadline = 1", "wcet = 1", "wcet = 0", "period = 9", "period = 10ms", "perid = 8", "colour = 1"),
+    *('name = "w"', "name = w", 'name = "w', "task.name = 1", "x.y = 1", "# a remark", "// a remark"),
+    *("}", "]", "= 1", "a b", '"""', "[[", "wcet = 1 wcet = 2", "\t", "\r", "\x7f"),
 ]
 
 
@@ -55,6 +57,24 @@ def random_alarm(rng, index, separation):
     deadline = rng.randint(1, separation)
     wcet = rng.choice([1, 1, rng.randint(1, deadline)])
     return {"name": f"s{index}", "wcet": wcet, "separation": separation, "deadline": deadline}
+
+
+def edge_set(rng):
+    """A set with little room at the end of a cycle and at its beginning, and alarms that are due
+    soon, so that a window that fails may reach from one cycle into the next."""
+    period = rng.choice([6, 8, 10, 12])
+    last, first = rng.randint(1, 3), rng.randint(1, 2)
+    graphs = [
+        {"name": "last", "period": period, "offset": period - last, "deadline": last},
+        {"name": "first", "period": period, "deadline": first},
+    ]
+    for graph, room in zip(graphs, (last, first)):
+        graph["task"] = [{"name": "t0", "wcet": max(1, room - rng.randrange(2))}]
+    alarms = [random_alarm(rng, index, period * rng.choice([1, 2])) for index in range(rng.randint(1, 2))]
+    for alarm in alarms:
+        alarm["deadline"] = rng.randint(1, min(period, last + first + 2))
+        alarm["wcet"] = 1
+    return {"graph": graphs, "sporadic": alarms}
 
 
 def broken(rng, tasks):
@@ -131,6 +151,8 @@ def changed_lines(rng, text):
 
 def random_file(rng):
     """The bytes of a task file: right, broken, or with changed lines."""
+    if rng.random() < 0.1:
+        return spelled(rng, edge_set(rng)).encode()
     tasks = random_set(rng)
     for _ in range(rng.choice([0, 1, 1, 2])):
         tasks = broken(rng, tasks)
