@@ -47,25 +47,32 @@
 extern "C" {
 #endif
 
-/* How a call ended: 0 to 7, in this order. */
+/* The version of this header. That of the library is told by ss_version. */
+#define SS_VERSION "1.0.0"
+
+/* How a call ended. */
 enum {
-    SS_OK,         /* the call did what it says */
-    SS_MEMORY,     /* memory ran out (ss_open alone) */
-    SS_BAD_TABLE,  /* the bytes are no table (ss_open alone) */
-    SS_BAD_ROW,    /* the row of the arrival is not above the last one */
-    SS_BAD_NUMBER, /* a number, an index, a key or a name is none that may come, or no room */
-    SS_AT_END,     /* the time is 2^32 slots: no more slot passes (ss_slot alone) */
-    SS_CLOSED,     /* the handle has no executive */
-    SS_STILL_OPEN  /* the handle has one already (ss_open alone) */
+    SS_OK = 0,         /* the call did what it says */
+    SS_MEMORY = 1,     /* memory ran out (ss_open alone) */
+    SS_BAD_TABLE = 2,  /* the bytes are no table (ss_open alone) */
+    SS_BAD_ROW = 3,    /* the row of the arrival is not above the last one */
+    SS_BAD_NUMBER = 4, /* a number, an index, a key or a name is none that may come, or no room */
+    SS_AT_END = 5,     /* the time is 2^32 slots: no more slot passes (ss_slot alone) */
+    SS_CLOSED = 6,     /* the handle has no executive */
+    SS_STILL_OPEN = 7  /* the handle has one already (ss_open alone) */
 };
 
 /* The kind of a key. */
-enum { SS_NONE, SS_OFFLINE, SS_SPORADIC, SS_FIRM, SS_SOFT };
+enum { SS_NONE = 0, SS_OFFLINE = 1, SS_SPORADIC = 2, SS_FIRM = 3, SS_SOFT = 4 };
 
 /* The answers, by the call that gives them. */
-enum { SS_ACCEPTED, SS_LATE, SS_FAR, SS_NO_ROOM }; /* ss_firm */
-enum { SS_TAKEN, SS_FULL, SS_SOON = 1 };           /* ss_soft, ss_sporadic */
-enum { SS_FREED, SS_NOT_RUNNING, SS_NO_JOB = 1 };  /* ss_done, ss_withdraw */
+enum { SS_ACCEPTED = 0, SS_LATE = 1, SS_FAR = 2, SS_NO_ROOM = 3 }; /* ss_firm */
+enum { SS_TAKEN = 0 };                                             /* ss_soft, ss_sporadic */
+enum { SS_FULL = 1 };                                              /* ss_soft */
+enum { SS_SOON = 1 };                                              /* ss_sporadic */
+enum { SS_FREED = 0 };                                             /* ss_done, ss_withdraw */
+enum { SS_NOT_RUNNING = 1 };                                       /* ss_done */
+enum { SS_NO_JOB = 1 };                                            /* ss_withdraw */
 
 /* The limits. */
 enum {
@@ -105,6 +112,11 @@ typedef struct {
     uint64_t start, end, work;
     int64_t spare;
 } ss_span;
+
+/* Writes the version of the library to the front of `text`, with no zero after it, and tells its
+ * length. SS_BAD_NUMBER where it is longer than `room`. It needs no executive. The library is the
+ * one of this header where the text is SS_VERSION. */
+uint32_t ss_version(uint8_t *text, size_t room, size_t *length);
 
 /* Opens the plan of a binary table, as `slotshift table` writes it, before its first slot.
  * SS_STILL_OPEN, SS_MEMORY, or SS_BAD_TABLE. With the last one `fault->answer` is the number of the

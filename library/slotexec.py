@@ -14,7 +14,10 @@ import ctypes
 import enum
 import os
 
+__version__ = "1.0.0"  # of this file, and of the library that it loads
+
 KEY_TEXT = 70  # bytes of the text of a key, at most
+VERSION_TEXT = 64  # bytes that hold any version
 HERE = os.path.dirname(os.path.realpath(__file__))
 
 
@@ -133,12 +136,43 @@ def _key(key):
     return _Key(*(_number(part).value for part in (kind, group, task)), number)
 
 
+def _loaded(library):
+    """The shared library in this file, else the one that `make shared` builds."""
+    return ctypes.CDLL(library or os.path.join(HERE, "out", "libslotexec.so"))
+
+
+def _version_of(loaded):
+    """The version of a library that is loaded, None where it tells none."""
+    call = getattr(loaded, "ss_version", None)
+    if call is None:
+        return None
+    text, length = ctypes.create_string_buffer(VERSION_TEXT), ctypes.c_size_t()
+    status = call(text, ctypes.c_size_t(VERSION_TEXT), ctypes.byref(length))
+    return text.raw[: length.value].decode() if status == Status.OK else None
+
+
+def version(library=None):
+    """The version of the library, None where it tells none."""
+    return _version_of(_loaded(library))
+
+
+def _of_this_version(loaded):
+    """The library, which is refused where it is of another version: its numbers and structs may be
+    others, and no call would notice."""
+    found = _version_of(loaded)
+    if found != __version__:
+        told = f"version {found or 'unknown'}, but slotexec.py has {__version__}"
+        raise OSError(f"{loaded._name}: {told}")
+    return loaded
+
+
 class Executive:
     """An open executive. It is closed by `close`, or at the end of a `with`."""
 
     def __init__(self, table, library=None):
-        """Opens the plan of a binary table, given as bytes."""
-        self._library = ctypes.CDLL(library or os.path.join(HERE, "out", "libslotexec.so"))
+        """Opens the plan of a binary table, given as bytes. OSError where the library cannot be
+        loaded, or is of another version."""
+        self._library = _of_this_version(_loaded(library))
         self._slots = _Slots()
         fault = _Told()
         size = ctypes.c_size_t(len(table))

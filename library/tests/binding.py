@@ -1,12 +1,17 @@
-"""Tries slotexec.py over a table with a sporadic task: it drives the same trace as the program.
-usage: binding.py LIBRARY TABLE TRACE   (TRACE: what `slotshift replay-table` prints without arrivals)
+"""Tries slotexec.py over a table with a sporadic task: it drives the same trace as the program, has
+the numbers of slotexec.h, and refuses a library of another version.
+usage: binding.py LIBRARY TABLE TRACE LATER OLD   (TRACE: what `slotshift replay-table` prints without
+arrivals; LATER: a library of version 9.10.11; OLD: one that tells no version)
 """
 
 import os
+import re
 import sys
 
-sys.path.insert(0, os.path.dirname(os.path.dirname(os.path.realpath(__file__))))
+HERE = os.path.dirname(os.path.dirname(os.path.realpath(__file__)))
+sys.path.insert(0, HERE)
 
+import slotexec
 from slotexec import Done, Executive, Firm, Gone, Key, Kind, SlotError, Soft, Sporadic, Status
 
 
@@ -31,8 +36,37 @@ def status_of(call, *words):
     return Status.OK
 
 
+def header_numbers():
+    """The enumerators of slotexec.h, each with its number."""
+    text = open(os.path.join(HERE, "slotexec.h"), encoding="ascii").read()
+    return {name: int(number) for name, number in re.findall(r"\bSS_(\w+) = (\d+)", text)}
+
+
+def python_numbers():
+    """Those of slotexec.py."""
+    enums = (Status, Kind, Soft, Firm, Sporadic, Done, Gone)
+    members = {member.name: int(member) for names in enums for member in names}
+    return members | {"KEY_TEXT": slotexec.KEY_TEXT}
+
+
+def try_versions(library, table, later, old):
+    """A library of another version is refused with a line."""
+    assert slotexec.version(library) == slotexec.__version__
+    for file, found in ((later, "9.10.11"), (old, None)):
+        assert slotexec.version(file) == found
+        try:
+            Executive.of_file(table, file)
+        except OSError as error:
+            told = f"{file}: version {found or 'unknown'}, but slotexec.py has "
+            assert str(error) == told + slotexec.__version__, error
+        else:
+            raise AssertionError(file)
+
+
 def main():
-    library, table, trace = sys.argv[1:]
+    library, table, trace, later, old = sys.argv[1:]
+    assert header_numbers() == python_numbers() | {"OFFER_LIMIT": 65535}
+    try_versions(library, table, later, old)
     lines = open(trace, encoding="ascii").read().splitlines()
     with Executive.of_file(table, library) as executive:
         told = [f"0 start{spans_text(executive)}"]

@@ -1,6 +1,6 @@
-/* Tries the calls over a table with a sporadic task: each status, tables that end too early or too
- * late, each allocation of ss_open refused, and 100,000 slots with arrivals of every kind, in which
- * nothing is allocated.
+/* Tries the calls over a table with a sporadic task: the version, each status, tables that end too
+ * early or too late, each allocation of ss_open refused, and 100,000 slots with arrivals of every
+ * kind, in which nothing is allocated.
  * usage: trial TABLE */
 #include "common.h"
 #include "counting.h"
@@ -14,6 +14,22 @@ static uint8_t table[4194304];
 static size_t bytes;
 static ss_told told;
 static ss_key key;
+
+/* The library is of the version of the header, and writes its text alone. */
+static void version(void)
+{
+    enum { LONG = sizeof SS_VERSION - 1 };
+    uint8_t text[LONG + 1], nine[LONG + 1];
+    size_t length = 77;
+    memset(text, 9, sizeof text);
+    memset(nine, 9, sizeof nine);
+    HOLDS(ss_version(text, LONG - 1, &length) == SS_BAD_NUMBER);
+    HOLDS(length == 77 && memcmp(text, nine, sizeof text) == 0);
+    HOLDS(ss_version(text, LONG, &length) == SS_OK && length == LONG);
+    HOLDS(memcmp(text, SS_VERSION, LONG) == 0 && text[LONG] == 9);
+    length = 0;
+    HOLDS(ss_version(text, sizeof text, &length) == SS_OK && length == LONG && text[LONG] == 9);
+}
 
 static void closed_handle(void)
 {
@@ -158,6 +174,7 @@ int main(int count, char **words)
     unsigned long allocations, blocks;
     if (count != 2) return 2;
     bytes = read_table(words[1], table, sizeof table - 1);
+    version();
     closed_handle();
     wrong_tables();
     allocations = refused_allocations();

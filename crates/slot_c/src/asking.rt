@@ -1,6 +1,6 @@
 //! What is asked of an executive, which stays as it is.
 
-ghost use Rattle.std.specs.Prelude.{◌≡◌, ◌≢◌, ◌≤◌, ◌++◌, true, false, drop as beyond, length as count_of, slice_get, Some};
+ghost use Rattle.std.specs.Prelude.{◌≡◌, ◌≢◌, ◌≤◌, ◌*◌, ◌^◌, ◌++◌, true, false, drop as beyond, length as count_of, slice_get, Some};
 ghost use Rattle.slot_core.specs.declared.jobs.Key.{Key};
 ghost use Rattle.slot_core.specs.Output.Texts.{key_text};
 ghost use Rattle.key_texts.specs.KeyTexts.{sporadic_named};
@@ -25,6 +25,7 @@ pub extern "C" fn ss_now(slots: &mut Slots, alloc: Global, now: &mut u64) -> u32
     ensures silent { result ≢ OK → now.new ≡ now.old }
     ensures done { slots.old.open ≡ true → result ≡ OK }
     ensures tells { result ≡ OK → now.new ≡ slots.old.handle.value.scene.time }
+    ensures early { result ≡ OK → now.new ≤ 2 ^ 32 }
 {
     if !slots.open {
         return CLOSED;
@@ -67,6 +68,8 @@ pub extern "C" fn ss_span_count(slots: &mut Slots, alloc: Global, count: &mut u3
     ensures silent { result ≢ OK → count.new ≡ count.old }
     ensures done { slots.old.open ≡ true → result ≡ OK }
     ensures tells { result ≡ OK → count.new ≡ count_of slots.old.handle.value.scene.points }
+    ensures some { result ≡ OK → 1 ≤ count.new }
+    ensures few { result ≡ OK → count.new ≤ 3 * slots.old.handle.value.plan.cycle }
 {
     if !slots.open {
         return CLOSED;

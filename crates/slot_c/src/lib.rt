@@ -11,3 +11,4 @@ mod box_parts;
 pub mod handle;
 mod opening;
 mod passing;
+mod versions;

@@ -36,6 +36,10 @@ slot_status exec = if nat_lt exec.scene.time TIME_LIMIT then OK else AT_END
 abbrev pub span_status : Executive → ℕ → ℕ
 span_status exec place = range_status (nat_lt place (length exec.scene.points))
 
+-- of a text: so many bytes hold it
+abbrev pub room_status : List ℕ → ℕ → ℕ
+room_status text room = range_status (nat_le (length text) room)
+
 -- the set has this key, and so many bytes hold its text
 abbrev pub key_fits : Executive → ℕ → Key → Bool
 key_fits exec room key =

@@ -9,7 +9,7 @@ ghost use Rattle.key_texts.specs.KeyTexts.{sporadic_named};
 ghost use Rattle.slot_port.specs.declared.TheConstants.{KEY_TEXT_LIMIT};
 ghost use Rattle.slot_port.specs.declared.status.TheConstants.{OK};
 ghost use Rattle.slot_port.specs.Keys.{key_named};
-ghost use Rattle.slot_port.specs.Statuses.{name_status, text_status};
+ghost use Rattle.slot_port.specs.Statuses.{name_status, room_status, text_status};
 
 use crate::numbers::{KeyNumbers, key_named};
 use crate::status::{BAD_NUMBER, OK, Status};
@@ -44,13 +44,7 @@ pub fn key_text<T: SpareTable>(
         return BAD_NUMBER;
     }
     let line = line_of_key(key, exec.tasks());
-    let bytes = line.bytes();
-    if bytes.len() > text.len() {
-        return BAD_NUMBER;
-    }
-    put_front(bytes, text);
-    *written = bytes.len();
-    OK
+    put_front(line.bytes(), text, written)
 }
 
 /// The index of the sporadic task of this name. `BAD_NUMBER` where none has it.
@@ -89,11 +83,20 @@ fn has_task(tasks: &TaskSet, graph: u16, task: u16) -> bool
     graph < graphs.len() && usize::from(task) < graphs[graph].tasks.len()
 }
 
-/// Writes the bytes to the front of the text.
-fn put_front(bytes: &[u8], text: &mut [u8])
-    requires { length bytes.now ≤ length text.old }
-    ensures { text.new ≡ bytes.now ++ drop (length bytes.now) text.old }
+/// Writes the bytes to the front of the text, and tells how many they are. `BAD_NUMBER` where they
+/// have no room.
+pub(crate) fn put_front(bytes: &[u8], text: &mut [u8], written: &mut usize) -> Status
+    ensures status { result ≡ room_status bytes.now (length text.old) }
+    ensures stays { result ≢ OK → text.new ≡ text.old }
+    ensures silent { result ≢ OK → written.new ≡ written.old }
+    ensures writes { result ≡ OK → text.new ≡ bytes.now ++ drop written.new text.old }
+    ensures tells { result ≡ OK → written.new ≡ length bytes.now }
 {
+    if bytes.len() > text.len() {
+        return BAD_NUMBER;
+    }
     let (front, _) = text.split_at_mut(bytes.len());
     front.copy_from_slice(bytes);
+    *written = bytes.len();
+    OK
 }

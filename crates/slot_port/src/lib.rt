@@ -10,6 +10,7 @@ pub mod numbers;
 mod opening;
 mod passing;
 pub mod status;
+mod versions;
 
 pub use arrivals::{done, firm, soft, sporadic, withdraw};
 pub use keys::{key_text, sporadic_index};
@@ -18,6 +19,7 @@ pub use opening::open;
 pub use passing::{slot, span};
 pub use status::{AT_END, BAD_NUMBER, BAD_ROW, BAD_TABLE, CLOSED, MEMORY, OK, STILL_OPEN, Status};
 use trace_text::KEY_LIMIT;
+pub use versions::version;
 
 /// The time at which no more slot passes.
 pub const TIME_LIMIT: u64 = 4_294_967_296;
