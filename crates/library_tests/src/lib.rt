@@ -39,8 +39,6 @@ mod plans;
 #[cfg(test)]
 mod queues;
 #[cfg(test)]
-mod refusals;
-#[cfg(test)]
 mod reserves;
 #[cfg(test)]
 mod span_tables;

@@ -13,6 +13,8 @@ mod live_runs;
 mod pictures;
 pub mod record;
 #[cfg(test)]
+mod refusals;
+#[cfg(test)]
 mod sample_texts;
 #[cfg(test)]
 mod trace_texts;

@@ -2,9 +2,8 @@
 
 ghost use Rattle.std.specs.Prelude.{◌≡◌, ◌∷◌, [], codes, IfOk};
 
-use arrival_csv::ArrivalFault;
 use command_line::{File, Refusal, Status, report};
-use faults::TableFault;
+use faults::{ArrivalFault, TableFault};
 use slot_core::{Field, Part, Place, TaskFault, Window, Words};
 use slot_io::MemorySink;
 use std::alloc::Global;
