@@ -1,0 +1,1 @@
+"""The parts of slotlint: what is wrong in task files, arrivals files and words, told for people."""
