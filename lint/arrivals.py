@@ -115,7 +115,7 @@ class ArrivalsFile:
         """What is wrong with a row that has no comma."""
         text = row.fields[0].text
         form = "a row is SLOT,KIND,.., as 0,soft,2"
-        if not text.strip():
+        if text and not text.strip():
             return "this line has spaces, so it is a row without fields: take them out; an empty line is none"
         if text.lstrip().startswith(("#", "//", ";", "%")):
             return "an arrivals file has no comments: take the line out"

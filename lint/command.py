@@ -106,7 +106,8 @@ class Run:
             data = self.read(name, TASK_FILE_LIMIT)
             if data is not None:
                 self.judged.append(judge_tasks(name, data))
-        tasks = self.judged[0] if self.judged else None
+        # (where the first one cannot be read, the rows are not judged beside a later one)
+        tasks = next((it for it in self.judged if [it.name] == task_files[:1]), None)
         for name in arrivals_files:
             data = self.read(name, ARRIVALS_FILE_LIMIT)
             if data is not None:

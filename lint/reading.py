@@ -49,8 +49,10 @@ def near_file(name):
     folder, base = os.path.split(name)
     try:
         found = nearest(base, os.listdir(folder or ".")) if base else None
-    except OSError:
+    except FileNotFoundError:
         return f"; there is no folder {folder} either"
+    except OSError:
+        return ""
     return f"; did you mean {os.path.join(folder, found)}?" if found and found != base else ""
 
 
@@ -59,9 +61,11 @@ def encoding_of(data):
     for mark, name in OTHER_MARKS.items():
         if data.startswith(mark):
             return name
+    # (in UTF-16 most of the zeros are every second byte)
     front = data[:200]
-    zeros = front.count(0)
-    return "UTF-16" if len(front) >= 4 and zeros * 3 >= len(front) and b"SLOT" != front[:4] else None
+    less, more = sorted((front[::2].count(0), front[1::2].count(0)))
+    is_wide = len(front) >= 4 and 3 * more >= len(front) and 4 * less <= more and front[:4] != b"SLOT"
+    return "UTF-16" if is_wide else None
 
 
 def characters_of(data):
@@ -96,12 +100,12 @@ def look_of(characters):
         return "a trace: name the task file from which it was made"
     if first.startswith("{"):
         return f"JSON: {TOML}"
-    if first.startswith("<"):
+    if re.match(r"<[A-Za-z!?]", first):
         return f"XML: {TOML}"
     # (a colon in the first line alone may be meant as the sign of a key)
     with_colon = [it for it in lines if re.match(r"\s*(?:- )?\s*[A-Za-z_]+:(?:\s|$)", it)]
     has_colons = re.match(r"[A-Za-z_]+:(?:\s|$)", first) and 2 * len(with_colon) > len(lines)
-    if first == "---" or re.match(r"- *[^\s=]", first) or has_colons:
+    if first == "---" or re.match(r"- +[^\s=.]", first) or has_colons:
         return f"YAML: {TOML}"
     return None
 

@@ -223,7 +223,7 @@ class TaskFile:
             message = f"{key} is {tables}, and {self.written(wrong)} is none"
             self.tell("wrong kind", part, wrong, message, f"wrong kind {place}")
         elif len(items) < least:
-            message = f"the list is empty, so there is {missing_key(part.kind, key, False)}"
+            message = f"the list is empty, so there is {missing_key(part.kind, key, False)}; take {key} = [] out"
             self.tell("missing", part, entry.value, message, f"missing {place}")
         elif len(items) > most:
             message = too_many(key, len(items), most)

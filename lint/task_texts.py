@@ -17,6 +17,9 @@ KEYS = {
 HEADERS = {"graph": "[[graph]]", "task": "[[graph.task]]", "sporadic task": "[[sporadic]]"}
 LISTS = {"graph": "[[graph]]", "task": "[[graph.task]]", "sporadic": "[[sporadic]]"}
 
+# The lists that stand below no other table.
+HEADER_KEYS = ["graph", "sporadic"]
+
 # What a number says.
 MEANINGS = {
     "period": "the slots from one release to the next",
@@ -40,7 +43,7 @@ OTHER_WORDS = {
         "depends": "after", "dependencies": "after", "predecessors": "after", "needs": "after",
     },
     "sporadic task": {
-        "period": "separation", "interval": "separation", "interarrival": "separation",
+        "period": "separation", "interval": "separation", "interarrival": "separation", "sep": "separation",
         "mit": "separation", "distance": "separation", "due": "deadline",
         "c": "wcet", "cost": "wcet", "time": "wcet", "slots": "wcet", "budget": "wcet",
     },
@@ -78,6 +81,8 @@ def unknown_key(part, key, line, text):
         word = OTHER_WORDS[part.kind][lower]
         meaning = f", {MEANINGS[word]}" if word in MEANINGS else ""
         return f": {kind_told(part.kind)} has {LISTS.get(word, word)} for it{meaning}"
+    if key in HEADER_KEYS and line.startswith("["):
+        return f": it belongs to no {part.kind}, so write {LISTS[key]}"
     if key in KEYS["file"]:
         return (
             ": it belongs at the top of the file, before the first [[graph]]; here it is a key of "
@@ -126,8 +131,14 @@ def wrong_kind(key, value, written, kind):
         return f"after is {written}: it is a list of names, as after = [{example}]"
     if kind == "array":
         return f"{key} is {written}: it is a list of tables, so write {LISTS[key]} for each"
+    # (what makes a table may be a header, or a key with a point)
+    if value.kind == "table":
+        example = '"read"' if kind == "string" else "10"
+        return f"{key} is a table here: write one value, as {key} = {example}"
     if kind == "string":
         return f'{key} = {written} is {KIND_WORDS[value.kind]}: write a text in quotes, as {key} = "read"'
+    if value.kind == "float" and "." not in written:
+        return f"{key} = {written} is no whole number: write its digits alone, as {key} = 10"
     return f"{key} = {written} is {KIND_WORDS[value.kind]}: {whole_number_for(value, written)}"
 
 

@@ -6,7 +6,7 @@ They are read as TOML 1.1 has them, with whole numbers of 64 bits, since so does
 import math
 import re
 
-from .places import bare
+from .places import bare, shown_character
 
 DIGITS = r"[0-9](?:_?[0-9])*"
 WHOLE = r"(?:0|[1-9](?:_?[0-9])*)"
@@ -82,6 +82,10 @@ def why_no_value(word):
     """What is wrong with a word that is no value, and what to write instead."""
     if whole_number(word) is not None:
         return f"{bare(word)} is too large a number: lengths here are at most 8192 slots"
+    if not word[0].isprintable():
+        return f"the character {shown_character(word[0])} stands here, which is not seen: take it out"
+    if len(word) > 1 and word.endswith(";"):
+        return f"{bare(word)} ends with a semicolon, and a line of TOML ends without one"
     if re.fullmatch(r"[+-]?0[0-9_]+", word):
         sign = word[0] if word[0] in "+-" else ""
         plain = word.lstrip("+-0_") or "0"
