@@ -1,5 +1,8 @@
+mod Earlier
+mod Frames
 mod LineCuts
 mod LineEntries
 mod LineSpans
 mod LineWords
 mod SoftWork
+mod Stacks

@@ -9,6 +9,7 @@
 pub mod bounds;
 pub mod lawful;
 pub mod lines;
+pub mod nesting;
 pub mod offers;
 pub mod patterns;
 pub mod schedules;

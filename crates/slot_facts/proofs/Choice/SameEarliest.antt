@@ -36,7 +36,7 @@ second_is_equal Less p e = cc
 second_is_equal Equal p e = e
 second_is_equal Greater p e = cc
 
-one_key : (a b : Job) → IsNotAfter a b → IsNotAfter b a → a.key ≡ b.key
+pub one_key : (a b : Job) → IsNotAfter a b → IsNotAfter b a → a.key ≡ b.key
 one_key a b after before =
     let back : is_gt (ordering_reverse (job_cmp a b)) ≡ false = sym (ap is_gt (job_cmp_total.antisymm b a)) ∙ before in
     let keys = second_is_equal (nat_cmp a.dl b.dl) (slice_cmp nat_cmp (key_order a.key) (key_order b.key)) (level (job_cmp a b) after back) in

@@ -53,7 +53,7 @@ module _ (j : SoftJob) (jobs : List SoftJob) (s other : SoftJob) (more : (o : Op
   below_two (Some b) f (inr (inl same)) = below_one b (nat_lt j.row b.row) refl f (inr same)
 
 -- the first soft job has the least row
-first_soft-below : (best : Option SoftJob) (jobs : List SoftJob) (s other : SoftJob) → fold lower_of best jobs ≡ Some s → (best ≡ Some other) ⊎ Has jobs other → s.row ≤ other.row
+pub first_soft-below : (best : Option SoftJob) (jobs : List SoftJob) (s other : SoftJob) → fold lower_of best jobs ≡ Some s → (best ≡ Some other) ⊎ Has jobs other → s.row ≤ other.row
 first_soft-below best [] s other e (inl same) =
     let one : s ≡ other = cc in
     omega (arith, ap (λ (j : SoftJob). j.row) one)
@@ -67,7 +67,7 @@ waits h soft at runs =
     Has-map (soft_with_left h) _ soft (Has-filter (λ s. not (soft_has_ended h s)) (soft_jobs h) soft at (ap not runs))
 
 -- the guaranteed job that a slot runs has no soft key
-job_runs-not_soft : (set : TaskSet) (h : History) (key : Key) → is_sound set ≡ true → LegalEntries set (cycle_of set) h → RunsJob set (cycle_of set) h key → is_soft key ≡ false
+pub job_runs-not_soft : (set : TaskSet) (h : History) (key : Key) → is_sound set ≡ true → LegalEntries set (cycle_of set) h → RunsJob set (cycle_of set) h key → is_soft key ≡ false
 job_runs-not_soft set h key sound l r =
     let cycles = time_of h / cycle_of set + 3 in
     let jobs = remaining set (cycle_of set) h in
