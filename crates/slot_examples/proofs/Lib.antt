@@ -10,6 +10,7 @@ pub mod Kept
 pub mod Lawful
 pub mod Legal
 pub mod Matching
+pub mod Nesting
 pub mod Patterns
 pub mod Plans
 pub mod Rooms
