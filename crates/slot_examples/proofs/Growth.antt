@@ -1,12 +1,11 @@
 -- Sets with a task that grows, and its margin.
-use Rattle.std.specs.Prelude.{◌≡◌, ◌≤◌, [], ◌∷◌, None, Some, refl}
+use Rattle.std.specs.Prelude.{◌≡◌, ◌≤◌, None, Some, refl}
 use Rattle.std.proofs.Common.{arith}
 use Rattle.slot_core.specs.declared.faults.Part.{Part}
 use Rattle.slot_core.specs.declared.faults.Part.TheVariants.{Task as TaskPart, Sporadic as SporadicPart}
 use Rattle.slot_core.specs.declared.jobs.Window.{Window}
 use Rattle.slot_core.specs.Claims.Growth.{IsMargin, StillFits, grown}
 use Rattle.slot_core.specs.Feasibility.Feasible.{counterexample}
-use Rattle.slot_core.specs.Sets.Cycles.{cycle_of}
 use Rattle.slot_facts.proofs.Demand.Feasible.{IsFeasible-from_none}
 use Rattle.sample_sets.specs.Sets.{half_set, late_half_set}
 use Rattle.margin_find.proofs.Growths.{IsMargin-from_search}

@@ -1,7 +1,6 @@
 -- Entries with the same line.
 use Rattle.std.specs.Prelude.{◌≡◌, ℕ, ◌*◌, ◌^◌, pos, [], ◌∷◌, refl}
 use Rattle.std.specs.Fmt.{digits}
-use Rattle.slot_core.specs.declared.jobs.Span.{Span}
 use Rattle.slot_core.specs.declared.tasks.TaskSet.{TaskSet}
 use Rattle.slot_core.specs.declared.events.Entry.{Entry}
 use Rattle.slot_core.specs.declared.events.What.TheVariants.{Idle, End}

@@ -1,5 +1,5 @@
 -- Slots that lie at or after derived starts, and one that does not.
-use Rattle.std.specs.Prelude.{◌≡◌, ℕ, ◌+◌, ◌<◌, ◌≤◌, true, List, [], ◌∷◌, slice_get, Option, Some, None, refl}
+use Rattle.std.specs.Prelude.{◌≡◌, ℕ, ◌+◌, ◌≤◌, List, [], ◌∷◌, slice_get, Option, Some, None, refl}
 use Rattle.std.proofs.Common.{arith}
 use Rattle.slot_core.specs.declared.jobs.Key.TheVariants.{Offline}
 use Rattle.slot_core.specs.declared.events.Event.TheVariants.{Done as DoneEvent}
@@ -9,7 +9,6 @@ use Rattle.slot_core.specs.Runs.Histories.{History}
 use Rattle.slot_core.specs.Runs.Scenes.{scene_of}
 use Rattle.slot_core.specs.Runs.Traces.{arrive, slot, started, IsLegal}
 use Rattle.slot_core.specs.Claims.Schedules.{IsSchedule}
-use Rattle.slot_core.specs.Keeping.Kept.{PredecessorsWait}
 use Rattle.slot_facts.specs.Schedules.{directly, NoneBeforeEndedEarly}
 use Rattle.slot_facts.proofs.Scheduling.LegalStarts.{slots_lie_after_derived_starts_at_legal_histories}
 use Rattle.sample_sets.specs.Sets.{pair_set}
