@@ -1,7 +1,7 @@
-# make            sees that the programs are at hand, and builds what is not
+# make            sees that the programs of these sources are at hand, and builds what is not
 # make test       tries the programs at hand: those that were built here, or those of dist/ (no kit is needed)
 # make prove      the gate: each proof, the wrong bodies, the tests and the programs (needs rt of the Rattle kit)
-# make install    puts programs, man pages, completions and the library for C below PREFIX
+# make install    puts programs, man pages, completions and the library for C below PREFIX, all of them or none
 # make uninstall  takes them away again
 PREFIX = /usr/local
 DESTDIR =
@@ -9,7 +9,7 @@ DESTDIR =
 .PHONY: all test prove install uninstall
 
 all:
-	@for it in slotshift slotlive slotview; do start/at-hand $$it || ./build $$it || exit; done
+	@for it in slotshift slotlive slotview; do start/at-hand --current $$it || ./build $$it || exit; done
 
 test:
 	@checks/quick
