@@ -14,7 +14,13 @@ struct unit {
 
 enum { UNITS = SLOTEXEC_ARENA / sizeof(struct unit) };
 
-static _Alignas(16) struct unit arena[UNITS];
+#if defined __STDC_VERSION__ && __STDC_VERSION__ >= 201112L
+#define AT_16 _Alignas(16)
+#else
+#define AT_16 __attribute__((aligned(16))) /* C99 has no word for it, but GCC and clang do */
+#endif
+
+static AT_16 struct unit arena[UNITS];
 static size_t end;  /* where the last block ends */
 static size_t most; /* the furthest that it ever ended */
 

@@ -57,20 +57,22 @@ static ss_key key(uint32_t kind, uint32_t group, uint32_t task, uint64_t number)
 /* The key that a text writes: of an offline job, by trying the names that the set has. */
 static ss_key key_of(const char *text)
 {
-    char *mark = strpbrk(text, "#@:"), name[SS_KEY_TEXT + 1];
+    char name[SS_KEY_TEXT + 1];
+    const char *mark = strpbrk(text, "#@:");
     uint64_t number = mark != NULL ? strtoull(mark + 1, NULL, 10) : 0;
+    size_t length = mark != NULL ? (size_t)(mark - text) : 0;
     uint32_t index, graph, task;
     if (mark == NULL) quit(text, SS_BAD_NUMBER);
     if (*mark == ':') return key(text[0] == 'f' ? SS_FIRM : SS_SOFT, 0, 0, number);
     if (*mark == '@') {
-        want(text, ss_sporadic_index(&slots, (const uint8_t *)text, mark - text, &index));
+        want(text, ss_sporadic_index(&slots, (const uint8_t *)text, length, &index));
         return key(SS_SPORADIC, index, 0, number);
     }
     for (graph = 0; graph < 32; graph++) {
         for (task = 0; task < 32; task++) {
             ss_key first = key(SS_OFFLINE, graph, task, 0);
             if (!key_text(&first, name)) break;
-            if (strncmp(name, text, mark - text + 1) == 0) {
+            if (strncmp(name, text, length + 1) == 0) {
                 return key(SS_OFFLINE, graph, task, number);
             }
         }
@@ -144,15 +146,22 @@ static void print_withdraw(uint64_t now, uint32_t row, uint32_t firm)
     else fputs(" nojob", stdout);
 }
 
+static uint32_t number_of(const char *text)
+{
+    return (uint32_t)strtoul(text, NULL, 10);
+}
+
 /* Answers the arrival of this row, whose words are its slot, its kind and what follows. */
 static void print_arrival(uint64_t now, uint32_t row, char *const words[4])
 {
-    if (strcmp(words[1], "soft") == 0) print_soft(now, row, atoi(words[2]));
-    else if (strcmp(words[1], "firm") == 0) print_firm(now, row, atoi(words[2]), atoi(words[3]));
-    else if (strcmp(words[1], "sporadic") == 0) print_sporadic(now, row, words[2]);
-    else if (strcmp(words[1], "done") == 0) print_done(now, row, words[2]);
-    else if (strcmp(words[1], "withdraw") == 0) print_withdraw(now, row, atoi(words[2]));
-    else quit(words[1], 0);
+    const char *kind = words[1];
+    if (strcmp(kind, "soft") == 0) print_soft(now, row, number_of(words[2]));
+    else if (strcmp(kind, "firm") == 0)
+        print_firm(now, row, number_of(words[2]), number_of(words[3]));
+    else if (strcmp(kind, "sporadic") == 0) print_sporadic(now, row, words[2]);
+    else if (strcmp(kind, "done") == 0) print_done(now, row, words[2]);
+    else if (strcmp(kind, "withdraw") == 0) print_withdraw(now, row, number_of(words[2]));
+    else quit(kind, 0);
     print_spans();
 }
 
