@@ -1,1 +1,2 @@
+pub mod FixedKeys
 pub mod FixedNumbers
