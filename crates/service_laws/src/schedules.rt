@@ -22,8 +22,8 @@ pub fn slots_lie_after_derived_starts()
     ensures { SlotsLieAfterDerivedStarts }
 {}
 
-/// At every legal history of a feasible set, in any slot schedule of the remaining jobs and of
-/// others beside them, a remaining job's slots lie at or after its derived start, whether its
+/// At every legal history, of a feasible set or not, in any slot schedule of the remaining jobs and
+/// of others beside them, a remaining job's slots lie at or after its derived start, whether its
 /// predecessors wait, run or have ended, where no job of a chain before it was ended early.
 pub fn slots_lie_after_derived_starts_at_legal_histories()
     ensures { SlotsLieAfterDerivedStartsAtLegalHistories }

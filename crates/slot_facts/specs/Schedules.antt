@@ -7,7 +7,6 @@ use Rattle.slot_core.specs.Offline.Keys.{is_offline}
 use Rattle.slot_core.specs.Sets.Cycles.{cycle_of}
 use Rattle.slot_core.specs.Sets.Ranges.{is_sound}
 use Rattle.slot_core.specs.Offline.Windows.{raw_deadline, precedes}
-use Rattle.slot_core.specs.Feasibility.Feasible.{IsFeasible}
 use Rattle.slot_core.specs.Runs.Demand.{work_by}
 use Rattle.slot_core.specs.Runs.Histories.{History, time_of, is_freed}
 use Rattle.slot_core.specs.Runs.Scenes.{horizon, scene_of}
@@ -68,7 +67,7 @@ abbrev pub SlotsLieAfterDerivedStartsAtLegalHistories : Type 0
 SlotsLieAfterDerivedStartsAtLegalHistories =
     (set : TaskSet) (h : History) (beside : List Job) (u n : ℕ) (slots : List (Option ℕ))
     (job : Job)
-    → is_sound set ≡ true → IsFeasible set (cycle_of set) → IsLegal set (cycle_of set) h
+    → is_sound set ≡ true → IsLegal set (cycle_of set) h
     → let jobs = (scene_of set (cycle_of set) h).jobs in
     IsSchedule set (jobs ++ beside) (time_of h) (horizon (cycle_of set) (time_of h)) slots
     → slice_get slots u ≡ Some (Some n) → slice_get jobs n ≡ Some job

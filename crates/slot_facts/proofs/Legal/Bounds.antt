@@ -62,6 +62,20 @@ fresh-remains h jobs job at some whole none kept =
 whole-job : (job : Job) → job.left ≡ job.declared → record job { left = job.declared } ≡ job
 whole-job job e = ap (λ n. record job { left = n }) (sym e)
 
+-- an offline job of a history that has not ended is one of the set
+pub unended-planned : {S : Slots} (set : TaskSet) (cycles : ℕ) (h : History) → is_sound set ≡ true → Entries S set (cycle_of set) h → ArePlanned set (cycle_of set) cycles (unended h (guaranteed_in set (cycle_of set) cycles h))
+unended-planned set cycles h sound told job at is =
+    let planned = offline_jobs set (cycle_of set) cycles in
+    let guaranteed = guaranteed_in set (cycle_of set) cycles h in
+    let own = unended_own h guaranteed job (Has-from_Contains (unended h guaranteed) job at) in
+    let same = own.1.same in
+    elim (guaranteed-cases set cycles h own.0 sound told own.1.listed) [
+      | inl p ↦
+          let whole = (IsGuaranteed-from_listed set cycles h own.0 sound told own.1.listed).whole in
+          subst (λ (j : Job). Contains planned (record j { left = j.declared })) (sym same) (subst (Contains planned) (sym (whole-job own.0 whole)) (Contains-from_Has planned own.0 p))
+      | inr come ↦ absurd (both_ways (is_offline job.key) (ap (λ (j : Job). is_offline j.key) same ∙ come.not_offline) is)
+    ]
+
 -- no key stands twice among the jobs of a history that have not ended
 pub unended-apart : {S : Slots} (set : TaskSet) (cycles : ℕ) (h : History) → is_sound set ≡ true → Entries S set (cycle_of set) h → AreApart (unended h (guaranteed_in set (cycle_of set) cycles h))
 unended-apart set cycles h sound told key =
@@ -96,17 +110,6 @@ module _ (set : TaskSet) (cycles : ℕ) (h : History) (sound : is_sound set ≡ 
       let left_is : job.left ≡ own.0.declared - executed own.0.key h = ap (λ (j : Job). j.left) own.1.same in
       let declared_is : job.declared ≡ own.0.declared = ap (λ (j : Job). j.declared) own.1.same in
       (omega arith, some, omega arith)
-
-  remaining-planned : ArePlanned set (cycle_of set) cycles jobs
-  remaining-planned job at is =
-      let own = unended_own h guaranteed job (Has-from_Contains jobs job at) in
-      let same = own.1.same in
-      elim (guaranteed-cases set cycles h own.0 sound legal own.1.listed) [
-        | inl p ↦
-            let whole = (IsGuaranteed-from_listed set cycles h own.0 sound legal own.1.listed).whole in
-            subst (λ (j : Job). Contains planned (record j { left = j.declared })) (sym same) (subst (Contains planned) (sym (whole-job own.0 whole)) (Contains-from_Has planned own.0 p))
-        | inr come ↦ absurd (both_ways (is_offline job.key) (ap (λ (j : Job). is_offline j.key) same ∙ come.not_offline) is)
-      ]
 
   remaining-come : (job : Job) → Contains jobs job → is_offline job.key ≡ false → (is_soft job.key ≡ false) × (job.est ≤ time_of h) × (job.dl ≤ time_of h + cycle_of set)
   remaining-come job at other =
@@ -149,7 +152,7 @@ module _ (set : TaskSet) (cycles : ℕ) (h : History) (sound : is_sound set ≡ 
   bounds-carried = record {
     fits = λ x low high. carried.safe.due x low high;
     left = λ job at. remaining-left job (Has-from_Contains jobs job at);
-    planned = remaining-planned;
+    planned = unended-planned set cycles h sound legal;
     come = remaining-come;
     untouched = remaining-untouched;
     waiting = remaining-waiting;
