@@ -9,6 +9,7 @@ pub mod Growth
 pub mod Kept
 pub mod Lawful
 pub mod Legal
+pub mod Limits
 pub mod Matching
 pub mod Nesting
 pub mod Patterns
