@@ -7,8 +7,10 @@
  * clock, and a slot passes exactly where `ss_slot` is called. It starts and stops no job: the
  * caller lets the job that `ss_slot` tells run until the slot ends.
  *
- * After 2^32 slots (49.7 days of slots of 1 ms) no more slot passes. Close and open before: jobs
- * that are under way, and the last arrivals of sporadic tasks, are forgotten then.
+ * After 2^44 slots (557 years of slots of 1 ms) no more slot passes. Rows may end first: there are
+ * 2^32 - 1 of them, and an arrival in each slot of 1 ms uses them up in 49.7 days. Then each
+ * arrival is SS_BAD_ROW, while slots pass and the plan goes on. Close and open before: jobs that
+ * are under way, and the last arrivals of sporadic tasks, are forgotten then.
  *
  * Every call but `ss_open` and `ss_close` takes no memory and gives none back. `ss_open` takes all
  * that the executive will ever need, by the three functions of heap.c or arena.c (arena.h tells how
@@ -57,7 +59,7 @@ enum {
     SS_BAD_TABLE = 2,  /* the bytes are no table (ss_open alone) */
     SS_BAD_ROW = 3,    /* the row of the arrival is not above the last one */
     SS_BAD_NUMBER = 4, /* a number, an index, a key or a name is none that may come, or no room */
-    SS_AT_END = 5,     /* the time is 2^32 slots: no more slot passes (ss_slot alone) */
+    SS_AT_END = 5,     /* the time is 2^44 slots: no more slot passes (ss_slot alone) */
     SS_CLOSED = 6,     /* the handle has no executive */
     SS_STILL_OPEN = 7  /* the handle has one already (ss_open alone) */
 };
@@ -133,15 +135,15 @@ uint32_t ss_open(ss_slots *slots, const uint8_t *table, size_t bytes, ss_told *f
 /* Gives all memory back. SS_CLOSED where nothing is open. */
 uint32_t ss_close(ss_slots *slots);
 
-/* How many slots have passed: 0 to 2^32. */
+/* How many slots have passed: 0 to 2^44. */
 uint32_t ss_now(ss_slots *slots, uint64_t *now);
 
 /* The row of the last arrival, 0 before the first. */
 uint32_t ss_last_row(ss_slots *slots, uint32_t *row);
 
 /* Arrivals. Each has a row, which names its job later on: 1 to 2^32 - 1, above the rows before it,
- * else SS_BAD_ROW. SS_BAD_NUMBER where another number is out of its range. The time is that of the
- * executive. */
+ * else SS_BAD_ROW: so each arrival after row 2^32 - 1 has it. SS_BAD_NUMBER where another number is
+ * out of its range. The time is that of the executive. */
 
 /* Soft work of 1 to 65,535 slots: SS_TAKEN, or SS_FULL with the limit. */
 uint32_t ss_soft(ss_slots *slots, uint32_t row, uint32_t work, ss_told *told);

@@ -2,10 +2,10 @@
 //! entry of the trace is handed to a taker.
 #![tactic(auto)]
 
-ghost use Rattle.std.specs.Prelude.{◌≡◌, ◌≢◌, ◌⊎◌, ◌≤◌, ◌<◌, ◌+◌, ◌^◌, ◌-◌, [], ◌∷◌, true, false, length, slice_get, OnErr, OnOk, IfOk, IfSome, Some};
+ghost use Rattle.std.specs.Prelude.{◌≡◌, ◌≢◌, ◌⊎◌, ◌≤◌, ◌<◌, ◌+◌, ◌-◌, [], ◌∷◌, true, false, length, slice_get, OnErr, OnOk, IfOk, IfSome, Some};
 ghost use Rattle.std.specs.Option.{option_copied};
 ghost use Rattle.std.specs.Io.KnownBytes.{Appends};
-ghost use Rattle.slot_core.specs.declared.TheConstants.{REPLAY_LIMIT};
+ghost use Rattle.slot_core.specs.declared.TheConstants.{REPLAY_LIMIT, TIME_LIMIT};
 ghost use Rattle.slot_core.specs.declared.events.Arrival.{Arrival};
 ghost use Rattle.slot_core.specs.Runs.Arrivals.{are_fitting, event_may_come, event_names_known, what_in_set};
 ghost use Rattle.slot_core.specs.Calls.Counts.{Rose};
@@ -342,7 +342,7 @@ pub fn happen<T: SpareTable, L: Ledger>(
     due: Option<Arrival>,
     steps: &mut Steps<L>,
 ) -> What
-    requires early { exec.old.scene.time < 2 ^ 32 }
+    requires early { exec.old.scene.time < TIME_LIMIT }
     requires later { IfSome due (λ a. exec.old.last_row < a.row) }
     requires may_come { IfSome due (λ a. event_may_come exec.old.plan.tasks a.event ≡ true) }
     ensures does { Does exec.old exec.new (next_occurrence due) result }
@@ -380,7 +380,7 @@ fn happen_in<T: SpareTable, L: Ledger>(
     entry: &mut Entry,
     steps: &mut Steps<L>,
 ) -> Stay
-    requires early { exec.old.scene.time < 2 ^ 32 }
+    requires early { exec.old.scene.time < TIME_LIMIT }
     requires later { IfSome (option_copied due) (λ a. exec.old.last_row < a.row) }
     requires may_come { IfSome (option_copied due)
         (λ a. event_may_come exec.old.plan.tasks a.event ≡ true) }

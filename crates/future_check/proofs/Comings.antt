@@ -1,10 +1,11 @@
 -- The densest arrivals of a sporadic task, one after the other, and those of all tasks.
-use Rattle.std.proofs.Common.{◌≡◌, ℕ, zero, suc, ◌+◌, ◌*◌, ◌/◌, ◌^◌, ◌<◌, ◌≤◌, max, true, List, [], ◌∷◌, ◌++◌, append-nil, append_assoc, drop, get_or, length, map, Some, subst, refl, sym, ap, ap₂, ◌∙◌, arith}
+use Rattle.std.proofs.Common.{◌≡◌, ℕ, zero, suc, ◌+◌, ◌*◌, ◌/◌, ◌<◌, ◌≤◌, max, true, List, [], ◌∷◌, ◌++◌, append-nil, append_assoc, drop, get_or, length, map, Some, subst, refl, sym, ap, ap₂, ◌∙◌, arith}
 use Rattle.std.specs.Prelude.{slice_get}
 use Rattle.std.specs.List.{range_with_len}
 use Rattle.std.proofs.Math.Nat.{div-mul-le_self}
 use Rattle.std.proofs.lemmas.List.Elements.{recursion_from_All}
 use Rattle.std.proofs.lemmas.Option.{slice_get_read}
+use Rattle.slot_core.specs.declared.TheConstants.{HORIZON_LIMIT, TIME_LIMIT}
 use Rattle.slot_core.specs.declared.tasks.Sporadic.{Sporadic}
 use Rattle.slot_core.specs.declared.tasks.TaskSet.{TaskSet}
 use Rattle.slot_core.specs.Keeping.Executives.{Executive, IsKept}
@@ -96,13 +97,13 @@ tasks-more k ss ns s n r x old new whole task next listed pushed =
     ∙ listed
 
 -- the next legal arrival of a task that an executive keeps is near
-pub next-near : (exec : Executive) (index next : ℕ) → IsKept exec → exec.scene.time ≤ 2 ^ 32 → slice_get exec.scene.nexts index ≡ Some next → next < 2 ^ 41
+pub next-near : (exec : Executive) (index next : ℕ) → IsKept exec → exec.scene.time ≤ TIME_LIMIT → slice_get exec.scene.nexts index ≡ Some next → next < HORIZON_LIMIT
 next-near exec index next kept early at =
     let reach = AllByRecursion-at_Has (λ next. next ≤ exec.scene.time + exec.plan.cycle) exec.scene.nexts next (recursion_from_All _ exec.scene.nexts kept.bounds.reach) (Has-from_slice_get exec.scene.nexts index next at) in
     omega (arith, reach, kept.plan.cycle, cycle-at_most exec.plan.tasks kept.plan.sound)
 
 -- the time up to which arrivals are shown is near too
-pub until-near : (exec : Executive) (until : ℕ) → IsKept exec → exec.scene.time ≤ 2 ^ 32 → until ≤ horizon exec.plan.cycle exec.scene.time → until < 2 ^ 41
+pub until-near : (exec : Executive) (until : ℕ) → IsKept exec → exec.scene.time ≤ TIME_LIMIT → until ≤ horizon exec.plan.cycle exec.scene.time → until < HORIZON_LIMIT
 until-near exec until kept early near =
     let t = exec.scene.time in
     let cycle = exec.plan.cycle in

@@ -1,8 +1,9 @@
 //! The densest sporadic arrivals that are due by a time.
 
-ghost use Rattle.std.specs.Prelude.{◌≡◌, ◌≤◌, ◌<◌, ◌+◌, ◌^◌, ◌++◌, IfOk, OnOk, true};
+ghost use Rattle.std.specs.Prelude.{◌≡◌, ◌≤◌, ◌<◌, ◌+◌, ◌++◌, IfOk, OnOk, true};
 ghost use Rattle.std.specs.Cmp.Lexicographic.{slice_cmp};
 ghost use Rattle.std.specs.Ordering.{nat_cmp};
+ghost use Rattle.slot_core.specs.declared.TheConstants.{HORIZON_LIMIT};
 ghost use Rattle.slot_core.specs.Claims.Futures.{densest_until};
 ghost use Rattle.slot_core.specs.Feasibility.Sporadics.{densest_arrivals};
 ghost use Rattle.slot_core.specs.Sets.Ranges.{sporadic_in_range};
@@ -23,7 +24,7 @@ pub(crate) fn due_arrivals<T: SpareTable>(
     exec: &Exec<T>,
     until: u64,
 ) -> Result<Vec<Coming>, Memory>
-    requires { until < 2 ^ 41 }
+    requires { until < HORIZON_LIMIT }
     ensures { IfOk result (λ arrivals.
         arrivals.items ≡ shown_arrivals exec.now.plan.tasks exec.now.scene until) }
 {
@@ -39,7 +40,7 @@ fn push_all<T: SpareTable>(
     until: u64,
     arrivals: &mut Vec<Coming>,
 ) -> Result<(), Memory>
-    requires { until < 2 ^ 41 }
+    requires { until < HORIZON_LIMIT }
     ensures { OnOk result (arrivals.new.items ≡ arrivals.old.items
         ++ densest_until exec.now.plan.tasks exec.now.scene until) }
 {
@@ -64,9 +65,9 @@ fn push_task(
     arrivals: &mut Vec<Coming>,
 ) -> Result<(), Memory>
     requires in_range { sporadic_in_range task.now ≡ true }
-    requires near { next < 2 ^ 41 }
-    requires early { now < 2 ^ 41 }
-    requires soon { until < 2 ^ 41 }
+    requires near { next < HORIZON_LIMIT }
+    requires early { now < HORIZON_LIMIT }
+    requires soon { until < HORIZON_LIMIT }
     ensures { OnOk result (arrivals.new.items ≡ arrivals.old.items
         ++ densest_arrivals index task.now next now until) }
 {

@@ -5,8 +5,8 @@
 //! sporadic tasks. They are handed no job. All times are in slots.
 #![tactic(auto)]
 
-ghost use Rattle.std.specs.Prelude.{◌≡◌, ℕ, Some, ◌+◌, ◌-◌, ◌≤◌, ◌<◌, ◌^◌, ◌↔◌, [], length, pos, ◌≤ℤ◌, IsTrue};
-ghost use Rattle.slot_core.specs.declared.TheConstants.{OFFER_LIMIT};
+ghost use Rattle.std.specs.Prelude.{◌≡◌, ℕ, Some, ◌+◌, ◌-◌, ◌≤◌, ◌<◌, ◌↔◌, [], length, pos, ◌≤ℤ◌, IsTrue};
+ghost use Rattle.slot_core.specs.declared.TheConstants.{HORIZON_LIMIT, OFFER_LIMIT};
 ghost use Rattle.spare_capacity.specs.Laws.{work_until};
 ghost use Rattle.spare_capacity.specs.Recurrence.{first_spare, last_end};
 ghost use Rattle.interval_row.specs.Changes.{ends_before};
@@ -63,7 +63,8 @@ pub fn test<T: SpareTable, L: Ledger>(
     requires first { pos 0 ≤ℤ first_spare (spans_of_pairs (T.pairs table.now)) }
     requires after { T.time table.now < dl }
     requires within { dl ≤ last_end (T.time table.now) (spans_of_pairs (T.pairs table.now)) }
-    requires near { last_end (T.time table.now) (spans_of_pairs (T.pairs table.now)) < 2 ^ 41 }
+    requires near { last_end (T.time table.now) (spans_of_pairs (T.pairs table.now))
+        < HORIZON_LIMIT }
     requires some { 1 ≤ c }
     requires few { c ≤ OFFER_LIMIT }
     ensures answer { result
@@ -92,7 +93,8 @@ pub fn may_run_soft<T: SpareTable, L: Ledger>(
 ) -> bool
     requires after { T.time table.now
         < last_end (T.time table.now) (spans_of_pairs (T.pairs table.now)) }
-    requires near { last_end (T.time table.now) (spans_of_pairs (T.pairs table.now)) < 2 ^ 41 }
+    requires near { last_end (T.time table.now) (spans_of_pairs (T.pairs table.now))
+        < HORIZON_LIMIT }
     ensures answer { result
         ≡ soft_fits (spans_of_pairs (T.pairs table.now)) reserve.now (T.time table.now) }
     ensures steps { steps.old ≤ steps.new }
@@ -121,7 +123,8 @@ pub fn soft_room<T: SpareTable, L: Ledger>(
 ) -> SoftRoom
     requires after { T.time table.now
         < last_end (T.time table.now) (spans_of_pairs (T.pairs table.now)) }
-    requires near { last_end (T.time table.now) (spans_of_pairs (T.pairs table.now)) < 2 ^ 41 }
+    requires near { last_end (T.time table.now) (spans_of_pairs (T.pairs table.now))
+        < HORIZON_LIMIT }
     ensures answer { lets_run result
         ≡ soft_fits (spans_of_pairs (T.pairs table.now)) reserve.now (T.time table.now) }
     ensures free { (free : ℕ) → result ≡ SoftRoom.Free free

@@ -4,7 +4,7 @@ ghost use Rattle.std.specs.Prelude.{◌≡◌, ℕ, [], None, Some, ◌+◌, ◌
 ghost use Rattle.std.specs.List.{range_with_len};
 ghost use Rattle.std.specs.Option.{option_map};
 ghost use Rattle.std.specs.Result.{result_err};
-ghost use Rattle.slot_core.specs.declared.TheConstants.{OFFER_LIMIT};
+ghost use Rattle.slot_core.specs.declared.TheConstants.{HORIZON_LIMIT, OFFER_LIMIT};
 ghost use Rattle.slot_core.specs.declared.jobs.Span.{Span};
 ghost use Rattle.spare_capacity.specs.Recurrence.{last_end};
 ghost use Rattle.interval_row.specs.declared.marks.TheConstants.{PAGE};
@@ -64,8 +64,9 @@ pub(crate) fn short_or_left<T: SpareTable, L: Ledger>(
 ) -> Result<u64, Evidence>
     requires after { T.time table.now < from }
     requires within { from ≤ last_end (T.time table.now) (spans_of_pairs (T.pairs table.now)) }
-    requires arrivals { arrivals < 2 ^ 41 }
-    requires near { last_end (T.time table.now) (spans_of_pairs (T.pairs table.now)) < 2 ^ 41 }
+    requires arrivals { arrivals < HORIZON_LIMIT }
+    requires near { last_end (T.time table.now) (spans_of_pairs (T.pairs table.now))
+        < HORIZON_LIMIT }
     requires some { 1 ≤ slots }
     requires few { slots ≤ OFFER_LIMIT }
     ensures first { let spans = spans_of_pairs (T.pairs table.now) in
@@ -78,7 +79,7 @@ pub(crate) fn short_or_left<T: SpareTable, L: Ledger>(
         let t = T.time table.now in
         IfOk result (λ left. MostFrom spans reserve.now t arrivals slots
         (min told (last_end t spans - t - slots)) left from) }
-    ensures small { IfOk result (λ left. left < 2 ^ 41) }
+    ensures small { IfOk result (λ left. left < HORIZON_LIMIT) }
     ensures told { IfOk result (λ left. left
         ≤ min told (last_end (T.time table.now) (spans_of_pairs (T.pairs table.now))
         - T.time table.now - slots)) }
@@ -120,8 +121,9 @@ fn short_or_left_on<T: SpareTable, L: Ledger>(
     requires early { place.span.start < from }
     requires reached { from ≤ place.span.end }
     requires now { ask.now ≡ T.time table.now }
-    requires arrivals { ask.arrivals < 2 ^ 41 }
-    requires near { last_end (T.time table.now) (spans_of_pairs (T.pairs table.now)) < 2 ^ 41 }
+    requires arrivals { ask.arrivals < HORIZON_LIMIT }
+    requires near { last_end (T.time table.now) (spans_of_pairs (T.pairs table.now))
+        < HORIZON_LIMIT }
     requires some { 1 ≤ ask.slots }
     requires few { ask.slots ≤ OFFER_LIMIT }
     ensures first { let spans = spans_of_pairs (T.pairs table.now) in
@@ -134,7 +136,7 @@ fn short_or_left_on<T: SpareTable, L: Ledger>(
         let t = T.time table.now in
         IfOk result (λ left. MostFrom spans reserve.now t ask.arrivals ask.slots
         (min told (last_end t spans - t - ask.slots)) left from) }
-    ensures small { IfOk result (λ left. left < 2 ^ 41) }
+    ensures small { IfOk result (λ left. left < HORIZON_LIMIT) }
     ensures told { IfOk result (λ left. left
         ≤ min told (last_end (T.time table.now) (spans_of_pairs (T.pairs table.now))
         - T.time table.now - ask.slots)) }
@@ -193,11 +195,12 @@ fn onward<T: SpareTable, L: Ledger>(
     requires table { IsTable (T.time table.now) (T.pairs table.now) (T.limit table.now) }
     requires place { IsPlace (T.pairs table.now) place }
     requires now { ask.now ≡ T.time table.now }
-    requires arrivals { ask.arrivals < 2 ^ 41 }
-    requires near { last_end (T.time table.now) (spans_of_pairs (T.pairs table.now)) < 2 ^ 41 }
+    requires arrivals { ask.arrivals < HORIZON_LIMIT }
+    requires near { last_end (T.time table.now) (spans_of_pairs (T.pairs table.now))
+        < HORIZON_LIMIT }
     requires some { 1 ≤ ask.slots }
     requires few { ask.slots ≤ OFFER_LIMIT }
-    requires small { left < 2 ^ 41 }
+    requires small { left < HORIZON_LIMIT }
     requires demand { demand ≤ demand_limit }
     ensures last { MatchOption result
         (place.index + 1 ≡ length (T.pairs table.now))
@@ -246,11 +249,12 @@ fn passed_at_once<T: SpareTable>(
     requires table { IsTable (T.time table.now) (T.pairs table.now) (T.limit table.now) }
     requires place { IsPlace (T.pairs table.now) place }
     requires now { ask.now ≡ T.time table.now }
-    requires arrivals { ask.arrivals < 2 ^ 41 }
-    requires near { last_end (T.time table.now) (spans_of_pairs (T.pairs table.now)) < 2 ^ 41 }
+    requires arrivals { ask.arrivals < HORIZON_LIMIT }
+    requires near { last_end (T.time table.now) (spans_of_pairs (T.pairs table.now))
+        < HORIZON_LIMIT }
     requires some { 1 ≤ ask.slots }
     requires few { ask.slots ≤ OFFER_LIMIT }
-    requires small { left < 2 ^ 41 }
+    requires small { left < HORIZON_LIMIT }
     requires demand { demand ≤ demand_limit }
     ensures front { IsFront (spans_of_pairs (T.pairs table.now)) result }
     ensures later { place.index ≤ result.count }
@@ -279,11 +283,11 @@ fn passed_at_once<T: SpareTable>(
 #[inline(always)]
 fn far_end(ask: Ask, place: SpanPlace, demand: u64, left: u64) -> u64
     requires after { ask.now ≤ place.span.end }
-    requires near { place.span.end < 2 ^ 41 }
+    requires near { place.span.end < HORIZON_LIMIT }
     requires few { ask.slots ≤ OFFER_LIMIT }
     requires due { place.due ≤ 2 ^ 60 }
     requires work { place.span.work ≤ 2 ^ 40 }
-    requires small { left < 2 ^ 41 }
+    requires small { left < HORIZON_LIMIT }
     requires demand { demand ≤ demand_limit }
     ensures after { place.span.end + PAGE ≤ result }
 {
@@ -307,11 +311,12 @@ fn passed_before<T: SpareTable>(
     requires table { IsTable (T.time table.now) (T.pairs table.now) (T.limit table.now) }
     requires place { IsPlace (T.pairs table.now) place }
     requires now { ask.now ≡ T.time table.now }
-    requires arrivals { ask.arrivals < 2 ^ 41 }
-    requires near { last_end (T.time table.now) (spans_of_pairs (T.pairs table.now)) < 2 ^ 41 }
+    requires arrivals { ask.arrivals < HORIZON_LIMIT }
+    requires near { last_end (T.time table.now) (spans_of_pairs (T.pairs table.now))
+        < HORIZON_LIMIT }
     requires some { 1 ≤ ask.slots }
     requires few { ask.slots ≤ OFFER_LIMIT }
-    requires small { left < 2 ^ 41 }
+    requires small { left < HORIZON_LIMIT }
     ensures front { IsFront (spans_of_pairs (T.pairs table.now)) result }
     ensures later { place.index ≤ result.count }
     ensures within { result.count < length (T.pairs table.now) }
@@ -343,7 +348,8 @@ fn first_short_start<T: SpareTable, L: Ledger>(
     requires table { IsTable (T.time table.now) (T.pairs table.now) (T.limit table.now) }
     requires place { IsPlace (T.pairs table.now) place }
     requires now { ask.now ≡ T.time table.now }
-    requires near { last_end (T.time table.now) (spans_of_pairs (T.pairs table.now)) < 2 ^ 41 }
+    requires near { last_end (T.time table.now) (spans_of_pairs (T.pairs table.now))
+        < HORIZON_LIMIT }
     requires some { 1 ≤ ask.slots }
     requires few { ask.slots ≤ OFFER_LIMIT }
     requires uncovered { (pos (place.span.start - ask.now) +ℤ place.span.spare)
@@ -392,7 +398,7 @@ fn untried(ask: Ask, last: u64, told: u64) -> Tried
 #[inline(always)]
 fn covers(span: Span, now: u64, slots: u64) -> bool
     requires after { now ≤ span.start }
-    requires near { span.start < 2 ^ 41 }
+    requires near { span.start < HORIZON_LIMIT }
     requires few { slots < 2 ^ 62 }
     requires short { span.spare ≤ℤ pos (2 ^ 40) }
     ensures { IsTrue result ↔ (pos slots ≤ℤ (pos (span.start - now) +ℤ span.spare)) }
@@ -412,8 +418,8 @@ fn left_between(
     tried: Tried,
 ) -> Result<u64, Evidence>
     requires from { ask.now ≤ from }
-    requires arrivals { ask.arrivals < 2 ^ 41 }
-    requires near { until ≤ 2 ^ 41 }
+    requires arrivals { ask.arrivals < HORIZON_LIMIT }
+    requires near { until ≤ HORIZON_LIMIT }
     requires few { ask.slots + due < 2 ^ 62 }
     requires level { IsLevelFrom reserve.now ask.arrivals from tried.level }
     ensures short { result_err result
@@ -445,8 +451,8 @@ fn short_between(
     tried: &mut Tried,
 ) -> Option<Evidence>
     requires from { ask.now ≤ from }
-    requires arrivals { ask.arrivals < 2 ^ 41 }
-    requires near { until ≤ 2 ^ 41 }
+    requires arrivals { ask.arrivals < HORIZON_LIMIT }
+    requires near { until ≤ HORIZON_LIMIT }
     requires few { ask.slots + due < 2 ^ 62 }
     requires level { IsLevelFrom reserve.now ask.arrivals from tried.old.level }
     ensures short { result
@@ -479,8 +485,8 @@ fn short_by_levels(
     tried: &mut Tried,
 ) -> Option<Evidence>
     requires from { ask.now ≤ from }
-    requires arrivals { ask.arrivals < 2 ^ 41 }
-    requires near { until ≤ 2 ^ 41 }
+    requires arrivals { ask.arrivals < HORIZON_LIMIT }
+    requires near { until ≤ HORIZON_LIMIT }
     requires few { ask.slots + due < 2 ^ 62 }
     requires level { IsLevelFrom reserve.now ask.arrivals from tried.old.level }
     ensures short { result
@@ -541,8 +547,8 @@ fn short_at(ask: Ask, due: u64, at: u64, tried: &mut Tried) -> Option<Evidence>
 
 /// The level at a time: this one up to its end, and a new one from there on.
 fn level_at(level: Level, reserve: &Reserve, arrivals: u64, at: u64) -> Level
-    requires arrivals { arrivals < 2 ^ 41 }
-    requires near { at < 2 ^ 41 }
+    requires arrivals { arrivals < HORIZON_LIMIT }
+    requires near { at < HORIZON_LIMIT }
     requires level { IsLevelFrom reserve.now arrivals at level }
     ensures level { IsLevelFrom reserve.now arrivals at result }
     ensures after { at < result.until }
@@ -557,8 +563,8 @@ fn level_at(level: Level, reserve: &Reserve, arrivals: u64, at: u64) -> Level
 /// The level that begins at a time, up to the next rise.
 #[inline(never)]
 fn risen(reserve: &Reserve, arrivals: u64, at: u64) -> Level
-    requires arrivals { arrivals < 2 ^ 41 }
-    requires near { at < 2 ^ 41 }
+    requires arrivals { arrivals < HORIZON_LIMIT }
+    requires near { at < HORIZON_LIMIT }
     ensures level { IsLevelFrom reserve.now arrivals at result }
     ensures after { at < result.until }
 {

@@ -7,8 +7,8 @@ use cycle_plan::make_plan;
 use interval_row::{ChainTable, RowTable, SpareTable};
 use sample_sets::{alarm_set, borrowing_set, pair_set};
 use slot_core::{
-    Done, Evidence, Firm, Gone, Key, Memory, OFFER_LIMIT, Ran, Soft, Span, Spo, Steps, TaskSet,
-    What,
+    Done, Evidence, Firm, Gone, Key, Memory, OFFER_LIMIT, Ran, Soft, Span, Spo, Steps, TIME_LIMIT,
+    TaskSet, What,
 };
 use slot_exec::Exec;
 use std::alloc::Global;
@@ -290,7 +290,7 @@ fn withdraw<L: Ledger, T: SpareTable>(
 
 /// What is told of a slot.
 fn slot<L: Ledger, T: SpareTable>(exec: &mut Exec<T>, steps: &mut Steps<L>) -> Option<What> {
-    if 1 << 32 <= exec.now() {
+    if TIME_LIMIT <= exec.now() {
         return None;
     }
     Some(match exec.slot(steps) {

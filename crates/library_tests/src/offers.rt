@@ -6,7 +6,7 @@ ghost use Rattle.interval_row.specs.Tables.{spans_of_pairs};
 
 use guarantee::{Answer, SoftRoom, may_run_soft, soft_room, test};
 use interval_row::{RowTable, SpareTable};
-use slot_core::{Evidence, Name, OFFER_LIMIT, Span, Sporadic, Steps};
+use slot_core::{Evidence, HORIZON_LIMIT, Name, OFFER_LIMIT, Span, Sporadic, Steps};
 use sporadic_reserve::Reserve;
 use std::alloc::Global;
 use std::marker::Brand;
@@ -149,7 +149,7 @@ fn answer_of<T: SpareTable, L: Ledger>(
     requires { pos 0 ≤ℤ first_spare (spans_of_pairs (T.pairs table.now)) }
 {
     let end = table.last_end();
-    if dl <= table.time() || end < dl || 1 << 41 <= end || c < 1 || OFFER_LIMIT < c {
+    if dl <= table.time() || end < dl || HORIZON_LIMIT <= end || c < 1 || OFFER_LIMIT < c {
         return None;
     }
     Some(test(table, reserve, dl, c, steps))
@@ -173,7 +173,7 @@ fn room_of<T: SpareTable, L: Ledger>(
     steps: &mut Steps<L>,
 ) -> Option<SoftRoom> {
     let end = table.last_end();
-    if end <= table.time() || 1 << 41 <= end {
+    if end <= table.time() || HORIZON_LIMIT <= end {
         return None;
     }
     let may_run = may_run_soft(table, reserve, steps);

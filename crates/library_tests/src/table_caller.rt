@@ -1,7 +1,8 @@
 //! How a control unit in Rattle calls the executive: it opens a table, offers work, lets slots pass
 //! and reads spans.
 
-ghost use Rattle.std.specs.Prelude.{◌≡◌, ◌+◌, ◌≤◌, ◌<◌, ◌^◌, IfOk, Some, slice_get};
+ghost use Rattle.std.specs.Prelude.{◌≡◌, ◌+◌, ◌≤◌, ◌<◌, IfOk, Some, slice_get};
+ghost use Rattle.slot_core.specs.declared.TheConstants.{TIME_LIMIT};
 ghost use Rattle.slot_core.specs.declared.events.Event.{Event};
 ghost use Rattle.slot_core.specs.declared.events.What.{What};
 ghost use Rattle.slot_core.specs.Keeping.Executives.{Does, StandsFor};
@@ -35,7 +36,7 @@ pub fn diagnose<L: Ledger>(exec: &mut Exec<ChainTable>, row: u32, steps: &mut St
 
 /// Lets so many slots pass.
 pub fn pass<L: Ledger>(exec: &mut Exec<ChainTable>, count: u32, steps: &mut Steps<L>)
-    requires { exec.old.scene.time + count ≤ 2 ^ 32 }
+    requires { exec.old.scene.time + count ≤ TIME_LIMIT }
     ensures { exec.new.scene.time ≡ exec.old.scene.time + count }
 {
     for _passed in 0..count {

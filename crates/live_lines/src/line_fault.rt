@@ -25,7 +25,7 @@ pub enum LineFault {
     TooLong,
     /// `ARRIVAL_LIMIT` arrivals were answered already.
     NoMoreRows,
-    /// The time would pass the last slot, 2^32.
+    /// The time would pass the limit of time.
     NoMoreSlots,
     /// Its bytes are no UTF-8.
     NotUtf8,

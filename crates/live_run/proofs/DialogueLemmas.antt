@@ -1,10 +1,10 @@
 -- A dialogue that goes on by one line.
-use Rattle.std.proofs.Common.{◌≡◌, ℕ, suc, ◌+◌, ◌^◌, Bool, true, false, List, [], ◌∷◌, ◌++◌, length, Ok, Err, inl, inr, refl, sym, ap, ◌∙◌, subst, append-nil, append_assoc, arith}
+use Rattle.std.proofs.Common.{◌≡◌, ℕ, suc, ◌+◌, Bool, true, false, List, [], ◌∷◌, ◌++◌, length, Ok, Err, inl, inr, refl, sym, ap, ◌∙◌, subst, append-nil, append_assoc, arith}
 use Rattle.std.specs.Prelude.{nat_le, nat_lt}
 use Rattle.std.specs.List.{list_any}
 use Rattle.std.proofs.lemmas.Bool.{cases_Bool}
 use Rattle.std.proofs.lemmas.Grind.{flat_map-append}
-use Rattle.slot_core.specs.declared.TheConstants.{ARRIVAL_LIMIT}
+use Rattle.slot_core.specs.declared.TheConstants.{ARRIVAL_LIMIT, TIME_LIMIT}
 use Rattle.slot_core.specs.declared.events.Event.{Event}
 use Rattle.slot_core.specs.declared.tasks.TaskSet.{TaskSet}
 use Rattle.slot_core.specs.Output.Texts.{trace_text}
@@ -92,7 +92,7 @@ end-asked set h heard = of_command (command_heard set heard) refl
           | inr none ↦ rw (is, none) refl
         ]
     of_command (Ok (Pass slots)) is =
-        elim (cases_Bool (nat_le (time_of h + slots) (2 ^ 32))) [
+        elim (cases_Bool (nat_le (time_of h + slots) TIME_LIMIT)) [
           | inl may ↦ rw (is, may) refl
           | inr none ↦ rw (is, none) refl
         ]

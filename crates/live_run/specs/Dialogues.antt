@@ -1,10 +1,10 @@
 -- A dialogue: lines that are heard one after the other, and what answers each at the history so
 -- far.
-use Rattle.std.specs.Prelude.{◌≡◌, ℕ, ◌+◌, ◌^◌, Bool, true, false, List, [], ◌∷◌, ◌++◌, codes, flat_map, nat_le, nat_lt, if◌then◌else◌, Ok, Err}
+use Rattle.std.specs.Prelude.{◌≡◌, ℕ, ◌+◌, Bool, true, false, List, [], ◌∷◌, ◌++◌, codes, flat_map, nat_le, nat_lt, if◌then◌else◌, Ok, Err}
 use Rattle.std.specs.List.{list_any}
 use Rattle.std.proofs.Math.ListN.{replicate}
 use Rattle.slot_core.specs.Calls.Results.{◌>>=◌}
-use Rattle.slot_core.specs.declared.TheConstants.{ARRIVAL_LIMIT}
+use Rattle.slot_core.specs.declared.TheConstants.{ARRIVAL_LIMIT, TIME_LIMIT}
 use Rattle.slot_core.specs.declared.events.Arrival.{Arrival}
 use Rattle.slot_core.specs.declared.events.What.TheVariants.{Start}
 use Rattle.slot_core.specs.declared.tasks.TaskSet.{TaskSet}
@@ -30,7 +30,7 @@ abbrev pub allowed : ℕ → ℕ → LiveCommand → Asked
 allowed row time (Arrive event) =
     if nat_lt row ARRIVAL_LIMIT then Ok (Arrive event) else Err NoMoreRows
 allowed row time (Pass slots) =
-    if nat_le (time + slots) (2 ^ 32) then Ok (Pass slots) else Err NoMoreSlots
+    if nat_le (time + slots) TIME_LIMIT then Ok (Pass slots) else Err NoMoreSlots
 allowed row time End = Ok End
 
 -- what is asked for after a history: the command, or why it is refused

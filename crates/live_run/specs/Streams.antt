@@ -3,7 +3,7 @@ use Rattle.std.specs.Prelude.{◌≡◌, ◌<◌, ◌≤◌, ◌⊎◌, ℕ, ◌
 use Rattle.std.specs.Io.KnownBytes.{Appends}
 use Rattle.slot_core.specs.Calls.Counts.{Rose}
 use Rattle.slot_core.specs.declared.tasks.TaskSet.{TaskSet}
-use Rattle.slot_core.specs.declared.TheConstants.{ARRIVAL_LIMIT}
+use Rattle.slot_core.specs.declared.TheConstants.{ARRIVAL_LIMIT, TIME_LIMIT}
 use Rattle.slot_core.specs.Keeping.Executives.{Executive}
 use Rattle.slot_core.specs.Runs.Arrivals.{event_fits}
 use Rattle.slot_core.specs.Runs.Histories.{History}
@@ -36,8 +36,8 @@ exchange_texts set cycle number h a = record {
 abbrev pub FitsNow : Executive → Asked → Type 0
 FitsNow exec (Ok (Arrive event)) =
     (event_fits exec.plan.tasks event ≡ true) × (exec.last_row < ARRIVAL_LIMIT)
-    × (exec.scene.time ≤ 2 ^ 32)
-FitsNow exec (Ok (Pass slots)) = exec.scene.time + slots ≤ 2 ^ 32
+    × (exec.scene.time ≤ TIME_LIMIT)
+FitsNow exec (Ok (Pass slots)) = exec.scene.time + slots ≤ TIME_LIMIT
 FitsNow exec (Ok End) = ⊤
 FitsNow exec (Err fault) = ⊤
 

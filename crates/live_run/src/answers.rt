@@ -3,6 +3,7 @@
 ghost use Rattle.std.specs.Prelude.{◌≡◌, ℕ, ◌<◌, ◌≤◌, ◌+◌, ◌^◌, ◌∷◌, [], true, Ok, Err, IfErr, IfOk, IfSome, OnErr, OnOk};
 ghost use Rattle.std.proofs.Math.ListN.{replicate};
 ghost use Rattle.std.specs.Io.KnownBytes.{Appends};
+ghost use Rattle.slot_core.specs.declared.TheConstants.{TIME_LIMIT};
 ghost use Rattle.slot_core.specs.Calls.Counts.{Rose};
 ghost use Rattle.slot_core.specs.Keeping.Executives.{StandsFor};
 ghost use Rattle.slot_core.specs.Output.Texts.{trace_text};
@@ -22,13 +23,13 @@ use crate::streams::{DialogueFault, Streams};
 use arrival_replay::{happen, tell_arrival};
 use interval_row::SpareTable;
 use live_lines::{Given, LineFault, LineSource, LiveCommand, live_command_of};
-use slot_core::{ARRIVAL_LIMIT, Arrival, Event, Failed, Steps, TaskSet};
+use slot_core::{ARRIVAL_LIMIT, Arrival, Event, Failed, Steps, TIME_LIMIT, TaskSet};
 use slot_exec::Exec;
 use slot_io::Sink;
 use std::sync::ledger::Ledger;
 
 /// The last time to which slots may pass.
-const LAST_TIME: u64 = 4_294_967_296;
+const LAST_TIME: u64 = TIME_LIMIT;
 
 /// What is asked for now by what the source gave: a command, or why it is refused.
 pub(crate) fn asked_now<T: SpareTable, S: LineSource>(
@@ -59,7 +60,7 @@ fn command_heard(tasks: &TaskSet, given: Given, line: &[u8]) -> Result<LiveComma
 
 /// The command, where after this last row and at this time there are rows and slots for it.
 fn allowed(row: u32, time: u64, command: LiveCommand) -> Result<LiveCommand, LineFault>
-    requires { time ≤ 2 ^ 32 }
+    requires { time ≤ TIME_LIMIT }
     ensures { result ≡ allowed row time command }
 {
     match command {
@@ -175,7 +176,7 @@ fn pass<T: SpareTable, K: Sink, L: Ledger>(
     out: &mut K,
     steps: &mut Steps<L>,
 ) -> Result<(), DialogueFault>
-    requires { exec.old.scene.time + slots ≤ 2 ^ 32 }
+    requires { exec.old.scene.time + slots ≤ TIME_LIMIT }
     ensures put { OnOk result ((h : History) → StandsFor exec.old h → Appends
         (K.written out.old)
         (K.written out.new)
@@ -206,7 +207,7 @@ fn put_slot<T: SpareTable, K: Sink, L: Ledger>(
     out: &mut K,
     steps: &mut Steps<L>,
 ) -> Result<(), DialogueFault>
-    requires { exec.old.scene.time < 2 ^ 32 }
+    requires { exec.old.scene.time < TIME_LIMIT }
     ensures put { OnOk result ((h : History) → StandsFor exec.old h → Appends
         (K.written out.old)
         (K.written out.new)

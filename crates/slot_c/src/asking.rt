@@ -1,6 +1,7 @@
 //! What is asked of an executive, which stays as it is.
 
-ghost use Rattle.std.specs.Prelude.{◌≡◌, ◌≢◌, ◌≤◌, ◌*◌, ◌^◌, ◌++◌, true, false, drop as beyond, length as count_of, slice_get, Some};
+ghost use Rattle.std.specs.Prelude.{◌≡◌, ◌≢◌, ◌≤◌, ◌*◌, ◌++◌, true, false, drop as beyond, length as count_of, slice_get, Some};
+ghost use Rattle.slot_core.specs.declared.TheConstants.{TIME_LIMIT};
 ghost use Rattle.slot_core.specs.declared.jobs.Key.{Key};
 ghost use Rattle.slot_core.specs.Output.Texts.{key_text};
 ghost use Rattle.key_texts.specs.KeyTexts.{sporadic_named};
@@ -25,7 +26,7 @@ pub extern "C" fn ss_now(slots: &mut Slots, alloc: Global, now: &mut u64) -> u32
     ensures silent { result ≢ OK → now.new ≡ now.old }
     ensures done { slots.old.open ≡ true → result ≡ OK }
     ensures tells { result ≡ OK → now.new ≡ slots.old.handle.value.scene.time }
-    ensures early { result ≡ OK → now.new ≤ 2 ^ 32 }
+    ensures early { result ≡ OK → now.new ≤ TIME_LIMIT }
 {
     if !slots.open {
         return CLOSED;

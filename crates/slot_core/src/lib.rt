@@ -67,8 +67,14 @@ pub const NUMBER_LIMIT: u32 = 4_294_967_295;
 /// Most slots of a replay.
 pub const REPLAY_LIMIT: u32 = 100_000;
 
+/// Most slots that an executive passes.
+pub const TIME_LIMIT: u64 = 17_592_186_044_416;
+
+/// An executive's horizon, the end of each span and each next arrival lie before this time.
+pub const HORIZON_LIMIT: u64 = 2 * TIME_LIMIT;
+
 /// Most cycles by which a job or a span is moved.
-pub const CYCLES_LIMIT: u64 = 8_589_934_592;
+pub const CYCLES_LIMIT: u64 = HORIZON_LIMIT;
 
 /// Most spans that an entry shows.
 pub const SHOWN_LIMIT: usize = 8;

@@ -1,5 +1,6 @@
 -- An early end, in the parts of an executive.
-use Rattle.std.proofs.Common.{◌≡◌, ℕ, ◌<◌, ◌≤◌, ◌^◌, true, false, Bool, cond, None, List, refl, sym, ap, ◌∙◌, subst}
+use Rattle.std.proofs.Common.{◌≡◌, ℕ, ◌<◌, ◌≤◌, true, false, Bool, cond, None, List, refl, sym, ap, ◌∙◌, subst}
+use Rattle.slot_core.specs.declared.TheConstants.{TIME_LIMIT}
 use Rattle.slot_core.specs.declared.events.Done.{Done as DoneAnswer}
 use Rattle.slot_core.specs.declared.events.Done.TheVariants.{Freed}
 use Rattle.slot_core.specs.declared.events.Event.TheVariants.{Done as DoneEvent}
@@ -65,7 +66,7 @@ module _ (exec now : Executive) (rows : List Span) (reserved : List Sporadic) (l
       let parts = parts-same cycle after.scene (ended key scene) spans new_time new_jobs refl new_soft refl are_spans in
       let last : exec.last_row < row = subst (λ (e : Executive). e.last_row < row) (sym same) later in
       let does = Does-done exec after row key is.plan is.stands last refl parts.0 refl in
-      let early = subst (λ n. n ≤ 2 ^ 32) (sym new_time) is.early in (
+      let early = subst (λ n. n ≤ TIME_LIMIT) (sym new_time) is.early in (
         subst
             (λ (e : Executive). Does e after (arrive row (DoneEvent key)) (Done row key result))
             same

@@ -1,6 +1,7 @@
 -- What an event that does what the model does leaves of the parts of an executive.
-use Rattle.std.proofs.Common.{◌≡◌, ℕ, ◌≤◌, ◌^◌, List, sym, ap, ◌∙◌, subst}
+use Rattle.std.proofs.Common.{◌≡◌, ℕ, ◌≤◌, List, sym, ap, ◌∙◌, subst}
 use Rattle.std.specs.Prelude.{map}
+use Rattle.slot_core.specs.declared.TheConstants.{TIME_LIMIT}
 use Rattle.slot_core.specs.declared.events.What.{What}
 use Rattle.slot_core.specs.declared.jobs.Span.{Span}
 use Rattle.slot_core.specs.declared.tasks.Sporadic.{Sporadic}
@@ -15,7 +16,7 @@ use Rattle.slot_exec.specs.Rooms.{RemembersScene}
 use Rattle.slot_exec.specs.Parts.{span_room, job_room, IsExecutive}
 
 -- where the table has the spans of the new scene, the time is within its bound, the room stays, and what is remembered is so, the parts agree again
-pub IsExecutive-after : (before after : Executive) (next : Occurrence) (what : What) (rows later : List Span) (reserved : List Sporadic) (limit capacity most places room ring : ℕ) (known kept : Remembered) → IsExecutive before rows reserved limit capacity most known → Does before after next what → after.scene.time ≤ 2 ^ 32 → later ≡ spans_of before.plan.cycle after.scene → places ≡ limit → room ≡ capacity → ring ≡ most → RemembersScene before.plan.tasks.sporadics before.plan.cycle after.scene after.scene.time kept → IsExecutive after later reserved places room ring kept
+pub IsExecutive-after : (before after : Executive) (next : Occurrence) (what : What) (rows later : List Span) (reserved : List Sporadic) (limit capacity most places room ring : ℕ) (known kept : Remembered) → IsExecutive before rows reserved limit capacity most known → Does before after next what → after.scene.time ≤ TIME_LIMIT → later ≡ spans_of before.plan.cycle after.scene → places ≡ limit → room ≡ capacity → ring ≡ most → RemembersScene before.plan.tasks.sporadics before.plan.cycle after.scene after.scene.time kept → IsExecutive after later reserved places room ring kept
 IsExecutive-after before after next what rows later reserved limit capacity most places room ring known kept is does early spans same_places same_room same_ring remembers =
     let stays : before.plan ≡ after.plan = sym does.plan in
     record {

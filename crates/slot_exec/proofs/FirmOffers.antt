@@ -1,7 +1,7 @@
 -- A firm offer, in the parts of an executive.
 use Rattle.std.proofs.Common.{◌≡◌, ◌≢◌, ℕ, ◌+◌, ◌<◌, ◌≤◌, ◌^◌, pos, ◌≤ℤ◌, cond, nat_lt, ◌==◌, List, [], ◌∷◌, ◌++◌, Option, Some, None, refl, sym, ap, ◌∙◌, subst, arith}
 use Rattle.std.specs.Option.{option_map_or}
-use Rattle.slot_core.specs.declared.TheConstants.{OFFER_LIMIT}
+use Rattle.slot_core.specs.declared.TheConstants.{HORIZON_LIMIT, OFFER_LIMIT, TIME_LIMIT}
 use Rattle.slot_core.specs.declared.events.Event.TheVariants.{Firm as FirmEvent}
 use Rattle.slot_core.specs.declared.events.Firm.{Firm as FirmAnswer}
 use Rattle.slot_core.specs.declared.events.Firm.TheVariants.{Accepted, Late, Far, NoRoom}
@@ -73,7 +73,7 @@ module _ {plan : PlanParts} {time : ℕ} {rows : List Span} {jobs : List Job} (r
       omega (arith, ahead, same, ap (last_end time) is.spans)
 
   -- and end near
-  pub offer-near : last_end time rows < 2 ^ 41
+  pub offer-near : last_end time rows < HORIZON_LIMIT
   offer-near =
       let near = last_end-early exec jobs (horizon plan.cycle time) is.plan is.stands is.early in
       omega (arith, near, ap (last_end time) is.spans)
@@ -186,7 +186,7 @@ module _ {plan : PlanParts} {time : ℕ} {rows : List Span} {jobs : List Job} (r
         -- and the parts agree
         pub IsExecutive-accepted_offer : IsExecutive joined new_rows reserve.sporadics places room most (record { free = free_beside job known.free; tight = known.tight; due = due_with job known.tight known.due })
         IsExecutive-accepted_offer =
-            let early = subst (λ t. t ≤ 2 ^ 32) (sym time_is) is.early in
+            let early = subst (λ t. t ≤ TIME_LIMIT) (sym time_is) is.early in
             let bounds = (every_executive_is_kept joined is.plan (StandsForSome-from_does exec joined _ _ Does-joined)).bounds in
             let arrives : job.est ≡ time = ap (λ (j : Job). j.est) job_is in
             let remembered = RemembersScene-offered exec is.plan is.stands known is.remembers joined.scene time_is job jobs_are refl bounds arrives in

@@ -1,8 +1,9 @@
 -- A withdrawal, in the parts of an executive.
-use Rattle.std.proofs.Common.{◌≡◌, ℕ, ◌<◌, ◌≤◌, ◌^◌, not, Option, Some, None, List, [], ◌∷◌, refl, sym, ap, ◌∙◌, subst, inl, inr}
+use Rattle.std.proofs.Common.{◌≡◌, ℕ, ◌<◌, ◌≤◌, not, Option, Some, None, List, [], ◌∷◌, refl, sym, ap, ◌∙◌, subst, inl, inr}
 use Rattle.std.specs.Prelude.{count_by, find, nat_le, sum_by, ◌↔◌}
 use Rattle.std.specs.Option.{option_map_or}
 use Rattle.std.proofs.lemmas.Bool.{cases_Bool, cond-true, cond-false, le-leb, not_from_false}
+use Rattle.slot_core.specs.declared.TheConstants.{TIME_LIMIT}
 use Rattle.slot_facts.proofs.Legal.Executives.{every_executive_is_kept}
 use Rattle.slot_facts.proofs.Lists.Members.{Contains-from_Has}
 use Rattle.slot_facts.proofs.Sets.Faults.{find-None}
@@ -100,7 +101,7 @@ module _ (exec now : Executive) (rows : List Span) (reserved : List Sporadic) (l
       let parts = parts-same cycle after.scene (left_by firm scene) spans new_time new_jobs refl refl refl are_spans in
       let last : exec.last_row < row = subst (λ (e : Executive). e.last_row < row) (sym same) later in
       let does = Does-withdraw exec after row firm is.plan is.stands last refl parts.0 refl in
-      let early = subst (λ n. n ≤ 2 ^ 32) (sym new_time) is.early in (
+      let early = subst (λ n. n ≤ TIME_LIMIT) (sym new_time) is.early in (
         subst
             (λ (e : Executive). Does e after (arrive row (WithdrawEvent firm)) (Withdraw row firm result))
             same

@@ -1,6 +1,6 @@
 -- The parts of an executive before a slot and after it.
-use Rattle.std.proofs.Common.{◌≡◌, ℕ, ◌+◌, ◌/◌, ◌%◌, ◌^◌, ◌<◌, ◌==◌, Bool, false, List, length, take, drop, refl, ap, sym, ◌∙◌, subst, arith}
-use Rattle.slot_core.specs.declared.TheConstants.{SHOWN_LIMIT}
+use Rattle.std.proofs.Common.{◌≡◌, ℕ, ◌+◌, ◌/◌, ◌%◌, ◌<◌, ◌==◌, Bool, false, List, length, take, drop, refl, ap, sym, ◌∙◌, subst, arith}
+use Rattle.slot_core.specs.declared.TheConstants.{HORIZON_LIMIT, SHOWN_LIMIT, TIME_LIMIT}
 use Rattle.slot_core.specs.declared.jobs.Job.{Job}
 use Rattle.slot_core.specs.declared.jobs.SoftJob.{SoftJob}
 use Rattle.slot_core.specs.declared.jobs.Span.{Span}
@@ -47,7 +47,7 @@ module _ {plan : PlanParts} {time : ℕ} {rows : List Span} {jobs : List Job} (r
       omega (arith, before, ap (last_end time) is.spans)
 
   -- which is near
-  pub end-near : last_end time rows < 2 ^ 41
+  pub end-near : last_end time rows < HORIZON_LIMIT
   end-near =
       let near = last_end-early exec jobs (horizon plan.cycle time) is.plan is.stands is.early in
       omega (arith, near, ap (last_end time) is.spans)
@@ -166,7 +166,7 @@ module _ {plan : PlanParts} {time : ℕ} {rows : List Span} {jobs : List Job} (r
             (subst (λ r. Does exec next slot (told_of_slot r)) (sym ran_of-parts) Does-parts)
 
         -- and the parts agree after it
-        pub IsExecutive-parts : (room : Remembered) (turned : Bool) → RemembersSpans rows reserve time room → turned ≡ ((run_time + 1) % plan.cycle == 0) → time < 2 ^ 32 → IsExecutive next next_rows reserve.sporadics limit capacity most (room_after chosen turned room)
+        pub IsExecutive-parts : (room : Remembered) (turned : Bool) → RemembersSpans rows reserve time room → turned ≡ ((run_time + 1) % plan.cycle == 0) → time < TIME_LIMIT → IsExecutive next next_rows reserve.sporadics limit capacity most (room_after chosen turned room)
         IsExecutive-parts room turned remembered turns early =
             let stands = StandsForSome-from_does exec next slot (told_of_slot (choice_of exec)) Does-parts in
             let of_scene = RemembersScene-from_spans exec reserve room is.plan is.stands is.sporadics refl (subst (λ xs. RemembersSpans xs reserve time room) is.spans remembered) in

@@ -3,6 +3,7 @@ use Rattle.std.proofs.Common.{◌≡◌, ℕ, ◌+◌, ◌<◌, ◌≤◌, ◌^�
 use Rattle.std.specs.Prelude.{option_map, slice_get, slice_index, slice_set}
 use Rattle.std.specs.Option.{option_map_or}
 use Rattle.std.proofs.lemmas.Option.{slice_get-map}
+use Rattle.slot_core.specs.declared.TheConstants.{TIME_LIMIT}
 use Rattle.slot_core.specs.declared.events.Event.TheVariants.{Sporadic as SporadicEvent}
 use Rattle.slot_core.specs.declared.events.Spo.{Spo}
 use Rattle.slot_core.specs.declared.events.Spo.TheVariants.{Soon, Taken}
@@ -121,7 +122,7 @@ module _ (exec now : Executive) (rows : List Span) (reserved : List Sporadic) (l
       let are_nexts = new_nexts ∙ nexts-reserved reserved sporadics scene.nexts scene.time index is.sporadics in
       let parts = parts-same cycle after.scene (arrived sporadics row index scene) spans new_time jobs are_nexts refl refl are_spans in
       let does = Does-sporadic exec after row index is.plan is.stands later-own known-own refl parts.0 refl in
-      let early = subst (λ n. n ≤ 2 ^ 32) (sym new_time) is.early in
+      let early = subst (λ n. n ≤ TIME_LIMIT) (sym new_time) is.early in
       let told_by = told ∙ answer-reserved reserved sporadics scene.nexts scene.time index is.sporadics in
       let remembered = RemembersScene-arrived exec is.plan is.stands kept is.remembers after.scene new_time index row due result known-own jobs are_nexts told_by (new_due ∙ ap (λ (j : Job). due_told result j kept.tight kept.due) made) in
       let agrees = IsExecutive-after exec after _ _ rows spans reserved limit capacity most places room most kept _ is does early parts.1 new_places new_room refl remembered in (

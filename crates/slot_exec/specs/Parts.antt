@@ -1,5 +1,6 @@
 -- What the parts of an executive stand for, and how they agree.
-use Rattle.std.specs.Prelude.{◌≡◌, ℕ, ◌+◌, ◌*◌, ◌≤◌, ◌^◌, List, map}
+use Rattle.std.specs.Prelude.{◌≡◌, ℕ, ◌+◌, ◌*◌, ◌≤◌, List, map}
+use Rattle.slot_core.specs.declared.TheConstants.{TIME_LIMIT}
 use Rattle.slot_core.specs.declared.jobs.Job.{Job}
 use Rattle.slot_core.specs.declared.jobs.SoftJob.{SoftJob}
 use Rattle.slot_core.specs.declared.jobs.Span.{Span}
@@ -41,7 +42,7 @@ pub record IsExecutive
     (limit capacity most : ℕ) (room : Remembered) : Type 0 where
   pub plan : IsPlan exec.plan
   pub stands : StandsForSome exec
-  pub early : exec.scene.time ≤ 2 ^ 32
+  pub early : exec.scene.time ≤ TIME_LIMIT
   pub spans : rows ≡ spans_of exec.plan.cycle exec.scene
   pub sporadics : reserved ≡ map without_name exec.plan.tasks.sporadics
   pub places : limit ≡ span_room exec.plan.cycle

@@ -1,6 +1,7 @@
 -- What an executive remembers of the room for soft work.
-use Rattle.std.specs.Prelude.{◌≡◌, ℕ, ◌+◌, ◌-◌, ◌≤◌, ◌<◌, ◌^◌, min, Bool, List, Option, nat_le, if◌then◌else◌}
+use Rattle.std.specs.Prelude.{◌≡◌, ℕ, ◌+◌, ◌-◌, ◌≤◌, ◌<◌, min, Bool, List, Option, nat_le, if◌then◌else◌}
 use Rattle.std.specs.Option.{option_map_or}
+use Rattle.slot_core.specs.declared.TheConstants.{HORIZON_LIMIT}
 use Rattle.slot_core.specs.declared.events.Spo.{Spo}
 use Rattle.slot_core.specs.declared.events.Spo.TheVariants.{Soon, Taken}
 use Rattle.slot_core.specs.declared.jobs.Job.{Job}
@@ -42,12 +43,12 @@ RemembersSpans spans reserve time room =
     (last_end time spans)
     room
 
--- the spans may be searched in this slot: the last one ends after it and before 2^41, and this is
--- remembered
+-- the spans may be searched in this slot: the last one ends after it and before the furthest
+-- horizon, and this is remembered
 pub record MaySearch
     (spans : List Span) (reserve : Reserved) (time : ℕ) (kept : Remembered) : Type 0 where
   pub after : time < last_end time spans
-  pub near : last_end time spans < 2 ^ 41
+  pub near : last_end time spans < HORIZON_LIMIT
   pub room : RemembersSpans spans reserve time kept
 
 -- the work due by `tight` after this has run a slot: one less where it is a job that is due by then

@@ -1,7 +1,7 @@
 //! The cycles of a plan: how they begin and how they go on.
 
 ghost use Rattle.std.specs.Prelude.{◌≡◌, ◌+◌, ◌-◌, ◌/◌, ◌%◌, ◌≤◌, ◌<◌, ◌^◌, ◌++◌, ◌==◌, length, IfOk};
-ghost use Rattle.slot_core.specs.declared.TheConstants.{CYCLES_LIMIT};
+ghost use Rattle.slot_core.specs.declared.TheConstants.{CYCLES_LIMIT, TIME_LIMIT};
 ghost use Rattle.slot_core.specs.Keeping.Kept.{AreApart};
 ghost use Rattle.slot_core.specs.Runs.Matches.{HaveSameItems};
 ghost use Rattle.slot_core.specs.Runs.Scenes.{horizon};
@@ -59,7 +59,7 @@ pub(crate) fn pass<T: SpareTable, L: Ledger>(
         < last_end (T.time table.old) (spans_of_pairs (T.pairs table.old)) }
     requires horizon { last_end (T.time table.old) (spans_of_pairs (T.pairs table.old))
         ≡ horizon plan.now.cycle (T.time table.old) }
-    requires early { T.time table.old < 2 ^ 32 }
+    requires early { T.time table.old < TIME_LIMIT }
     requires places { (T.time table.old + 1) % plan.now.cycle ≡ 0
         → HasPlaces
         plan.now

@@ -1,7 +1,7 @@
 //! The executive and its events.
 
-ghost use Rattle.std.specs.Prelude.{◌≡◌, ◌≢◌, ◌↔◌, ◌⊎◌, ℕ, ◌+◌, ◌*◌, ◌≤◌, ◌<◌, ◌^◌, pos, ◌≤ℤ◌, [], Some, IfOk, IsTrue, true, Contains, count_by, length, map, slice_get, slice_index, slice_set};
-ghost use Rattle.slot_core.specs.declared.TheConstants.{OFFER_LIMIT};
+ghost use Rattle.std.specs.Prelude.{◌≡◌, ◌≢◌, ◌↔◌, ◌⊎◌, ℕ, ◌+◌, ◌*◌, ◌≤◌, ◌<◌, pos, ◌≤ℤ◌, [], Some, IfOk, IsTrue, true, Contains, count_by, length, map, slice_get, slice_index, slice_set};
+ghost use Rattle.slot_core.specs.declared.TheConstants.{OFFER_LIMIT, TIME_LIMIT};
 ghost use Rattle.slot_core.specs.declared.events.Event.{Event};
 ghost use Rattle.slot_core.specs.declared.events.What.{What};
 ghost use Rattle.slot_core.specs.declared.jobs.Job.{Job};
@@ -136,7 +136,7 @@ impl<T: SpareTable> Exec<T> {
         ensures time { result ≡ self.now.scene.time }
         ensures kept { IsKept self.now }
         ensures stands { StandsForSome self.now }
-        ensures early { result ≤ 2 ^ 32 }
+        ensures early { result ≤ TIME_LIMIT }
         ensures few_jobs { length self.now.scene.jobs ≤ 3 * self.now.plan.cycle }
         ensures spare { pos 0 ≤ℤ first_spare (spans_of self.now.plan.cycle self.now.scene) }
     {
@@ -423,7 +423,7 @@ impl<T: SpareTable> Exec<T> {
     /// One slot passes. The first soft job runs where soft work may, else the earliest guaranteed
     /// job that is ready, else none. At the end of a cycle, one more cycle of the plan comes in.
     pub fn slot<L: Ledger>(&mut self, steps: &mut Steps<L>) -> Ran
-        requires { self.old.scene.time < 2 ^ 32 }
+        requires { self.old.scene.time < TIME_LIMIT }
         ensures does { Does self.old self.new slot (told_of_slot result) }
         ensures answer { result
             ≡ choice self.old.plan.tasks.sporadics self.old.plan.cycle self.old.scene }
@@ -448,7 +448,7 @@ impl<T: SpareTable> Exec<T> {
         shown: &mut Shown,
         steps: &mut Steps<L>,
     ) -> bool
-        requires early { self.old.scene.time < 2 ^ 32 }
+        requires early { self.old.scene.time < TIME_LIMIT }
         requires shown { (h : History) × StandsFor self.old h × (shown.old
             ≡ shown_of
             self.old.plan.cycle
@@ -475,7 +475,7 @@ impl<T: SpareTable> Exec<T> {
     /// spans, as many as an entry shows, stay, but for the very first.
     #[inline(always)]
     fn pass_in<L: Ledger>(&mut self, what: &mut What, steps: &mut Steps<L>) -> bool
-        requires { self.old.scene.time < 2 ^ 32 }
+        requires { self.old.scene.time < TIME_LIMIT }
         ensures does { Does self.old self.new slot what.new }
         ensures told { what.new ≡ told_of_slot
             (choice self.old.plan.tasks.sporadics self.old.plan.cycle self.old.scene) }

@@ -1,7 +1,7 @@
 //! Offers of firm tasks, and jobs that come in at run time.
 
-ghost use Rattle.std.specs.Prelude.{◌≡◌, ◌⊎◌, ◌+◌, ◌-◌, ◌≤◌, ◌<◌, ◌^◌, [], ◌∷◌, ◌++◌, ◌*◌, pos, ◌≤ℤ◌, IsTrue};
-ghost use Rattle.slot_core.specs.declared.TheConstants.{OFFER_LIMIT};
+ghost use Rattle.std.specs.Prelude.{◌≡◌, ◌⊎◌, ◌+◌, ◌-◌, ◌≤◌, ◌<◌, [], ◌∷◌, ◌++◌, ◌*◌, pos, ◌≤ℤ◌, IsTrue};
+ghost use Rattle.slot_core.specs.declared.TheConstants.{HORIZON_LIMIT, OFFER_LIMIT};
 ghost use Rattle.slot_core.specs.Runs.Histories.{offered_job};
 ghost use Rattle.slot_core.specs.Runs.Matches.{HaveSameItems};
 ghost use Rattle.spare_capacity.specs.Recurrence.{first_spare, last_end};
@@ -29,7 +29,8 @@ pub(crate) fn answer_offer<T: SpareTable, L: Ledger>(
     requires first { pos 0 ≤ℤ first_spare (spans_of_pairs (T.pairs table.now)) }
     requires reach { T.time table.now + cycle
         ≤ last_end (T.time table.now) (spans_of_pairs (T.pairs table.now)) }
-    requires near { last_end (T.time table.now) (spans_of_pairs (T.pairs table.now)) < 2 ^ 41 }
+    requires near { last_end (T.time table.now) (spans_of_pairs (T.pairs table.now))
+        < HORIZON_LIMIT }
     requires some { 1 ≤ c }
     requires few { c ≤ OFFER_LIMIT }
     ensures answer { result
@@ -62,7 +63,7 @@ pub(crate) fn answer_offer<T: SpareTable, L: Ledger>(
 
 /// The job of an offer of `c` slots within `d` slots that was accepted at `time` in this row.
 pub(crate) fn offered(row: u32, time: u64, c: u32, d: u32) -> Job
-    requires { time < 2 ^ 41 }
+    requires { time < HORIZON_LIMIT }
     ensures { result ≡ offered_job row time c d }
 {
     Job {

@@ -1,6 +1,7 @@
 //! Sporadic arrivals.
 
-ghost use Rattle.std.specs.Prelude.{◌≡◌, ℕ, ◌≤◌, ◌<◌, ◌^◌, false, length};
+ghost use Rattle.std.specs.Prelude.{◌≡◌, ℕ, ◌≤◌, ◌<◌, false, length};
+ghost use Rattle.slot_core.specs.declared.TheConstants.{HORIZON_LIMIT, TIME_LIMIT};
 ghost use Rattle.slot_core.specs.Runs.Histories.{sporadic_job};
 ghost use Rattle.slot_core.specs.Runs.Matches.{HaveSameItems};
 ghost use Rattle.interval_row.specs.Tables.{spans_of_pairs};
@@ -17,7 +18,7 @@ use std::sync::ledger::Ledger;
 /// The job of the sporadic task of this index that arrives in this row at `time`.
 pub(crate) fn arriving_job(sporadics: &[Sporadic], index: u8, row: u32, time: u64) -> Job
     requires known { index < length sporadics.now }
-    requires near { time < 2 ^ 41 }
+    requires near { time < HORIZON_LIMIT }
     ensures { result ≡ sporadic_job sporadics.now index row time }
 {
     let task = &sporadics[index as usize];
@@ -41,7 +42,7 @@ pub(crate) fn take_arrival<T: SpareTable, L: Ledger>(
     steps: &mut Steps<L>,
 ) -> Spo
     requires known { index < length reserve.old.sporadics }
-    requires near { T.time table.old < 2 ^ 40 }
+    requires near { T.time table.old ≤ TIME_LIMIT }
     requires place { is_too_soon reserve.old.nexts (T.time table.old) index ≡ false
         → HavePlace
         job

@@ -1,6 +1,6 @@
 -- The numbers that other languages see, which stay. Each list holds by computing the definitions.
-use Rattle.std.specs.Prelude.{◌≡◌, ℕ, [], ◌∷◌, map, refl}
-use Rattle.slot_core.specs.declared.TheConstants.{OFFER_LIMIT, NUMBER_LIMIT}
+use Rattle.std.specs.Prelude.{◌≡◌, ℕ, ◌^◌, [], ◌∷◌, map, refl}
+use Rattle.slot_core.specs.declared.TheConstants.{OFFER_LIMIT, NUMBER_LIMIT, TIME_LIMIT}
 use Rattle.slot_core.specs.declared.events.Soft.{Soft}
 use Rattle.slot_core.specs.declared.events.Soft.TheVariants.{Taken as SoftTaken, Full}
 use Rattle.slot_core.specs.declared.events.Firm.{Firm}
@@ -18,7 +18,7 @@ use Rattle.slot_core.specs.declared.jobs.Span.{Span}
 use Rattle.slot_core.specs.declared.jobs.Window.{Window}
 use Rattle.faults.specs.declared.table_fault.TableFault.{TableFault}
 use Rattle.faults.specs.declared.table_fault.TableFault.TheVariants.{Memory as NoMemory, Short, BadMagic, BadVersion, BadSource, Infeasible, WrongJobCount, WrongJob, WrongSpanCount, WrongSpan, Trailing}
-use Rattle.slot_port.specs.declared.TheConstants.{TIME_LIMIT, INDEX_LIMIT, SPORADIC_INDEX_LIMIT, KEY_TEXT_LIMIT}
+use Rattle.slot_port.specs.declared.TheConstants.{INDEX_LIMIT, SPORADIC_INDEX_LIMIT, KEY_TEXT_LIMIT}
 use Rattle.slot_port.specs.declared.numbers.TheConstants.{NO_JOB, OFFLINE, SPORADIC, FIRM, SOFT}
 use Rattle.slot_port.specs.declared.status.TheConstants.{OK, MEMORY, BAD_TABLE, BAD_ROW, BAD_NUMBER, AT_END, CLOSED, STILL_OPEN}
 use Rattle.slot_port.specs.Answers.{soft_numbers, firm_numbers, sporadic_numbers, done_numbers, gone_numbers}
@@ -91,5 +91,9 @@ table_faults n source window job span = refl
 pub limits :
     OFFER_LIMIT ∷ KEY_TEXT_LIMIT ∷ INDEX_LIMIT ∷ SPORADIC_INDEX_LIMIT ∷ NUMBER_LIMIT ∷ TIME_LIMIT
     ∷ []
-    ≡ 65535 ∷ 70 ∷ 65535 ∷ 255 ∷ 4294967295 ∷ 4294967296 ∷ []
+    ≡ 65535 ∷ 70 ∷ 65535 ∷ 255 ∷ 4294967295 ∷ 17592186044416 ∷ []
 limits = refl
+
+-- the limit of time is a power of two
+pub time_limit : TIME_LIMIT ≡ 2 ^ 44
+time_limit = refl

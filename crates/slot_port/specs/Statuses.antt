@@ -1,13 +1,13 @@
 -- The statuses of the calls, by cases.
 use Rattle.std.specs.Prelude.{ℕ, Bool, false, ◌&&◌, List, length, nat_le, nat_lt, if◌then◌else◌, is_some}
 use Rattle.std.specs.Option.{option_map_or}
+use Rattle.slot_core.specs.declared.TheConstants.{TIME_LIMIT}
 use Rattle.slot_core.specs.declared.events.Event.{Event}
 use Rattle.slot_core.specs.declared.jobs.Key.{Key}
 use Rattle.slot_core.specs.Keeping.Executives.{Executive}
 use Rattle.slot_core.specs.Output.Texts.{key_text}
 use Rattle.slot_core.specs.Runs.Arrivals.{event_may_come, key_in_set}
 use Rattle.key_texts.specs.KeyTexts.{sporadic_named}
-use Rattle.slot_port.specs.declared.TheConstants.{TIME_LIMIT}
 use Rattle.slot_port.specs.declared.numbers.KeyNumbers.{KeyNumbers}
 use Rattle.slot_port.specs.declared.status.TheConstants.{OK, BAD_ROW, BAD_NUMBER, AT_END}
 use Rattle.slot_port.specs.Keys.{key_named}

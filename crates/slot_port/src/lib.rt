@@ -21,9 +21,6 @@ pub use status::{AT_END, BAD_NUMBER, BAD_ROW, BAD_TABLE, CLOSED, MEMORY, OK, STI
 use trace_text::KEY_LIMIT;
 pub use versions::version;
 
-/// The time at which no more slot passes.
-pub const TIME_LIMIT: u64 = 4_294_967_296;
-
 /// The greatest index of a graph, or of a task in one, that a key has room for.
 pub const INDEX_LIMIT: u32 = 65_535;
 

@@ -1,6 +1,7 @@
 //! Slots that pass, and the spans ahead.
 
-ghost use Rattle.std.specs.Prelude.{◌≡◌, ◌≢◌, ◌<◌, ◌^◌, length, slice_get, Some};
+ghost use Rattle.std.specs.Prelude.{◌≡◌, ◌≢◌, ◌<◌, length, slice_get, Some};
+ghost use Rattle.slot_core.specs.declared.TheConstants.{TIME_LIMIT};
 ghost use Rattle.slot_core.specs.Keeping.Executives.{Does};
 ghost use Rattle.slot_core.specs.Runs.Choice.{choice};
 ghost use Rattle.slot_core.specs.Runs.Spans.{spans_of};
@@ -11,11 +12,10 @@ ghost use Rattle.slot_port.specs.Keys.{ran_numbers};
 ghost use Rattle.slot_port.specs.Spans.{spans_in};
 ghost use Rattle.slot_port.specs.Statuses.{slot_status, span_status};
 
-use crate::TIME_LIMIT;
 use crate::numbers::{KeyNumbers, SpanNumbers, ran_numbers, span_numbers};
 use crate::status::{AT_END, BAD_NUMBER, OK, Status};
 use interval_row::SpareTable;
-use slot_core::{Ran, Span, Steps};
+use slot_core::{Ran, Span, Steps, TIME_LIMIT};
 use slot_exec::Exec;
 use std::marker::Brand;
 use std::sync::ledger::{Blank, Ledger};
@@ -53,7 +53,7 @@ fn slot_counted<T: SpareTable, L: Ledger>(exec: &mut Exec<T>, blank: Blank) -> R
     requires name { blank.name ≡ L.name }
     requires parts { blank.parts ≡ L.parts }
     requires ledger { 0 < L.parts }
-    requires early { exec.old.scene.time < 2 ^ 32 }
+    requires early { exec.old.scene.time < TIME_LIMIT }
     ensures does { Does exec.old exec.new slot_passes (told_of_slot result) }
     ensures answer { result
         ≡ choice exec.old.plan.tasks.sporadics exec.old.plan.cycle exec.old.scene }

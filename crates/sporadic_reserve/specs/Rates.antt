@@ -1,8 +1,8 @@
 -- The rates of a reserve: the numbers of a sporadic task and its next legal arrival.
-use Rattle.std.specs.Prelude.{◌≡◌, ◌≤◌, ◌^◌, List, [], map}
+use Rattle.std.specs.Prelude.{◌≡◌, ◌≤◌, List, [], map}
 use Rattle.std.specs.Int.{div_ceil}
 use Rattle.std.specs.List.{AllByRecursion}
-use Rattle.slot_core.specs.declared.TheConstants.{SLOT_LIMIT}
+use Rattle.slot_core.specs.declared.TheConstants.{HORIZON_LIMIT, SLOT_LIMIT}
 use Rattle.slot_core.specs.declared.tasks.Sporadic.{Sporadic}
 use Rattle.sporadic_reserve.specs.declared.rates.Rate.{Rate}
 use Rattle.sporadic_reserve.specs.declared.rates.TheConstants.{INVERSE_SCALE}
@@ -41,7 +41,7 @@ pub record IsRate (rate : Rate) : Type 0 where
   pub apart : 1 ≤ rate.separation
   pub near : rate.separation ≤ SLOT_LIMIT
   pub within : rate.deadline ≤ rate.separation
-  pub soon : rate.next ≤ 2 ^ 41
+  pub soon : rate.next ≤ HORIZON_LIMIT
   pub inverse : rate.inverse ≡ div_ceil INVERSE_SCALE rate.separation
 
 -- so are those of each rate

@@ -1,6 +1,6 @@
 -- What a reserve keeps of sporadic tasks, and where their demand rises.
-use Rattle.std.specs.Prelude.{◌≡◌, ℕ, ◌*◌, ◌-◌, ◌^◌, ◌≤◌, ◌<◌, List, []}
-use Rattle.slot_core.specs.declared.TheConstants.{SLOT_LIMIT, SPORADIC_LIMIT}
+use Rattle.std.specs.Prelude.{◌≡◌, ℕ, ◌*◌, ◌-◌, ◌≤◌, ◌<◌, List, []}
+use Rattle.slot_core.specs.declared.TheConstants.{HORIZON_LIMIT, SLOT_LIMIT, SPORADIC_LIMIT}
 use Rattle.slot_core.specs.declared.tasks.Sporadic.{Sporadic}
 
 -- sporadic tasks, and the next legal arrival of each
@@ -12,10 +12,10 @@ pub record Reserved : Type 0 where
 abbrev pub without_name : Sporadic → Sporadic
 without_name s = record s { name = [] }
 
--- the most that sporadic tasks within their limits may need by a time below 2 ^ 41, one arrival a
--- slot of each
+-- the most that sporadic tasks within their limits may need before the furthest horizon, one
+-- arrival a slot of each
 abbrev pub demand_limit : ℕ
-demand_limit = SPORADIC_LIMIT * (SLOT_LIMIT * 2 ^ 41)
+demand_limit = SPORADIC_LIMIT * (SLOT_LIMIT * HORIZON_LIMIT)
 
 -- y is the first time after x at which the demand rises: it is more there than a slot before, and
 -- from x up to there it stays

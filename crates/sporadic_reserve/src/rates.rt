@@ -1,8 +1,8 @@
 //! The demand of sporadic tasks, each given by its rate.
 
-ghost use Rattle.std.specs.Prelude.{◌≡◌, ℕ, ◌+◌, ◌*◌, ◌/◌, ◌≤◌, ◌<◌, ◌^◌, [], length, max, min, slice_set, MatchOption};
+ghost use Rattle.std.specs.Prelude.{◌≡◌, ℕ, ◌+◌, ◌*◌, ◌/◌, ◌≤◌, ◌<◌, [], length, max, min, slice_set, MatchOption};
 ghost use Rattle.std.specs.Int.{div_ceil};
-ghost use Rattle.slot_core.specs.declared.TheConstants.{SPORADIC_LIMIT};
+ghost use Rattle.slot_core.specs.declared.TheConstants.{HORIZON_LIMIT, SPORADIC_LIMIT};
 ghost use Rattle.slot_core.specs.Feasibility.Sporadics.{arrivals_due, sporadic_demand};
 ghost use Rattle.sporadic_reserve.specs.declared.rates.TheConstants.{INVERSE_SCALE};
 ghost use Rattle.sporadic_reserve.specs.Reserves.{demand_limit, IsNextRise};
@@ -49,9 +49,9 @@ pub(crate) fn inverse_of(separation: u32) -> u64
 /// The deadline of the first arrival from `r` on.
 fn first_due(rate: Rate, r: u64) -> u64
     requires rate { IsRate rate }
-    requires near { r < 2 ^ 41 }
+    requires near { r < HORIZON_LIMIT }
     ensures due { result ≡ max r rate.next + rate.deadline }
-    ensures near { result < 2 ^ 42 }
+    ensures near { result < 2 * HORIZON_LIMIT }
 {
     r.max(rate.next) + u64::from(rate.deadline)
 }
@@ -59,8 +59,8 @@ fn first_due(rate: Rate, r: u64) -> u64
 /// How many of the densest arrivals from `r` on are due by `x`.
 fn arrivals_due(rate: Rate, r: u64, x: u64) -> u64
     requires rate { IsRate rate }
-    requires near { r < 2 ^ 41 }
-    requires soon { x < 2 ^ 41 }
+    requires near { r < HORIZON_LIMIT }
+    requires soon { x < HORIZON_LIMIT }
     ensures due { result ≡ arrivals_due (task_of rate) rate.next r x }
     ensures few { result ≤ x + 1 }
 {
@@ -74,8 +74,8 @@ fn arrivals_due(rate: Rate, r: u64, x: u64) -> u64
 /// The deadline of the first of them that is due after `x`, where so many are due by then.
 fn due_after(rate: Rate, r: u64, x: u64, count: u64) -> u64
     requires rate { IsRate rate }
-    requires near { r < 2 ^ 41 }
-    requires soon { x < 2 ^ 41 }
+    requires near { r < HORIZON_LIMIT }
+    requires soon { x < HORIZON_LIMIT }
     requires count { count ≡ arrivals_due (task_of rate) rate.next r x }
     requires few { count ≤ x + 1 }
     ensures { IsNextRise (λ z. arrivals_due (task_of rate) rate.next r z) x result }
@@ -87,8 +87,8 @@ fn due_after(rate: Rate, r: u64, x: u64, count: u64) -> u64
 pub(crate) fn demand_of(rates: &[Rate], r: u64, x: u64) -> u64
     requires rates { AreSporadicRates rates.now }
     requires few { length rates.now ≤ SPORADIC_LIMIT }
-    requires near { r < 2 ^ 41 }
-    requires soon { x < 2 ^ 41 }
+    requires near { r < HORIZON_LIMIT }
+    requires soon { x < HORIZON_LIMIT }
     ensures demand { let reserve = reserved rates.now in
         result ≡ sporadic_demand reserve.sporadics reserve.nexts r x }
     ensures small { result ≤ demand_limit }
@@ -105,8 +105,8 @@ pub(crate) fn demand_of(rates: &[Rate], r: u64, x: u64) -> u64
 /// The first time after `x` at which that demand rises, or none where there are none.
 pub(crate) fn next_rise(rates: &[Rate], r: u64, x: u64) -> Option<u64>
     requires rates { AreSporadicRates rates.now }
-    requires near { r < 2 ^ 41 }
-    requires soon { x < 2 ^ 41 }
+    requires near { r < HORIZON_LIMIT }
+    requires soon { x < HORIZON_LIMIT }
     ensures { let reserve = reserved rates.now in
         MatchOption result
         (rates.now ≡ [])
@@ -124,8 +124,8 @@ pub(crate) fn next_rise(rates: &[Rate], r: u64, x: u64) -> Option<u64>
 pub(crate) fn demand_and_rise(rates: &[Rate], r: u64, x: u64) -> (u64, Option<u64>)
     requires rates { AreSporadicRates rates.now }
     requires few { length rates.now ≤ SPORADIC_LIMIT }
-    requires near { r < 2 ^ 41 }
-    requires soon { x < 2 ^ 41 }
+    requires near { r < HORIZON_LIMIT }
+    requires soon { x < HORIZON_LIMIT }
     ensures demand { let reserve = reserved rates.now in
         result.0 ≡ sporadic_demand reserve.sporadics reserve.nexts r x }
     ensures small { result.0 ≤ demand_limit }
@@ -155,7 +155,7 @@ fn earlier(first: Option<u64>, due: u64) -> u64
 pub(crate) fn move_next(rates: &mut [Rate], at: usize, next: u64)
     requires rates { AreSporadicRates rates.old }
     requires within { at < length rates.old }
-    requires near { next ≤ 2 ^ 41 }
+    requires near { next ≤ HORIZON_LIMIT }
     ensures rates { AreSporadicRates rates.new }
     ensures tasks { (reserved rates.new).sporadics ≡ (reserved rates.old).sporadics }
     ensures nexts { (reserved rates.new).nexts ≡ slice_set (reserved rates.old).nexts at next }

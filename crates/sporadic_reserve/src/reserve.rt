@@ -1,8 +1,8 @@
 //! What sporadic tasks may still ask for.
 
-ghost use Rattle.std.specs.Prelude.{◌≡◌, ℕ, ◌↔◌, ◌+◌, ◌≤◌, ◌<◌, ◌^◌, [], length, map, Some, IsTrue, IfErr, IfOk, IfSome, MatchOption, OnErr, OnOk, slice_get, slice_index, slice_set, true};
+ghost use Rattle.std.specs.Prelude.{◌≡◌, ℕ, ◌↔◌, ◌+◌, ◌≤◌, ◌<◌, [], length, map, Some, IsTrue, IfErr, IfOk, IfSome, MatchOption, OnErr, OnOk, slice_get, slice_index, slice_set, true};
 ghost use Rattle.std.specs.List.{list_all};
-ghost use Rattle.slot_core.specs.declared.TheConstants.{SPORADIC_LIMIT};
+ghost use Rattle.slot_core.specs.declared.TheConstants.{HORIZON_LIMIT, SPORADIC_LIMIT, TIME_LIMIT};
 ghost use Rattle.slot_core.specs.declared.tasks.Sporadic.{Sporadic};
 ghost use Rattle.slot_core.specs.Sets.Ranges.{sporadic_in_range};
 ghost use Rattle.slot_core.specs.Feasibility.Sporadics.{sporadic_demand};
@@ -63,7 +63,7 @@ impl Reserve {
     /// it.
     pub fn arrive(&mut self, index: u8, t: u64) -> Result<u64, u64>
         requires index { index < length self.old.sporadics }
-        requires near { t < 2 ^ 40 }
+        requires near { t ≤ TIME_LIMIT }
         ensures came { OnOk result (slice_index self.old.nexts index ≤ t) }
         ensures due { IfOk result (λ due.
             IfSome (slice_get self.old.sporadics index) (λ s. due ≡ t + s.deadline)) }
@@ -97,8 +97,8 @@ impl Reserve {
 
     /// The slots that the densest legal arrivals from `r` on need by `x`.
     pub fn demand(&self, r: u64, x: u64) -> u64
-        requires near { r < 2 ^ 41 }
-        requires soon { x < 2 ^ 41 }
+        requires near { r < HORIZON_LIMIT }
+        requires soon { x < HORIZON_LIMIT }
         ensures demand { result ≡ sporadic_demand self.now.sporadics self.now.nexts r x }
         ensures small { result ≤ demand_limit }
         ensures most { (z : ℕ) → z ≤ x
@@ -109,8 +109,8 @@ impl Reserve {
 
     /// The first time after `x` at which that demand rises. None exactly where there is no task.
     pub fn next_deadline(&self, r: u64, x: u64) -> Option<u64>
-        requires near { r < 2 ^ 41 }
-        requires soon { x < 2 ^ 41 }
+        requires near { r < HORIZON_LIMIT }
+        requires soon { x < HORIZON_LIMIT }
         ensures { MatchOption result
             (self.now.sporadics ≡ [])
             (λ y. IsNextRise (λ z. sporadic_demand self.now.sporadics self.now.nexts r z) x y) }
@@ -121,8 +121,8 @@ impl Reserve {
     /// That demand, and the first time after `x` at which it rises, in one pass over the tasks. No
     /// time exactly where there is no task.
     pub fn demand_and_rise(&self, r: u64, x: u64) -> (u64, Option<u64>)
-        requires near { r < 2 ^ 41 }
-        requires soon { x < 2 ^ 41 }
+        requires near { r < HORIZON_LIMIT }
+        requires soon { x < HORIZON_LIMIT }
         ensures demand { result.0 ≡ sporadic_demand self.now.sporadics self.now.nexts r x }
         ensures small { result.0 ≤ demand_limit }
         ensures rise { MatchOption result.1

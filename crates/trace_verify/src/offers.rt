@@ -9,6 +9,7 @@ ghost use Rattle.slot_core.specs.Feasibility.Sporadics.{sporadic_demand};
 ghost use Rattle.slot_core.specs.Keeping.Plans.{AreInDeadlineOrder};
 ghost use Rattle.slot_core.specs.Runs.Answers.{evidence_at, firm_answer};
 ghost use Rattle.slot_core.specs.Runs.Demand.{is_overloaded, work_by};
+ghost use Rattle.sporadic_reserve.specs.Reserves.{demand_limit};
 ghost use Rattle.trace_verify.specs.Offers.{offer_scene};
 
 use interval_build::due_after;
@@ -105,10 +106,10 @@ fn demand_from(reserve: &Reserve, now: u64, x: u64, end: u64, known: (u64, u64))
     requires later { now ≤ x }
     requires flat { (z : ℕ) → x ≤ z → z < known.1
         → sporadic_demand reserve.now.sporadics reserve.now.nexts now z ≡ known.0 }
-    requires small { known.0 ≤ 2 ^ 60 }
+    requires small { known.0 ≤ demand_limit }
     ensures demand { (z : ℕ) → x ≤ z → z < result.1
         → sporadic_demand reserve.now.sporadics reserve.now.nexts now z ≡ result.0 }
-    ensures small { result.0 ≤ 2 ^ 60 }
+    ensures small { result.0 ≤ demand_limit }
     ensures after { x < result.1 }
 {
     if x < known.1 {
@@ -124,7 +125,7 @@ fn demand_until(reserve: &Reserve, now: u64, x: u64, end: u64) -> (u64, u64)
     requires later { now ≤ x }
     ensures demand { (z : ℕ) → x ≤ z → z < result.1
         → sporadic_demand reserve.now.sporadics reserve.now.nexts now z ≡ result.0 }
-    ensures small { result.0 ≤ 2 ^ 60 }
+    ensures small { result.0 ≤ demand_limit }
     ensures after { x < result.1 }
 {
     let (demand, rise) = reserve.demand_and_rise(now, x);

@@ -1,6 +1,7 @@
 -- What is shown is that of each history for which the executive stands.
-use Rattle.std.proofs.Common.{◌≤◌, ◌^◌, ◌∙◌, subst}
+use Rattle.std.proofs.Common.{◌≤◌, ◌∙◌, subst}
 use Rattle.std.specs.Io.KnownBytes.{Appends}
+use Rattle.slot_core.specs.declared.TheConstants.{TIME_LIMIT}
 use Rattle.slot_io.specs.Sinks.{AppendsPart}
 use Rattle.future_check.proofs.Comings.{until-near}
 use Rattle.future_check.proofs.SameShown.{arrivals-named, keys-named, lines-told, none-at, sum-at}
@@ -9,7 +10,7 @@ use Rattle.slot_io.proofs.SinkParts.{OnErr-anyhow}
 
 pub due_arrivals-requires : goal.due_arrivals-requires
 due_arrivals-requires g c =
-    until-near c.args.exec.now c.args.until c.now-now.ensures.kept (subst (λ t. t ≤ 2 ^ 32) c.now-now.ensures.time c.now-now.ensures.early) c.requires.near
+    until-near c.args.exec.now c.args.until c.now-now.ensures.kept (subst (λ t. t ≤ TIME_LIMIT) c.now-now.ensures.time c.now-now.ensures.early) c.requires.near
 
 pub put_lines-requires-clause-keys : goal.put_lines-requires-clause-keys
 put_lines-requires-clause-keys g c =

@@ -2,6 +2,7 @@
 use Rattle.std.proofs.Common.{◌≡◌, ℕ, ◌+◌, ◌*◌, ◌/◌, ◌%◌, ◌^◌, ◌<◌, ◌≤◌, cond, List, ◌++◌, length, map, refl, subst, arith}
 use Rattle.std.specs.Prelude.{count_by}
 use Rattle.std.proofs.lemmas.List.{length-append, length-map}
+use Rattle.slot_core.specs.declared.TheConstants.{TIME_LIMIT}
 use Rattle.slot_core.specs.declared.jobs.Job.{Job}
 use Rattle.slot_core.specs.Runs.Choice.{choice}
 use Rattle.slot_core.specs.Keeping.Executives.{Executive, StandsForSome}
@@ -48,7 +49,7 @@ next_cycle-free exec jobs plan stands turns =
     omega (arith, length-spans jobs (horizon cycle t) t exec.scene.points, points, reach, few_plan_spans exec.plan plan)
 
 -- where it is early both end near
-pub next_cycle-near : (exec : Executive) (jobs : List Job) → IsPlan exec.plan → StandsForSome exec → exec.scene.time ≤ 2 ^ 32 → last_end 0 (spans_of exec.plan.cycle (record exec.scene { jobs = jobs })) + last_end 0 exec.plan.spans ≤ 2 ^ 60
+pub next_cycle-near : (exec : Executive) (jobs : List Job) → IsPlan exec.plan → StandsForSome exec → exec.scene.time ≤ TIME_LIMIT → last_end 0 (spans_of exec.plan.cycle (record exec.scene { jobs = jobs })) + last_end 0 exec.plan.spans ≤ 2 ^ 60
 next_cycle-near exec jobs plan stands early =
     let t = exec.scene.time in
     let bounds = plan_cycle-bounds exec.plan plan in

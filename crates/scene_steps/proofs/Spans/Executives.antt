@@ -2,7 +2,7 @@
 use Rattle.std.proofs.Common.{◌≡◌, ℕ, ◌+◌, ◌*◌, ◌%◌, ◌^◌, ◌<◌, ◌≤◌, pos, ◌≤ℤ◌, List, filter, length, Some, arith}
 use Rattle.std.specs.Prelude.{IsSomeAnd, nat_lt}
 use Rattle.std.specs.List.{AllByRecursion}
-use Rattle.slot_core.specs.declared.TheConstants.{OFFER_LIMIT}
+use Rattle.slot_core.specs.declared.TheConstants.{HORIZON_LIMIT, OFFER_LIMIT, TIME_LIMIT}
 use Rattle.slot_core.specs.declared.jobs.Job.{Job}
 use Rattle.slot_core.specs.declared.jobs.Span.{Span}
 use Rattle.slot_core.specs.Runs.Demand.{work_by}
@@ -95,7 +95,7 @@ deadline-by_last_end exec jobs end within plan stands near =
     deadline-by_end exec.plan.cycle exec.scene jobs end within (plan_cycle-bounds exec.plan plan).0 (proper_scene exec plan stands) near
 
 -- where it is early they end near
-pub last_end-early : (exec : Executive) (jobs : List Job) (end : ℕ) → IsPlan exec.plan → StandsForSome exec → exec.scene.time ≤ 2 ^ 32 → last_end exec.scene.time (spans_between jobs end exec.scene.time exec.scene.points) < 2 ^ 41
+pub last_end-early : (exec : Executive) (jobs : List Job) (end : ℕ) → IsPlan exec.plan → StandsForSome exec → exec.scene.time ≤ TIME_LIMIT → last_end exec.scene.time (spans_between jobs end exec.scene.time exec.scene.points) < HORIZON_LIMIT
 last_end-early exec jobs end plan stands early =
     last_end-near exec.plan.cycle exec.scene jobs end (plan_cycle-bounds exec.plan plan).1 (proper_scene exec plan stands) early
 
@@ -110,6 +110,6 @@ append_cycle-free exec jobs end plan stands turns =
     omega (arith, append-fits exec.plan exec.scene jobs end plan (proper_scene exec plan stands) turns)
 
 -- where it is early these end near
-pub append_cycle-near : (exec : Executive) (jobs : List Job) (end : ℕ) → IsPlan exec.plan → StandsForSome exec → exec.scene.time ≤ 2 ^ 32 → last_end (exec.scene.time + 1) (spans_between jobs end (exec.scene.time + 1) (filter (nat_lt (exec.scene.time + 1)) exec.scene.points)) + last_end 0 exec.plan.spans ≤ 2 ^ 60
+pub append_cycle-near : (exec : Executive) (jobs : List Job) (end : ℕ) → IsPlan exec.plan → StandsForSome exec → exec.scene.time ≤ TIME_LIMIT → last_end (exec.scene.time + 1) (spans_between jobs end (exec.scene.time + 1) (filter (nat_lt (exec.scene.time + 1)) exec.scene.points)) + last_end 0 exec.plan.spans ≤ 2 ^ 60
 append_cycle-near exec jobs end plan stands early =
     append-near exec.plan exec.scene jobs end plan (proper_scene exec plan stands) early

@@ -6,7 +6,7 @@ use Rattle.std.proofs.lemmas.Int.{ints}
 use Rattle.std.proofs.lemmas.List.Elements.{All-contains}
 use Rattle.std.proofs.lemmas.List.Sums.{sum_by-le-sum_by}
 use Rattle.std.proofs.lemmas.Nat.{div-add-mod', mod_below}
-use Rattle.slot_core.specs.declared.TheConstants.{OFFER_LIMIT, SLOT_LIMIT}
+use Rattle.slot_core.specs.declared.TheConstants.{HORIZON_LIMIT, OFFER_LIMIT, SLOT_LIMIT, TIME_LIMIT}
 use Rattle.slot_core.specs.declared.jobs.Job.{Job}
 use Rattle.slot_core.specs.declared.jobs.Span.{Span}
 use Rattle.slot_core.specs.declared.tasks.TaskSet.{TaskSet}
@@ -33,7 +33,7 @@ pub horizon-at_least : (cycle t : ℕ) → 1 ≤ cycle → t + 2 * cycle < horiz
 horizon-at_least cycle t some = omega (arith, div-add-mod' t cycle, mod_below t cycle some)
 
 -- where it is early it is near
-pub horizon-near : (cycle t : ℕ) → cycle ≤ SLOT_LIMIT → t ≤ 2 ^ 32 → horizon cycle t < 2 ^ 41
+pub horizon-near : (cycle t : ℕ) → cycle ≤ SLOT_LIMIT → t ≤ TIME_LIMIT → horizon cycle t < HORIZON_LIMIT
 horizon-near cycle t short early = omega (arith, horizon-at_most cycle t)
 
 -- each job of a proper scene is due at a point
@@ -86,7 +86,7 @@ deadline-by_end cycle scene jobs end within some proper near =
     omega (arith, last_end-proper cycle scene jobs end proper, horizon-at_least cycle scene.time some)
 
 -- where it is early they end near
-pub last_end-near : (cycle : ℕ) (scene : Scene) (jobs : List Job) (end : ℕ) → cycle ≤ SLOT_LIMIT → IsProperScene cycle scene → scene.time ≤ 2 ^ 32 → last_end scene.time (spans_between jobs end scene.time scene.points) < 2 ^ 41
+pub last_end-near : (cycle : ℕ) (scene : Scene) (jobs : List Job) (end : ℕ) → cycle ≤ SLOT_LIMIT → IsProperScene cycle scene → scene.time ≤ TIME_LIMIT → last_end scene.time (spans_between jobs end scene.time scene.points) < HORIZON_LIMIT
 last_end-near cycle scene jobs end short proper early =
     omega (arith, last_end-proper cycle scene jobs end proper, horizon-near cycle scene.time short early)
 

@@ -1,6 +1,7 @@
 -- Where a cycle ends, the plan's spans fit behind those that are left.
 use Rattle.std.proofs.Common.{◌≡◌, ℕ, suc, ◌+◌, ◌*◌, ◌%◌, ◌^◌, ◌<◌, ◌≤◌, List, [], ◌∷◌, filter, length, subst, ◌∙◌, arith}
 use Rattle.std.specs.Prelude.{nat_lt}
+use Rattle.slot_core.specs.declared.TheConstants.{TIME_LIMIT}
 use Rattle.slot_core.specs.declared.jobs.Job.{Job}
 use Rattle.slot_core.specs.declared.jobs.Span.{Span}
 use Rattle.slot_core.specs.Keeping.Plans.{PlanParts, IsPlan}
@@ -63,7 +64,7 @@ last_end-later cycle scene jobs end some proper =
     last_end-between jobs end (scene.time + 1) (filter (nat_lt (scene.time + 1)) scene.points) ∙ last_point-later (scene.time + 1) scene.time scene.points proper.rising (omega arith) far ∙ proper.last
 
 -- and with the plan's spans behind them they are near
-pub append-near : (plan : PlanParts) (scene : Scene) (jobs : List Job) (end : ℕ) → IsPlan plan → IsProperScene plan.cycle scene → scene.time ≤ 2 ^ 32 → last_end (scene.time + 1) (spans_between jobs end (scene.time + 1) (filter (nat_lt (scene.time + 1)) scene.points)) + last_end 0 plan.spans ≤ 2 ^ 60
+pub append-near : (plan : PlanParts) (scene : Scene) (jobs : List Job) (end : ℕ) → IsPlan plan → IsProperScene plan.cycle scene → scene.time ≤ TIME_LIMIT → last_end (scene.time + 1) (spans_between jobs end (scene.time + 1) (filter (nat_lt (scene.time + 1)) scene.points)) + last_end 0 plan.spans ≤ 2 ^ 60
 append-near plan scene jobs end is_plan proper early =
     let cycle = plan_cycle-bounds plan is_plan in
     let spans = ArePlanSpans-from_plan plan is_plan in

@@ -11,7 +11,7 @@ use cycle_plan::{Plan, make_plan};
 use guarantee::{Answer, test};
 use interval_row::{ChainTable, Front, RowTable, Short, SpareTable, Spot};
 use job_queue::JobQueue;
-use slot_core::{Firm, Key, Memory, Ran, Soft, SoftJob, Span, Steps, TaskSet};
+use slot_core::{Firm, Key, Memory, Ran, Soft, SoftJob, Span, Steps, TIME_LIMIT, TaskSet};
 use sporadic_reserve::Reserve;
 use std::alloc::Global;
 use std::cell::Cell;
@@ -201,7 +201,7 @@ fn expect_slots<R: Abort, L: Ledger, T: SpareTable>(
 
 /// A slot, where the time is in its range.
 fn slot<T: SpareTable, L: Ledger>(exec: &mut Exec<T>, steps: &mut Steps<L>) -> Option<Ran> {
-    if 1 << 32 <= exec.now() {
+    if TIME_LIMIT <= exec.now() {
         return None;
     }
     Some(exec.slot(steps))

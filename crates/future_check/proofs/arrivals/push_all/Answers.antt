@@ -1,6 +1,7 @@
 -- The arrivals of one task more are listed.
-use Rattle.std.proofs.Common.{◌≡◌, ◌≤◌, ◌^◌, ◌++◌, Some, subst}
+use Rattle.std.proofs.Common.{◌≡◌, ◌≤◌, ◌++◌, Some, subst}
 use Rattle.std.specs.Prelude.{slice_get}
+use Rattle.slot_core.specs.declared.TheConstants.{TIME_LIMIT}
 use Rattle.slot_core.specs.Claims.Futures.{densest_until}
 use Rattle.slot_core.specs.Feasibility.Sporadics.{densest_arrivals}
 use Rattle.future_check.proofs.Comings.{next-near, task-at, task-in_range, tasks-more}
@@ -16,7 +17,7 @@ pub push_task-requires-clause-near : goal.push_task-requires-clause-near
 push_task-requires-clause-near g c =
     let exec = c.args.exec.now in
     let next = subst (λ nexts. slice_get nexts c.loop-index.index ≡ Some c.next_of-next.result) c.reserve-reserve.ensures.nexts c.next_of-next.ensures in
-    next-near exec c.loop-index.index c.next_of-next.result c.now-now.ensures.kept (subst (λ t. t ≤ 2 ^ 32) c.now-now.ensures.time c.now-now.ensures.early) next
+    next-near exec c.loop-index.index c.next_of-next.result c.now-now.ensures.kept (subst (λ t. t ≤ TIME_LIMIT) c.now-now.ensures.time c.now-now.ensures.early) next
 
 pub loop-index-preserved : goal.loop-index-preserved
 loop-index-preserved g c =

@@ -1,4 +1,5 @@
-use Rattle.std.proofs.Common.{◌≡◌, ◌+◌, ◌-◌, ◌^◌, ◌<◌, ◌≤◌, [], length, max, min}
+use Rattle.std.proofs.Common.{◌≡◌, ◌+◌, ◌-◌, ◌<◌, ◌≤◌, [], length, max, min}
+use Rattle.slot_core.specs.declared.TheConstants.{HORIZON_LIMIT}
 use Rattle.spare_capacity.specs.Recurrence.{last_end}
 use Rattle.interval_row.specs.Tables.{spans_of_pairs}
 use Rattle.guarantee.specs.Offers.{first_short, need_until}
@@ -22,7 +23,7 @@ invariant-loop-evidence g l =
       level : IsLevelFrom l.reserve l.ask.arrivals (max l.from l.place.span.start) l.tried.level;
       left : Leaves (need_until spans l.reserve l.ask.arrivals) t l.ask.slots l.tried.left l.from (max l.from l.place.span.start);
       greatest : MostFrom spans l.reserve t l.ask.arrivals l.ask.slots (min l.told (last_end t spans - t - l.ask.slots)) l.tried.left l.from;
-      small : l.tried.left < 2 ^ 41;
+      small : l.tried.left < HORIZON_LIMIT;
       told : l.tried.left ≤ min l.told (last_end t spans - t - l.ask.slots);
       stays : l.told ≡ 0 → l.reserve.sporadics ≡ [] → l.place.index ≡ l.initial.place.index;
       rose : l.initial.steps ≤ l.steps;

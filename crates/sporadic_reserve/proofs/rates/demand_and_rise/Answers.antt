@@ -1,7 +1,7 @@
-use Rattle.std.proofs.Common.{◌≡◌, ◌*◌, ◌≤◌, ◌^◌, arith, get_or}
+use Rattle.std.proofs.Common.{◌≡◌, ◌*◌, ◌≤◌, arith, get_or}
 use Rattle.std.proofs.Math.Nat.{mul-le-mul}
 use Rattle.std.proofs.lemmas.List.Sums.{sum_by_more}
-use Rattle.slot_core.specs.declared.TheConstants.{SLOT_LIMIT}
+use Rattle.slot_core.specs.declared.TheConstants.{HORIZON_LIMIT, SLOT_LIMIT}
 use Rattle.sporadic_reserve.proofs.Demands.{demand-all, no_rate, IsRate-at, rate_demand, RisesAt-all, RisesAt-more}
 use Rattle.sporadic_reserve.proofs.rates.demand_and_rise.Goals as goal
 
@@ -12,7 +12,7 @@ loop-rate-preserved c =
     let rate = get_or rates i no_rate in
     let is = IsRate-at rates i c.requires.rates c.loop-rate-test.true in
     let product : c.from.result * c.arrivals_due-count.result ≡ rate_demand c.args.r c.args.x rate = cc (c.from.ensures, c.arrivals_due-count.ensures.due) in
-    let few : c.from.result * c.arrivals_due-count.result ≤ SLOT_LIMIT * 2 ^ 41 = mul-le-mul {n₂ = SLOT_LIMIT} {m₂ = 2 ^ 41} (omega (arith, is.short, c.from.ensures)) (omega (arith, c.arrivals_due-count.ensures.few)) in
+    let few : c.from.result * c.arrivals_due-count.result ≤ SLOT_LIMIT * HORIZON_LIMIT = mul-le-mul {n₂ = SLOT_LIMIT} {m₂ = HORIZON_LIMIT} (omega (arith, is.short, c.from.ensures)) (omega (arith, c.arrivals_due-count.ensures.few)) in
     record {
       sum = omega (arith, c.loop-rate.invariant.sum, product, sum_by_more (rate_demand c.args.r c.args.x) rates i no_rate c.loop-rate-test.true);
       small = omega (arith, c.loop-rate.invariant.small, few);

@@ -1,12 +1,12 @@
-use Rattle.std.proofs.Common.{◌≡◌, ◌*◌, ◌≤◌, ◌^◌, take}
+use Rattle.std.proofs.Common.{◌≡◌, ◌*◌, ◌≤◌, take}
 use Rattle.std.specs.Prelude.{sum_by, MatchOption}
-use Rattle.slot_core.specs.declared.TheConstants.{SLOT_LIMIT}
+use Rattle.slot_core.specs.declared.TheConstants.{HORIZON_LIMIT, SLOT_LIMIT}
 use Rattle.sporadic_reserve.proofs.Demands.{rate_demand, RisesAt}
 use Rattle.sporadic_reserve.proofs.rates.demand_and_rise.Given as goal
 
 abbrev pub invariant-loop-rate : goal.invariant-loop-rate
 invariant-loop-rate l = record {
   sum : l.needed ≡ sum_by (rate_demand l.r l.x) (take l.rate-index l.rates);
-  small : l.needed ≤ l.rate-index * (SLOT_LIMIT * 2 ^ 41);
+  small : l.needed ≤ l.rate-index * (SLOT_LIMIT * HORIZON_LIMIT);
   rise : MatchOption l.first (l.rate-index ≡ 0) (λ y. RisesAt l.rates l.rate-index l.r l.x y);
 }

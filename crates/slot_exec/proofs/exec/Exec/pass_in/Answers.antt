@@ -1,6 +1,7 @@
 -- A slot: what is chosen may run, the next cycle finds room, and the parts become those of the step.
-use Rattle.std.proofs.Common.{◌≡◌, ◌<◌, ◌^◌, ◌==◌, ◌&&◌, Bool, true, false, not, length, eqb-true, refl, sym, ap, ◌∙◌, arith}
+use Rattle.std.proofs.Common.{◌≡◌, ◌<◌, ◌==◌, ◌&&◌, Bool, true, false, not, length, eqb-true, refl, sym, ap, ◌∙◌, arith}
 use Rattle.std.proofs.lemmas.Bool.{and_parts}
+use Rattle.slot_core.specs.declared.TheConstants.{TIME_LIMIT}
 use Rattle.slot_core.specs.Keeping.Executives.{Executive}
 use Rattle.slot_core.specs.Runs.Traces.{told_of_slot}
 use Rattle.interval_row.specs.Tables.{spans_of_pairs}
@@ -41,7 +42,7 @@ pub invariant_of-self : goal.invariant_of-self
 invariant_of-self g c =
     let ran = c.run-stay.ensures in
     let passed = c.pass-turned.ensures in
-    let early : g.T.SpareTable.time c.self.inside.table < 2 ^ 32 = omega (arith, c.requires, ap (λ (e : Executive). e.scene.time) c.self.view_is) in
+    let early : g.T.SpareTable.time c.self.inside.table < TIME_LIMIT = omega (arith, c.requires, ap (λ (e : Executive). e.scene.time) c.self.view_is) in
     rw (passed.places, ran.places, passed.capacity, ran.capacity, ran.ring, c.after_slot-room.ensures)
     (IsExecutive-parts c.self.inside.reserve c.self.invariant c.choose-chosen.result.0 c.choose-chosen.ensures.chosen _ _ c.run-stay.new.queue.jobs ran.time ran.spans ran.jobs _ _ c.pass-turned.new.queue.jobs _ passed.time passed.spans passed.jobs ran.soft c.choose-chosen.result.1 c.pass-turned.result c.choose-chosen.ensures.room passed.turned early)
 
