@@ -1,20 +1,22 @@
 -- The order in which jobs come.
-use Rattle.std.specs.Prelude.{ℕ, ◌≤◌, List, [], ◌∷◌, IsPermutation, ⊤}
+use Rattle.std.specs.Prelude.{◌≤◌, List, [], ◌∷◌, IsPermutation, ⊤}
 use Rattle.std.specs.List.{AllByRecursion}
-use Rattle.std.specs.List.Sorted.{IsSortedByKey}
-use Rattle.std.specs.Ordering.{nat_cmp}
+use Rattle.std.specs.List.Sorted.{IsSorted}
+use Rattle.std.specs.declared.cmp.Ordering.{Ordering}
+use Rattle.std.specs.Ordering.{nat_cmp, ordering_then}
 use Rattle.std.specs.Cmp.Lexicographic.{slice_cmp}
 use Rattle.slot_core.specs.declared.jobs.Job.{Job}
 use Rattle.slot_core.specs.Offline.Keys.{deadline_order}
 use Rattle.slot_core.specs.Keeping.Plans.{PlanParts, IsPlan}
 
--- by start, then by deadline and key
-abbrev pub start_order : Job → List ℕ
-start_order job = job.est ∷ deadline_order job
+-- by start, and those of one start backwards: the last by deadline and key comes first
+abbrev pub start_cmp : Job → Job → Ordering
+start_cmp a b =
+    ordering_then (nat_cmp a.est b.est) (slice_cmp nat_cmp (deadline_order b) (deadline_order a))
 
 -- sorted so
 abbrev pub AreInStartOrder : List Job → Type 0
-AreInStartOrder jobs = IsSortedByKey start_order (slice_cmp nat_cmp) jobs
+AreInStartOrder jobs = IsSorted start_cmp jobs
 
 -- no job starts before one that stands in front of it
 abbrev pub StartsRise : List Job → Type 0

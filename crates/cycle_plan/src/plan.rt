@@ -219,7 +219,8 @@ impl Plan {
         self.jobs.as_slice()
     }
 
-    /// The same jobs in the order in which they come: by start, then by deadline and key.
+    /// The same jobs in the order in which they come: by start, and those of one start backwards
+    /// by deadline and key.
     pub fn jobs_by_start(&self) -> &[Job]
         ensures items { IsPermutation self.now.jobs result.now }
         ensures ordered { AreInStartOrder result.now }

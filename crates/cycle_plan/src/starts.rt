@@ -1,15 +1,13 @@
 //! Jobs in the order in which they come.
 
 ghost use Rattle.std.specs.Prelude.{◌≡◌, IfOk, IsPermutation};
-ghost use Rattle.std.specs.Cmp.Lexicographic.{slice_cmp};
-ghost use Rattle.std.specs.Ordering.{nat_cmp};
-ghost use Rattle.cycle_plan.specs.StartOrder.{start_order, AreInStartOrder};
+ghost use Rattle.cycle_plan.specs.StartOrder.{start_cmp, AreInStartOrder};
 
 use slot_core::{Job, Memory};
 use std::alloc::Global;
 use std::cmp::Ordering;
 
-/// The jobs by start, then by deadline and key.
+/// The jobs by start. Of those of one start the last by deadline and key comes first.
 pub(crate) fn sorted_by_start(alloc: Global, jobs: &[Job]) -> Result<Vec<Job>, Memory>
     ensures listed { IfOk result (λ sorted. IsPermutation jobs.now sorted.items) }
     ensures ordered { IfOk result (λ sorted. AreInStartOrder sorted.items) }
@@ -19,9 +17,10 @@ pub(crate) fn sorted_by_start(alloc: Global, jobs: &[Job]) -> Result<Vec<Job>, M
     Ok(sorted)
 }
 
-/// By start, then by deadline and key.
+/// By start, and those of one start backwards by deadline and key. A queue that has the earliest
+/// job last puts each behind those that came before it, and moves none of them.
 fn by_start(a: &Job, b: &Job) -> Ordering
-    ensures { result ≡ slice_cmp nat_cmp (start_order a.now) (start_order b.now) }
+    ensures { result ≡ start_cmp a.now b.now }
 {
-    (a.est, a.dl, a.key).cmp(&(b.est, b.dl, b.key))
+    (a.est, b.dl, b.key).cmp(&(b.est, a.dl, a.key))
 }
