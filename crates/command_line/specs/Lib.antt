@@ -1,4 +1,5 @@
 pub mod Commands
+pub mod Pages
 pub mod Refusals
 pub mod Reports
 pub mod Statuses

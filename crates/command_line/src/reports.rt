@@ -9,7 +9,7 @@ ghost use Rattle.command_line.specs.Refusals.{reason_of, refusal_line, has_fixed
 ghost use Rattle.command_line.specs.Reports.{IsTold, IsReport};
 
 use crate::append::{push, push_number, push_window, push_worded};
-use crate::{OUT_OF_MEMORY, Refusal};
+use crate::{CANNOT_WRITE, OUT_OF_MEMORY, Refusal};
 use faults::{ArrivalFault, TableFault};
 use slot_core::{Evidence, Memory, TaskFault, Words};
 use slot_io::Sink;
@@ -39,7 +39,7 @@ pub fn report<E: Sink>(alloc: Global, words: &Words, refusal: Refusal, err: &mut
 }
 
 /// Puts the line. A failure is left to the sink's count of faults.
-fn put_line<E: Sink>(err: &mut E, line: &[u8])
+pub(crate) fn put_line<E: Sink>(err: &mut E, line: &[u8])
     ensures { IsTold line.now
         (E.written err.old) (E.written err.new) (E.faults err.old) (E.faults err.new) }
 {
@@ -60,7 +60,7 @@ fn fixed_line(refusal: &Refusal) -> Option<&'static [u8]>
               replay-table B A N, gantt T A N, selfrun N, migrate B, verify T A X N, \
               explain T A N R, switch T U A N C, margin T\n",
         ),
-        Refusal::WriteFault => Some(b"cannot write\n"),
+        Refusal::WriteFault => Some(CANNOT_WRITE),
         Refusal::Memory => Some(OUT_OF_MEMORY),
         _ => None,
     }

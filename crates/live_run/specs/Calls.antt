@@ -1,5 +1,5 @@
 -- What the words of the command line ask for.
-use Rattle.std.specs.Prelude.{ℕ, ◌-◌, ◌==◌, ⊤, Bool, true, false, List, [], ◌∷◌, length, codes, nat_eq, if◌then◌else◌, Option, None, Some}
+use Rattle.std.specs.Prelude.{◌≡◌, ◌⊎◌, ℕ, ◌-◌, ◌==◌, ⊤, Bool, true, false, List, [], ◌∷◌, length, codes, nat_eq, if◌then◌else◌, Option, None, Some}
 use Rattle.std.specs.List.{starts_with}
 use Rattle.std.specs.Str.{bytes_eq}
 use Rattle.command_line.specs.Refusals.{word_at}
@@ -23,18 +23,32 @@ of_table word is_recorded =
     Some (record { source = Spelled; is_recorded = is_recorded })
     else None
 
--- the call, where this word asks for a record
-abbrev pub recorded_call : List ℕ → Option LiveCall → Option LiveCall
-recorded_call word call = if bytes_eq word (codes "--record") then call else None
+-- the call over the plan of a file, where this word asks for a record in a file of another name
+abbrev pub recorded_call : List ℕ → List ℕ → List ℕ → Option LiveCall → Option LiveCall
+recorded_call plan word file call =
+    if bytes_eq file plan then None
+    else if bytes_eq word (codes "--record") then call
+    else None
 
--- the call that the words write: `T`, `--table B`, and each with `--record FILE` behind it
+-- the call that the words write: `T`, `--table B`, and each with `--record FILE` behind it, where
+-- FILE is another word than T or B
 abbrev pub live_call_of : List (List ℕ) → Option LiveCall
 live_call_of words =
     if length words == 1 then of_tasks (word_at words 0) false
     else if length words == 2 then of_table (word_at words 0) false
-    else if length words == 3 then recorded_call (word_at words 1) (of_tasks (word_at words 0) true)
-    else if length words == 4 then recorded_call (word_at words 2) (of_table (word_at words 0) true)
+    else if length words == 3 then
+    recorded_call (word_at words 0) (word_at words 1) (word_at words 2)
+    (of_tasks (word_at words 0) true)
+    else if length words == 4 then
+    recorded_call (word_at words 1) (word_at words 2) (word_at words 3)
+    (of_table (word_at words 0) true)
     else None
+
+-- the words name the file of the plan a second time, as the record
+abbrev pub IsRecordOverPlan : List (List ℕ) → List ℕ → Type 0
+IsRecordOverPlan words name =
+    (words ≡ name ∷ codes "--record" ∷ name ∷ [])
+    ⊎ (words ≡ codes "--table" ∷ name ∷ codes "--record" ∷ name ∷ [])
 
 -- a plan comes from a file
 abbrev pub IsFile : Source → Type 0

@@ -25,8 +25,18 @@ pub fn live_call_of(words: &Words) -> Option<LiveCall>
     match words.len() {
         1 => of_tasks(words.word(0), false),
         2 => of_table(words.word(0), false),
-        3 => recorded_call(words.word(1), of_tasks(words.word(0), true)),
-        4 => recorded_call(words.word(2), of_table(words.word(0), true)),
+        3 => recorded_call(
+            words.word(0),
+            words.word(1),
+            words.word(2),
+            of_tasks(words.word(0), true),
+        ),
+        4 => recorded_call(
+            words.word(1),
+            words.word(2),
+            words.word(3),
+            of_table(words.word(0), true),
+        ),
         _ => None,
     }
 }
@@ -59,12 +69,15 @@ fn of_table(word: &str, is_recorded: bool) -> Option<LiveCall>
     }
 }
 
-/// The call, where this word asks for a record.
-fn recorded_call(word: &str, call: Option<LiveCall>) -> Option<LiveCall>
+/// The call over the plan of a file, where this word asks for a record in a file of another name.
+fn recorded_call(plan: &str, word: &str, file: &str, call: Option<LiveCall>) -> Option<LiveCall>
     requires { IfSome call HasPlan }
-    ensures call { result ≡ recorded_call word.now call }
+    ensures call { result ≡ recorded_call plan.now word.now file.now call }
     ensures plan { IfSome result HasPlan }
 {
+    if file == plan {
+        return None;
+    }
     match word {
         "--record" => call,
         _ => None,
@@ -82,7 +95,7 @@ pub(crate) fn plan_words(alloc: Global, words: &Words, call: LiveCall) -> Result
 }
 
 /// The name of the plan's file.
-fn plan_name(words: &Words, call: LiveCall) -> &str
+pub(crate) fn plan_name(words: &Words, call: LiveCall) -> &str
     ensures { result.now ≡ plan_name words.now call }
 {
     match call.source {

@@ -3,6 +3,7 @@
 ghost use Rattle.std.specs.Prelude.{◌≡◌, ◌⊎◌, None, IfOk, IsErr};
 ghost use Rattle.std.specs.Process.{exit_status};
 ghost use Rattle.command_line.specs.declared.status.Status.{Status};
+ghost use Rattle.command_line.specs.Pages.{page_of};
 ghost use Rattle.command_line.specs.Statuses.{exit_number};
 ghost use Rattle.live_run.specs.Calls.{live_call_of};
 
@@ -45,8 +46,9 @@ where
     E: Write + Drop,
     R: Files + Input + AllocGlobal,
     ensures memory { IsErr words → result ≡ Status.Memory }
-    ensures usage { IfOk words (λ words. result ≡ Status.Usage → live_call_of words ≡ None) }
-    ensures no_form { IfOk words (λ words. live_call_of words ≡ None
+    ensures usage { IfOk words (λ words. result ≡ Status.Usage
+        → (page_of words ≡ None) × (live_call_of words ≡ None)) }
+    ensures no_form { IfOk words (λ words. page_of words ≡ None → live_call_of words ≡ None
         → (result ≡ Status.Usage) ⊎ (result ≡ Status.Memory)) }
 {
     match words {
@@ -61,8 +63,9 @@ where
     O: Write + Drop,
     E: Write + Drop,
     R: Files + Input + AllocGlobal,
-    ensures usage { result ≡ Status.Usage → live_call_of words.now ≡ None }
-    ensures no_form { live_call_of words.now ≡ None
+    ensures usage { result ≡ Status.Usage
+        → (page_of words.now ≡ None) × (live_call_of words.now ≡ None) }
+    ensures no_form { page_of words.now ≡ None → live_call_of words.now ≡ None
         → (result ≡ Status.Usage) ⊎ (result ≡ Status.Memory) }
 {
     let alloc = rt.alloc();

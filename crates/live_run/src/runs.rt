@@ -1,26 +1,75 @@
 //! A live run as a whole.
 
-ghost use Rattle.std.specs.Prelude.{◌≡◌, ◌↔◌, [], None, Some};
+ghost use Rattle.std.specs.Prelude.{◌≡◌, ◌↔◌, ◌++◌, ◌∷◌, [], ℕ, List, None, Some, codes};
+ghost use Rattle.command_line.specs.Pages.{page_of, page_text, IsPageTold};
+ghost use Rattle.command_line.specs.Reports.{IsTold};
+ghost use Rattle.command_line.specs.declared.pages.Page.{Page};
+ghost use Rattle.command_line.specs.declared.status.Status.{Status};
 ghost use Rattle.live_run.specs.Streams.{seen};
-ghost use Rattle.live_run.specs.Calls.{live_call_of, plan_words, HasPlan};
+ghost use Rattle.live_run.specs.Calls.{live_call_of, plan_words, HasPlan, IsRecordOverPlan};
+ghost use Rattle.live_run.specs.Pages.{live_help};
+ghost use Rattle.live_run.specs.Refusals.{live_usage};
 ghost use Rattle.live_run.specs.Runs.{IsLiveRun, IsRunOf, IsStatusTold};
 
 use crate::call::{LiveCall, live_call_of, plan_words};
+use crate::pages::tell_live_page;
 use crate::record::RecordFile;
 use crate::refusal::LiveRefusal;
 use crate::report::tell;
 use crate::streams::Streams;
 use crate::work::work;
-use command_line::Status;
+use command_line::{Status, page_of};
 use live_lines::LineSource;
 use slot_core::{Memory, Words};
 use slot_io::{Files, Sink};
 use std::alloc::Global;
 
-/// Does what the words ask for: reads the plan that they name, makes the record where they ask for
-/// one, answers the lines of the source until the end is asked for, and puts one line more on the
-/// sink of the faults where it ends otherwise than Done.
+/// Does what the words ask for: tells the help or the version; or reads the plan that they name,
+/// makes the record where they ask for one, answers the lines of the source until the end is asked
+/// for, and puts one line more on the sink of the faults where it ends otherwise than Done.
 pub fn run<F: Files, S: LineSource, K: Sink, R: RecordFile, E: Sink>(
+    alloc: Global,
+    words: &Words,
+    files: &mut F,
+    source: &mut S,
+    streams: &mut Streams<K, R, E>,
+) -> Status
+    ensures whole { page_of words.now ≡ None
+        → IsLiveRun F.held F.faults F.blamed S.gave S.broke S.faults files.old files.new
+        words.now source.old source.new
+        (seen K.written K.faults R.written R.faults E.written E.faults streams.old)
+        (seen K.written K.faults R.written R.faults E.written E.faults streams.new) result }
+    ensures usage { (result ≡ Status.Usage)
+        ↔ ((page_of words.now ≡ None) × (live_call_of words.now ≡ None)) }
+    ensures usage_touches_nothing { result ≡ Status.Usage
+        → (files.new ≡ files.old) × (source.new ≡ source.old)
+        × (streams.new.answers ≡ streams.old.answers) × (streams.new.rows ≡ streams.old.rows) }
+    ensures usage_line { result ≡ Status.Usage → IsTold (live_usage ++ 10 ∷ [])
+        (E.written streams.old.faults) (E.written streams.new.faults)
+        (E.faults streams.old.faults) (E.faults streams.new.faults) }
+
+    // The file of the plan is no record: such words are faulty.
+    ensures plan_kept { (name : List ℕ) → IsRecordOverPlan words.now name → result ≡ Status.Usage }
+
+    // The words --help and --version are answered by these texts, and nothing is read.
+    ensures page { (page : Page) → page_of words.now ≡ Some page
+        → IsPageTold (page_text (codes "slotlive") live_help page)
+        (K.written streams.old.answers) (K.written streams.new.answers)
+        (K.faults streams.old.answers) (K.faults streams.new.answers)
+        (E.written streams.old.faults) (E.written streams.new.faults)
+        (E.faults streams.old.faults) (E.faults streams.new.faults) result }
+    ensures page_reads_nothing { (page : Page) → page_of words.now ≡ Some page
+        → (files.new ≡ files.old) × (source.new ≡ source.old)
+        × (streams.new.rows ≡ streams.old.rows) }
+{
+    match page_of(words) {
+        Some(page) => tell_live_page(page, streams),
+        None => run_call_of(alloc, words, files, source, streams),
+    }
+}
+
+/// Does the call that the words write.
+fn run_call_of<F: Files, S: LineSource, K: Sink, R: RecordFile, E: Sink>(
     alloc: Global,
     words: &Words,
     files: &mut F,
@@ -32,6 +81,12 @@ pub fn run<F: Files, S: LineSource, K: Sink, R: RecordFile, E: Sink>(
         (seen K.written K.faults R.written R.faults E.written E.faults streams.old)
         (seen K.written K.faults R.written R.faults E.written E.faults streams.new) result }
     ensures usage { (result ≡ Status.Usage) ↔ (live_call_of words.now ≡ None) }
+    ensures usage_touches_nothing { result ≡ Status.Usage
+        → (files.new ≡ files.old) × (source.new ≡ source.old)
+        × (streams.new.answers ≡ streams.old.answers) × (streams.new.rows ≡ streams.old.rows) }
+    ensures usage_line { result ≡ Status.Usage → IsTold (live_usage ++ 10 ∷ [])
+        (E.written streams.old.faults) (E.written streams.new.faults)
+        (E.faults streams.old.faults) (E.faults streams.new.faults) }
 {
     match live_call_of(words) {
         Some(call) => run_call(alloc, words, call, files, source, streams),

@@ -9,7 +9,7 @@ ghost use Rattle.live_run.specs.Calls.{HasPlan};
 ghost use Rattle.live_run.specs.Records.{IsEmpty};
 ghost use Rattle.live_run.specs.Runs.{IsLiveWork, IsTalk};
 
-use crate::call::{LiveCall, record_name};
+use crate::call::{LiveCall, plan_name, record_name};
 use crate::dialogue::converse;
 use crate::record::RecordFile;
 use crate::refusal::LiveRefusal;
@@ -75,21 +75,25 @@ fn talk_with<S: LineSource, K: Sink, R: RecordFile, E: Sink>(
         (seen K.written K.faults R.written R.faults E.written E.faults streams.new) result }
 {
     if call.is_recorded {
-        make_record(words, &mut streams.rows)?;
+        make_record(words, call, &mut streams.rows)?;
     }
     converse(exec, source, streams)?;
     Ok(())
 }
 
-/// Makes the record that the last word names.
-fn make_record<R: RecordFile>(words: &Words, rows: &mut R) -> Result<(), LiveRefusal>
+/// Makes the record that the last word names, beside the file of the plan.
+fn make_record<R: RecordFile>(
+    words: &Words,
+    call: LiveCall,
+    rows: &mut R,
+) -> Result<(), LiveRefusal>
     ensures empty { OnOk result (IsEmpty (R.written rows.new)) }
     ensures kept { OnOk result (R.faults rows.new ≡ R.faults rows.old) }
     ensures counted { R.faults rows.old ≤ R.faults rows.new }
     ensures unmade { OnErr result (result ≡ Err LiveRefusal.Unmade) }
     ensures failed { OnErr result (Rose (R.faults rows.old) (R.faults rows.new)) }
 {
-    match rows.make(record_name(words)) {
+    match rows.make(record_name(words), plan_name(words, call)) {
         Ok(()) => Ok(()),
         Err(Failed) => Err(LiveRefusal::Unmade),
     }

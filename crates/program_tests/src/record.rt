@@ -66,7 +66,7 @@ impl Sink for MemoryRecord {
 }
 
 impl RecordFile for MemoryRecord {
-    fn make(&mut self, _name: &str) -> Result<(), Failed> {
+    fn make(&mut self, _name: &str, _plan: &str) -> Result<(), Failed> {
         match MemorySink::with_room(self.alloc, self.room) {
             Ok(rows) => {
                 self.rows = Some(rows);

@@ -1,5 +1,6 @@
 pub mod Inputs
 pub mod Names
+pub mod Pages
 pub mod Plans
 pub mod Refusals
 pub mod Runs

@@ -3,6 +3,7 @@
 ghost use Rattle.std.specs.Prelude.{◌≡◌, ◌↔◌, None, IfOk, IsErr};
 ghost use Rattle.std.specs.Process.{exit_status};
 ghost use Rattle.command_line.specs.declared.status.Status.{Status};
+ghost use Rattle.command_line.specs.Pages.{page_of};
 ghost use Rattle.command_line.specs.Statuses.{exit_number};
 ghost use Rattle.view_run.specs.Views.{view_of};
 
@@ -44,7 +45,8 @@ where
     E: Write + Drop,
     R: Files + AllocGlobal + Drop,
     ensures memory { IsErr words → result ≡ Status.Memory }
-    ensures usage { IfOk words (λ words. (result ≡ Status.Usage) ↔ (view_of words ≡ None)) }
+    ensures usage { IfOk words (λ words. (result ≡ Status.Usage)
+        ↔ ((page_of words ≡ None) × (view_of words ≡ None))) }
 {
     match words {
         Ok(words) => run_over(input, out, err, rt, &words),
@@ -59,7 +61,8 @@ where
     O: Write + Drop,
     E: Write + Drop,
     R: Files + AllocGlobal + Drop,
-    ensures { (result ≡ Status.Usage) ↔ (view_of words.now ≡ None) }
+    ensures { (result ≡ Status.Usage)
+        ↔ ((page_of words.now ≡ None) × (view_of words.now ≡ None)) }
 {
     let alloc = rt.alloc();
     let mut input = HostInput::new(input);

@@ -6,7 +6,8 @@ use Rattle.live_run.specs.declared.call.LiveCall.{LiveCall}
 use Rattle.live_run.specs.declared.refusal.LiveRefusal.TheVariants.{Usage}
 use Rattle.live_run.specs.Calls.{live_call_of, plan_words}
 use Rattle.live_run.specs.Runs.{IsRunOf}
-use Rattle.live_run.proofs.runs.run.Goals as goal
+use Rattle.live_run.proofs.RunLemmas.{usage-told}
+use Rattle.live_run.proofs.runs.run_call_of.Goals as goal
 
 pub returns-in-None-clause-whole : goal.returns-in-None-clause-whole
 returns-in-None-clause-whole g c =
@@ -23,3 +24,9 @@ returns-in-None-clause-whole g c =
       works = (refl, refl, refl, refl);
       ends = (c.tell_unnamed.ensures, refl);
     })
+
+pub returns-in-None-clause-usage_line : goal.returns-in-None-clause-usage_line
+returns-in-None-clause-usage_line g c _ =
+    let s = c.args.streams.now in
+    let e = g.E.Sink in
+    usage-told c.args.words.now [] (e.written s.faults) (e.written c.tell_unnamed.new.err) (e.faults s.faults) (e.faults c.tell_unnamed.new.err) c.tell_unnamed.result c.tell_unnamed.ensures

@@ -1,0 +1,38 @@
+-- What slotview tells of itself.
+use Rattle.std.specs.Prelude.{ℕ, List, ◌++◌, codes}
+
+-- its help
+abbrev pub view_help : List ℕ
+view_help =
+    codes "usage: slotview picture | jobs T | jobs --table B | events | spans | waves\n"
+    ++ codes "       slotview --help\n"
+    ++ codes "       slotview --version\n"
+    ++ codes "\n"
+    ++ codes "Reads a trace from standard input, as slotshift and slotlive print it, and\n"
+    ++ codes "writes one view of it. Times and lengths are whole slots.\n"
+    ++ codes "\n"
+    ++ codes "views:\n"
+    ++ codes "  picture          a picture (SVG) of what arrived, what ran and the capacities,\n"
+    ++ codes "                   of at most 10000 slots\n"
+    ++ codes "  jobs T           a table (CSV) of the jobs, beside the plan of T\n"
+    ++ codes "  jobs --table B   the same, beside the plan that B spells\n"
+    ++ codes "  events           a table (CSV) of what arrived, with the answers\n"
+    ++ codes "  spans            a table (CSV) of the spans that the lines show\n"
+    ++ codes "  waves            waves (VCD) of what ran, and of the first capacity\n"
+    ++ codes "\n"
+    ++ codes "  T   a task file (TOML), at most 1048576 bytes\n"
+    ++ codes "  B   a binary table (slotshift table), at most 4194304 bytes\n"
+    ++ codes "\n"
+    ++ codes "The trace has at most 67108864 bytes, and a line of it at most 1024.\n"
+    ++ codes "\n"
+    ++ codes "statuses:\n"
+    ++ codes "  0   done\n"
+    ++ codes "  1   the words are no view\n"
+    ++ codes "  2   T, B or standard input cannot be read\n"
+    ++ codes "  3   T, B or standard input has too many bytes\n"
+    ++ codes "  4   T has a fault\n"
+    ++ codes "  5   T does not fit: a window has more demand than slots\n"
+    ++ codes "  7   standard output takes no more\n"
+    ++ codes "  8   memory ran out\n"
+    ++ codes "  9   B is no table of a plan\n"
+    ++ codes "  10  standard input is no trace, or is too long for a picture\n"
