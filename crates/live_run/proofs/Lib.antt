@@ -1,6 +1,8 @@
 pub mod DialogueLemmas
+pub mod HelpNumbers
 pub mod Lines
 pub mod PassedSlots
+pub mod RecordLemmas
 pub mod ReplayLemmas
 pub mod ReportLemmas
 pub mod RunLemmas

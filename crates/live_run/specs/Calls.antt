@@ -44,11 +44,15 @@ live_call_of words =
     (of_table (word_at words 0) true)
     else None
 
+-- the words ask for the record of a plan in the file of this name, the word after --record
+abbrev pub AsksRecord : List (List ℕ) → List ℕ → List ℕ → Type 0
+AsksRecord words plan name =
+    (words ≡ plan ∷ codes "--record" ∷ name ∷ [])
+    ⊎ (words ≡ codes "--table" ∷ plan ∷ codes "--record" ∷ name ∷ [])
+
 -- the words name the file of the plan a second time, as the record
 abbrev pub IsRecordOverPlan : List (List ℕ) → List ℕ → Type 0
-IsRecordOverPlan words name =
-    (words ≡ name ∷ codes "--record" ∷ name ∷ [])
-    ⊎ (words ≡ codes "--table" ∷ name ∷ codes "--record" ∷ name ∷ [])
+IsRecordOverPlan words name = AsksRecord words name name
 
 -- a plan comes from a file
 abbrev pub IsFile : Source → Type 0
@@ -76,3 +80,7 @@ plan_words words call = [] ∷ plan_name words call ∷ []
 -- the name of the record, the last word
 abbrev pub record_name : List (List ℕ) → List ℕ
 record_name words = word_at words (length words - 1)
+
+-- the names of the record and of the plan's file
+abbrev pub record_names : List (List ℕ) → LiveCall → List ℕ × List ℕ
+record_names words call = (record_name words, plan_name words call)

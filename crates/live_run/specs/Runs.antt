@@ -21,9 +21,9 @@ use Rattle.live_run.specs.Calls.{live_call_of, plan_words, record_name}
 use Rattle.live_run.specs.Records.{IsReady}
 use Rattle.live_run.specs.Refusals.{LiveOutcome, is_fixed, live_line, live_status}
 
--- the streams where the record could not be made: nothing else has changed, and that is counted
+-- the streams where the record could not be made: nothing is written, and that is counted
 pub record IsUnmade (before after : Seen) : Type 0 where
-  pub others : after ≡ record before { rows = after.rows; rows_lost = after.rows_lost }
+  pub others : after ≡ record before { rows_lost = after.rows_lost }
   pub lost : Rose before.rows_lost after.rows_lost
 
 -- how the answering of lines by the executive of a plan ends, over a source of which contracts see

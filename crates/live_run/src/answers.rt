@@ -19,6 +19,7 @@ ghost use Rattle.live_run.specs.Dialogues.{allowed, asked, command_heard, next_h
 ghost use Rattle.live_run.specs.Streams.{exchange_texts, seen, ArePut, ArePutInPart, FitsNow};
 
 use crate::puts::{put_answer, put_end, put_entry, put_fault, put_row};
+use crate::record::RecordFile;
 use crate::streams::{DialogueFault, Streams};
 use arrival_replay::{happen, tell_arrival};
 use interval_row::SpareTable;
@@ -73,7 +74,7 @@ fn allowed(row: u32, time: u64, command: LiveCommand) -> Result<LiveCommand, Lin
 }
 
 /// Answers what is asked for: the fault or the row of the record is put first, and then the answer.
-pub(crate) fn answer<T: SpareTable, K: Sink, R: Sink, E: Sink, L: Ledger>(
+pub(crate) fn answer<T: SpareTable, K: Sink, R: RecordFile, E: Sink, L: Ledger>(
     exec: &mut Exec<T>,
     number: u64,
     asked: Result<LiveCommand, LineFault>,
@@ -93,6 +94,7 @@ pub(crate) fn answer<T: SpareTable, K: Sink, R: Sink, E: Sink, L: Ledger>(
     ensures stands { OnOk result ((h : History) → StandsFor exec.old h → StandsFor
         exec.new
         (next_history exec.old.plan.tasks exec.old.plan.cycle h asked)) }
+    ensures same { R.made streams.new.rows ≡ R.made streams.old.rows }
     ensures plan { exec.new.plan ≡ exec.old.plan }
 {
     match asked {
@@ -104,7 +106,7 @@ pub(crate) fn answer<T: SpareTable, K: Sink, R: Sink, E: Sink, L: Ledger>(
 }
 
 /// The event arrives in the next row.
-fn take<T: SpareTable, K: Sink, R: Sink, E: Sink>(
+fn take<T: SpareTable, K: Sink, R: RecordFile, E: Sink>(
     exec: &mut Exec<T>,
     event: Event,
     streams: &mut Streams<K, R, E>,
@@ -125,6 +127,7 @@ fn take<T: SpareTable, K: Sink, R: Sink, E: Sink>(
         exec.new
         (next_history exec.old.plan.tasks exec.old.plan.cycle h
         (Ok (LiveCommand.Arrive event)))) }
+    ensures same { R.made streams.new.rows ≡ R.made streams.old.rows }
     ensures plan { exec.new.plan ≡ exec.old.plan }
 {
     let arrival = Arrival {
@@ -233,7 +236,7 @@ fn put_slot<T: SpareTable, K: Sink, L: Ledger>(
 }
 
 /// The line of this number is refused: its fault is told, and then the answer is put.
-fn refuse<K: Sink, R: Sink, E: Sink>(
+fn refuse<K: Sink, R: RecordFile, E: Sink>(
     number: u64,
     fault: LineFault,
     streams: &mut Streams<K, R, E>,
@@ -247,6 +250,7 @@ fn refuse<K: Sink, R: Sink, E: Sink>(
         (seen K.written K.faults R.written R.faults E.written E.faults streams.old)
         (seen K.written K.faults R.written R.faults E.written E.faults streams.new)
         (exchange_texts set cycle number h (Err fault))) }
+    ensures same { R.made streams.new.rows ≡ R.made streams.old.rows }
 {
     put_fault(&mut streams.faults, number, fault);
     put_answer(&mut streams.answers, b"refused\n")

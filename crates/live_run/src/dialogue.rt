@@ -10,6 +10,7 @@ ghost use Rattle.live_run.specs.Streams.{seen, IsBroken, IsDialogue};
 
 use crate::answers::{answer, asked_now};
 use crate::puts::put_entry;
+use crate::record::RecordFile;
 use crate::streams::{DialogueFault, Streams};
 use interval_row::SpareTable;
 use live_lines::{Given, LineFault, LineSource, LiveCommand};
@@ -21,7 +22,7 @@ use std::sync::ledger::{Blank, Ledger};
 
 /// Answers the lines of a source until the end is asked for. First the line of the start is put;
 /// each line is answered before the next one is read, at the history so far. It takes no memory.
-pub fn converse<T: SpareTable, S: LineSource, K: Sink, R: Sink, E: Sink>(
+pub fn converse<T: SpareTable, S: LineSource, K: Sink, R: RecordFile, E: Sink>(
     exec: &mut Exec<T>,
     source: &mut S,
     streams: &mut Streams<K, R, E>,
@@ -44,12 +45,13 @@ pub fn converse<T: SpareTable, S: LineSource, K: Sink, R: Sink, E: Sink>(
         source.new
         (seen K.written K.faults R.written R.faults E.written E.faults streams.old)
         (seen K.written K.faults R.written R.faults E.written E.faults streams.new)) }
+    ensures same { R.made streams.new.rows ≡ R.made streams.old.rows }
 {
     converse_counted::<T, S, K, R, E, Brand>(exec, source, streams, Blank::new(1))
 }
 
 /// `converse`, with steps that nobody asks for.
-fn converse_counted<T: SpareTable, S: LineSource, K: Sink, R: Sink, E: Sink, L: Ledger>(
+fn converse_counted<T: SpareTable, S: LineSource, K: Sink, R: RecordFile, E: Sink, L: Ledger>(
     exec: &mut Exec<T>,
     source: &mut S,
     streams: &mut Streams<K, R, E>,
@@ -76,6 +78,7 @@ fn converse_counted<T: SpareTable, S: LineSource, K: Sink, R: Sink, E: Sink, L: 
         source.new
         (seen K.written K.faults R.written R.faults E.written E.faults streams.old)
         (seen K.written K.faults R.written R.faults E.written E.faults streams.new)) }
+    ensures same { R.made streams.new.rows ≡ R.made streams.old.rows }
 {
     let mut steps: Steps<L> = Steps::new(blank);
     put_entry(exec, 0, What::Start, &mut streams.answers, &mut steps)?;

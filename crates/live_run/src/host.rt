@@ -1,16 +1,18 @@
 //! `run` over a host: its arguments, its files and its standard streams.
 
-ghost use Rattle.std.specs.Prelude.{◌≡◌, ◌⊎◌, None, IfOk, IsErr};
+ghost use Rattle.std.specs.Prelude.{◌≡◌, ◌⊎◌, None, Some, IfOk, IsErr};
 ghost use Rattle.std.specs.Process.{exit_status};
+ghost use Rattle.command_line.specs.declared.pages.Page.{Page};
 ghost use Rattle.command_line.specs.declared.status.Status.{Status};
 ghost use Rattle.command_line.specs.Pages.{page_of};
 ghost use Rattle.command_line.specs.Statuses.{exit_number};
 ghost use Rattle.live_run.specs.Calls.{live_call_of};
 
+use crate::pages::tell_live_page;
 use crate::record::HostRecord;
 use crate::runs::run;
 use crate::streams::Streams;
-use command_line::Status;
+use command_line::{Status, page_of};
 use live_lines::InputLines;
 use slot_core::{Memory, Words};
 use slot_io::{HostFiles, HostSink, words_of};
@@ -50,6 +52,8 @@ where
         → (page_of words ≡ None) × (live_call_of words ≡ None)) }
     ensures no_form { IfOk words (λ words. page_of words ≡ None → live_call_of words ≡ None
         → (result ≡ Status.Usage) ⊎ (result ≡ Status.Memory)) }
+    ensures page { IfOk words (λ words. (page : Page) → page_of words ≡ Some page
+        → (result ≡ Status.Done) ⊎ (result ≡ Status.WriteFault)) }
 {
     match words {
         Ok(words) => run_over(out, err, rt, &words),
@@ -58,7 +62,36 @@ where
 }
 
 /// The status of a run of these words over these streams and the files and the input of the host.
+/// A page is told before any memory is taken.
 fn run_over<O, E, R>(out: O, err: E, rt: &R, words: &Words) -> Status
+where
+    O: Write + Drop,
+    E: Write + Drop,
+    R: Files + Input + AllocGlobal,
+    ensures usage { result ≡ Status.Usage
+        → (page_of words.now ≡ None) × (live_call_of words.now ≡ None) }
+    ensures no_form { page_of words.now ≡ None → live_call_of words.now ≡ None
+        → (result ≡ Status.Usage) ⊎ (result ≡ Status.Memory) }
+    ensures page { (page : Page) → page_of words.now ≡ Some page
+        → (result ≡ Status.Done) ⊎ (result ≡ Status.WriteFault) }
+{
+    let mut streams = Streams {
+        answers: HostSink::new(out),
+        rows: HostRecord::new(rt),
+        faults: HostSink::new(err),
+    };
+    match page_of(words) {
+        Some(page) => tell_live_page(page, &mut streams),
+        None => run_read(rt, words, &mut streams),
+    }
+}
+
+/// The status of a run of these words, which ask for no page, over these streams.
+fn run_read<O, E, R>(
+    rt: &R,
+    words: &Words,
+    streams: &mut Streams<HostSink<O>, HostRecord<&R>, HostSink<E>>,
+) -> Status
 where
     O: Write + Drop,
     E: Write + Drop,
@@ -73,12 +106,7 @@ where
         Ok(reader) => {
             let mut source = InputLines::new(reader);
             let mut files = HostFiles::new(rt);
-            let mut streams = Streams {
-                answers: HostSink::new(out),
-                rows: HostRecord::new(rt),
-                faults: HostSink::new(err),
-            };
-            run(alloc, words, &mut files, &mut source, &mut streams)
+            run(alloc, words, &mut files, &mut source, streams)
         }
         Err(_) => Status::Memory,
     }

@@ -19,7 +19,7 @@ mod work;
 pub use call::{LiveCall, live_call_of};
 pub use dialogue::converse;
 pub use host::run_on_host;
-pub use record::{HostRecord, RecordFile};
+pub use record::{HostRecord, RecordFile, RecordNames};
 pub use refusal::LiveRefusal;
 pub use runs::run;
 pub use streams::{DialogueFault, Streams};

@@ -2,14 +2,16 @@
 
 ghost use Rattle.std.specs.Prelude.{◌≡◌, codes};
 ghost use Rattle.command_line.specs.Pages.{page_text, IsPageTold};
+ghost use Rattle.command_line.specs.declared.status.Status.{Status};
 ghost use Rattle.live_run.specs.Pages.{live_help};
 
+use crate::record::RecordFile;
 use crate::streams::Streams;
 use command_line::{Page, Status, tell_page};
 use slot_io::Sink;
 
 /// Tells the page, and gives the status.
-pub(crate) fn tell_live_page<K: Sink, R: Sink, E: Sink>(
+pub(crate) fn tell_live_page<K: Sink, R: RecordFile, E: Sink>(
     page: Page,
     streams: &mut Streams<K, R, E>,
 ) -> Status
@@ -18,6 +20,7 @@ pub(crate) fn tell_live_page<K: Sink, R: Sink, E: Sink>(
         (K.faults streams.old.answers) (K.faults streams.new.answers)
         (E.written streams.old.faults) (E.written streams.new.faults)
         (E.faults streams.old.faults) (E.faults streams.new.faults) result }
+    ensures done_says_nothing { result ≡ Status.Done → streams.new.faults ≡ streams.old.faults }
     ensures rows { streams.new.rows ≡ streams.old.rows }
 {
     tell_page(
@@ -65,17 +68,18 @@ commands, and what they are answered:
   KEY      GRAPH.TASK#INSTANCE, NAME@ROW, firm:ROW or soft:ROW;
            INSTANCE 0 to 4294967295
 
-One space stands between words, and a line has at most 256 bytes. A faulty line
-changes nothing: it is answered refused, and standard error tells why.
+A line has at most 256 bytes, and one space between two words. A faulty line
+changes nothing: it is answered refused, and standard error tells why. So is an
+arrival after 65535 others, and slots that would pass the time 4294967296.
 
 statuses:
-  0   the run came to its end
+  0   the run came to its end, whatever was refused
   1   the words are none of the forms
   2   T, B or standard input cannot be read
   3   T or B has too many bytes
   4   T has a fault
   5   T does not fit: a window has more demand than slots
-  7   standard output takes no more, or FILE cannot be written
+  7   standard output takes no more, or FILE cannot be written or may be T or B
   8   memory ran out
   9   B is no table of a plan
 "

@@ -12,6 +12,7 @@ ghost use Rattle.slot_io.specs.Sinks.{AppendsPart};
 ghost use Rattle.live_lines.specs.FaultTexts.{fault_line};
 ghost use Rattle.live_lines.specs.Rows.{record_row};
 
+use crate::record::RecordFile;
 use crate::streams::DialogueFault;
 use interval_row::SpareTable;
 use live_lines::{LineFault, fault_line, record_row};
@@ -33,7 +34,7 @@ pub(crate) fn put_answer<K: Sink>(out: &mut K, text: &[u8]) -> Result<(), Dialog
 }
 
 /// Puts the row of an arrival.
-pub(crate) fn put_row<R: Sink>(
+pub(crate) fn put_row<R: RecordFile>(
     rows: &mut R,
     tasks: &TaskSet,
     arrival: Arrival,
@@ -43,6 +44,7 @@ pub(crate) fn put_row<R: Sink>(
         (record_row tasks.now arrival)) }
     ensures part { OnErr result (AppendsPart (R.written rows.old) (R.written rows.new)
         (record_row tasks.now arrival)) }
+    ensures same { R.made rows.new ≡ R.made rows.old }
     ensures counted { R.faults rows.old ≤ R.faults rows.new }
     ensures failed { OnErr result (Rose (R.faults rows.old) (R.faults rows.new)) }
     ensures fault { IfErr result (λ fault. fault ≡ DialogueFault.Record) }

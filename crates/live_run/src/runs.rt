@@ -1,13 +1,14 @@
 //! A live run as a whole.
 
-ghost use Rattle.std.specs.Prelude.{◌≡◌, ◌↔◌, ◌++◌, ◌∷◌, [], ℕ, List, None, Some, codes};
+ghost use Rattle.std.specs.Prelude.{◌≡◌, ◌≢◌, ◌↔◌, ◌⊎◌, ◌++◌, ◌∷◌, [], ℕ, List, None, Some, codes};
 ghost use Rattle.command_line.specs.Pages.{page_of, page_text, IsPageTold};
 ghost use Rattle.command_line.specs.Reports.{IsTold};
 ghost use Rattle.command_line.specs.declared.pages.Page.{Page};
 ghost use Rattle.command_line.specs.declared.status.Status.{Status};
 ghost use Rattle.live_run.specs.Streams.{seen};
-ghost use Rattle.live_run.specs.Calls.{live_call_of, plan_words, HasPlan, IsRecordOverPlan};
+ghost use Rattle.live_run.specs.Calls.{live_call_of, plan_words, record_names, AsksRecord, HasPlan, IsRecordOverPlan};
 ghost use Rattle.live_run.specs.Pages.{live_help};
+ghost use Rattle.live_run.specs.Records.{made_by};
 ghost use Rattle.live_run.specs.Refusals.{live_usage};
 ghost use Rattle.live_run.specs.Runs.{IsLiveRun, IsRunOf, IsStatusTold};
 
@@ -48,6 +49,16 @@ pub fn run<F: Files, S: LineSource, K: Sink, R: RecordFile, E: Sink>(
         (E.written streams.old.faults) (E.written streams.new.faults)
         (E.faults streams.old.faults) (E.faults streams.new.faults) }
 
+    // The record is the file of the word after --record, and is made before the first answer; no
+    // other file is made.
+    ensures record { (plan name : List ℕ) → AsksRecord words.now plan name
+        → (R.made streams.new.rows ≡ Some (name, plan))
+        ⊎ ((result ≢ Status.Done) × (streams.new.answers ≡ streams.old.answers)
+        × (R.made streams.new.rows ≡ R.made streams.old.rows)) }
+    ensures no_other_record { (R.made streams.new.rows ≡ R.made streams.old.rows)
+        ⊎ ((plan : List ℕ) × (name : List ℕ) × AsksRecord words.now plan name
+        × (R.made streams.new.rows ≡ Some (name, plan))) }
+
     // The file of the plan is no record: such words are faulty.
     ensures plan_kept { (name : List ℕ) → IsRecordOverPlan words.now name → result ≡ Status.Usage }
 
@@ -58,6 +69,8 @@ pub fn run<F: Files, S: LineSource, K: Sink, R: RecordFile, E: Sink>(
         (K.faults streams.old.answers) (K.faults streams.new.answers)
         (E.written streams.old.faults) (E.written streams.new.faults)
         (E.faults streams.old.faults) (E.faults streams.new.faults) result }
+    ensures page_says_nothing { (page : Page) → page_of words.now ≡ Some page
+        → result ≡ Status.Done → streams.new.faults ≡ streams.old.faults }
     ensures page_reads_nothing { (page : Page) → page_of words.now ≡ Some page
         → (files.new ≡ files.old) × (source.new ≡ source.old)
         × (streams.new.rows ≡ streams.old.rows) }
@@ -87,6 +100,13 @@ fn run_call_of<F: Files, S: LineSource, K: Sink, R: RecordFile, E: Sink>(
     ensures usage_line { result ≡ Status.Usage → IsTold (live_usage ++ 10 ∷ [])
         (E.written streams.old.faults) (E.written streams.new.faults)
         (E.faults streams.old.faults) (E.faults streams.new.faults) }
+    ensures record { (plan name : List ℕ) → AsksRecord words.now plan name
+        → (R.made streams.new.rows ≡ Some (name, plan))
+        ⊎ ((result ≢ Status.Done) × (streams.new.answers ≡ streams.old.answers)
+        × (R.made streams.new.rows ≡ R.made streams.old.rows)) }
+    ensures no_other_record { (R.made streams.new.rows ≡ R.made streams.old.rows)
+        ⊎ ((plan : List ℕ) × (name : List ℕ) × AsksRecord words.now plan name
+        × (R.made streams.new.rows ≡ Some (name, plan))) }
 {
     match live_call_of(words) {
         Some(call) => run_call(alloc, words, call, files, source, streams),
@@ -104,10 +124,14 @@ fn run_call<F: Files, S: LineSource, K: Sink, R: RecordFile, E: Sink>(
     streams: &mut Streams<K, R, E>,
 ) -> Status
     requires { HasPlan call }
-    ensures { IsRunOf F.held F.faults F.blamed S.gave S.broke S.faults files.old files.new words.now
+    ensures whole { IsRunOf F.held F.faults F.blamed S.gave S.broke S.faults files.old files.new words.now
         (Some call) (plan_words words.now call) source.old source.new
         (seen K.written K.faults R.written R.faults E.written E.faults streams.old)
         (seen K.written K.faults R.written R.faults E.written E.faults streams.new) result }
+    ensures record { (R.made streams.new.rows
+        ≡ made_by call.is_recorded (record_names words.now call) (R.made streams.old.rows))
+        ⊎ ((result ≢ Status.Done) × (streams.new.answers ≡ streams.old.answers)
+        × (R.made streams.new.rows ≡ R.made streams.old.rows)) }
 {
     match plan_words(alloc, words, call) {
         Ok(names) => run_named(alloc, words, &names, call, files, source, streams),
@@ -127,10 +151,14 @@ fn run_named<F: Files, S: LineSource, K: Sink, R: RecordFile, E: Sink>(
 ) -> Status
     requires plan { HasPlan call }
     requires names { names.now ≡ plan_words words.now call }
-    ensures { IsRunOf F.held F.faults F.blamed S.gave S.broke S.faults files.old files.new words.now
+    ensures whole { IsRunOf F.held F.faults F.blamed S.gave S.broke S.faults files.old files.new words.now
         (Some call) (plan_words words.now call) source.old source.new
         (seen K.written K.faults R.written R.faults E.written E.faults streams.old)
         (seen K.written K.faults R.written R.faults E.written E.faults streams.new) result }
+    ensures record { (R.made streams.new.rows
+        ≡ made_by call.is_recorded (record_names words.now call) (R.made streams.old.rows))
+        ⊎ ((result ≢ Status.Done) × (streams.new.answers ≡ streams.old.answers)
+        × (R.made streams.new.rows ≡ R.made streams.old.rows)) }
 {
     match work(alloc, words, names, call, files, source, streams) {
         Ok(()) => Status::Done,
@@ -140,8 +168,9 @@ fn run_named<F: Files, S: LineSource, K: Sink, R: RecordFile, E: Sink>(
 
 /// Tells the refusal of a run whose plan has no name yet, and gives the status.
 fn tell_unnamed<E: Sink>(alloc: Global, words: &Words, refusal: LiveRefusal, err: &mut E) -> Status
-    ensures { IsStatusTold words.now [] refusal
+    ensures told { IsStatusTold words.now [] refusal
         (E.written err.old) (E.written err.new) (E.faults err.old) (E.faults err.new) result }
+    ensures undone { result ≢ Status.Done }
 {
     let names = Words::new(alloc);
     tell_status(alloc, words, &names, refusal, err)
@@ -155,8 +184,9 @@ fn tell_status<E: Sink>(
     refusal: LiveRefusal,
     err: &mut E,
 ) -> Status
-    ensures { IsStatusTold words.now names.now refusal
+    ensures told { IsStatusTold words.now names.now refusal
         (E.written err.old) (E.written err.new) (E.faults err.old) (E.faults err.new) result }
+    ensures undone { result ≢ Status.Done }
 {
     tell(alloc, words, names, refusal, err).status()
 }

@@ -1,17 +1,17 @@
 //! The work of a live run.
 
-ghost use Rattle.std.specs.Prelude.{◌≡◌, ◌≤◌, Err, OnErr, OnOk};
+ghost use Rattle.std.specs.Prelude.{◌≡◌, ◌≤◌, ◌⊎◌, Err, IsErr, Some, OnErr, OnOk};
 ghost use Rattle.slot_core.specs.Calls.Counts.{Rose};
 ghost use Rattle.slot_core.specs.Keeping.Executives.{StandsFor};
 ghost use Rattle.slot_core.specs.Runs.Traces.{started};
 ghost use Rattle.live_run.specs.Streams.{seen};
-ghost use Rattle.live_run.specs.Calls.{HasPlan};
-ghost use Rattle.live_run.specs.Records.{IsEmpty};
+ghost use Rattle.live_run.specs.Calls.{record_names, HasPlan};
+ghost use Rattle.live_run.specs.Records.{made_by, IsEmpty};
 ghost use Rattle.live_run.specs.Runs.{IsLiveWork, IsTalk};
 
-use crate::call::{LiveCall, plan_name, record_name};
+use crate::call::LiveCall;
 use crate::dialogue::converse;
-use crate::record::RecordFile;
+use crate::record::{RecordFile, RecordNames};
 use crate::refusal::LiveRefusal;
 use crate::streams::Streams;
 use cycle_plan::Plan;
@@ -35,10 +35,14 @@ pub(crate) fn work<F: Files, S: LineSource, K: Sink, R: RecordFile, E: Sink>(
     streams: &mut Streams<K, R, E>,
 ) -> Result<(), LiveRefusal>
     requires plan { HasPlan call }
-    ensures { IsLiveWork F.held F.faults F.blamed S.gave S.broke S.faults files.old files.new
+    ensures whole { IsLiveWork F.held F.faults F.blamed S.gave S.broke S.faults files.old files.new
         names.now call source.old source.new
         (seen K.written K.faults R.written R.faults E.written E.faults streams.old)
         (seen K.written K.faults R.written R.faults E.written E.faults streams.new) result }
+    ensures record { (R.made streams.new.rows
+        ≡ made_by call.is_recorded (record_names words.now call) (R.made streams.old.rows))
+        ⊎ (IsErr result × (streams.new.answers ≡ streams.old.answers)
+        × (R.made streams.new.rows ≡ R.made streams.old.rows)) }
 {
     let plan = plan_from(alloc, names, files, call.source)?;
     talk(alloc, words, call, plan, source, streams)
@@ -53,16 +57,21 @@ fn talk<S: LineSource, K: Sink, R: RecordFile, E: Sink>(
     source: &mut S,
     streams: &mut Streams<K, R, E>,
 ) -> Result<(), LiveRefusal>
-    ensures { IsTalk S.gave S.broke S.faults plan call.is_recorded source.old source.new
+    ensures whole { IsTalk S.gave S.broke S.faults plan call.is_recorded source.old source.new
         (seen K.written K.faults R.written R.faults E.written E.faults streams.old)
         (seen K.written K.faults R.written R.faults E.written E.faults streams.new) result }
+    ensures record { (R.made streams.new.rows
+        ≡ made_by call.is_recorded (record_names words.now call) (R.made streams.old.rows))
+        ⊎ (IsErr result × (streams.new.answers ≡ streams.old.answers)
+        × (R.made streams.new.rows ≡ R.made streams.old.rows)) }
 {
     let mut exec: Exec<ChainTable> = Exec::start(alloc, plan)?;
-    talk_with(words, call, &mut exec, source, streams)
+    talk_with(alloc, words, call, &mut exec, source, streams)
 }
 
 /// Answers the lines by an executive that has just started.
 fn talk_with<S: LineSource, K: Sink, R: RecordFile, E: Sink>(
+    alloc: Global,
     words: &Words,
     call: LiveCall,
     exec: &mut Exec<ChainTable>,
@@ -70,30 +79,34 @@ fn talk_with<S: LineSource, K: Sink, R: RecordFile, E: Sink>(
     streams: &mut Streams<K, R, E>,
 ) -> Result<(), LiveRefusal>
     requires { StandsFor exec.old started }
-    ensures { IsTalk S.gave S.broke S.faults exec.old.plan call.is_recorded source.old source.new
+    ensures whole { IsTalk S.gave S.broke S.faults exec.old.plan call.is_recorded source.old source.new
         (seen K.written K.faults R.written R.faults E.written E.faults streams.old)
         (seen K.written K.faults R.written R.faults E.written E.faults streams.new) result }
+    ensures record { (R.made streams.new.rows
+        ≡ made_by call.is_recorded (record_names words.now call) (R.made streams.old.rows))
+        ⊎ (IsErr result × (streams.new.answers ≡ streams.old.answers)
+        × (R.made streams.new.rows ≡ R.made streams.old.rows)) }
 {
     if call.is_recorded {
-        make_record(words, call, &mut streams.rows)?;
+        let names = RecordNames::of(alloc, words, call)?;
+        make_record(names, &mut streams.rows)?;
     }
     converse(exec, source, streams)?;
     Ok(())
 }
 
-/// Makes the record that the last word names, beside the file of the plan.
-fn make_record<R: RecordFile>(
-    words: &Words,
-    call: LiveCall,
-    rows: &mut R,
-) -> Result<(), LiveRefusal>
+/// Makes the record of these names.
+fn make_record<R: RecordFile>(names: RecordNames, rows: &mut R) -> Result<(), LiveRefusal>
+    ensures made { OnOk result (R.made rows.new ≡ Some names) }
     ensures empty { OnOk result (IsEmpty (R.written rows.new)) }
     ensures kept { OnOk result (R.faults rows.new ≡ R.faults rows.old) }
+    ensures same { OnErr result (R.made rows.new ≡ R.made rows.old) }
+    ensures stays { OnErr result (R.written rows.new ≡ R.written rows.old) }
     ensures counted { R.faults rows.old ≤ R.faults rows.new }
     ensures unmade { OnErr result (result ≡ Err LiveRefusal.Unmade) }
     ensures failed { OnErr result (Rose (R.faults rows.old) (R.faults rows.new)) }
 {
-    match rows.make(record_name(words), plan_name(words, call)) {
+    match rows.make(names) {
         Ok(()) => Ok(()),
         Err(Failed) => Err(LiveRefusal::Unmade),
     }

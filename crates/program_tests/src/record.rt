@@ -4,7 +4,7 @@ ghost use Rattle.std.specs.Prelude.{◌≡◌, [], None};
 ghost use Rattle.std.specs.Option.{option_map_or};
 ghost use Rattle.slot_io.specs.Sinks.{SinkInMemory};
 
-use live_run::RecordFile;
+use live_run::{RecordFile, RecordNames};
 use slot_core::Failed;
 use slot_io::{MemorySink, Sink};
 use std::alloc::Global;
@@ -15,6 +15,7 @@ pub struct MemoryRecord {
     alloc: Global,
     room: usize,
     rows: Option<MemorySink>,
+    names: Option<RecordNames>,
     faults: u64,
 }
 
@@ -22,12 +23,14 @@ impl MemoryRecord {
     /// No record yet.
     pub fn with_room(alloc: Global, room: usize) -> MemoryRecord
         ensures none { result.rows ≡ None }
+        ensures unmade { result.names ≡ None }
         ensures faults { result.faults ≡ 0 }
     {
         MemoryRecord {
             alloc,
             room,
             rows: None,
+            names: None,
             faults: 0,
         }
     }
@@ -43,13 +46,29 @@ impl MemoryRecord {
     }
 }
 
-impl Sink for MemoryRecord {
+impl RecordFile for MemoryRecord {
     ghost use Rattle.std.specs.Prelude.{option_map};
     ghost use Rattle.slot_io.specs.Sinks.{SinkInMemory};
 
     ghost written = { λ r. option_map (λ (s : SinkInMemory). s.written) r.rows };
 
     ghost faults = { λ r. r.faults };
+
+    ghost made = { λ r. r.names };
+
+    fn make(&mut self, names: RecordNames) -> Result<(), Failed> {
+        match MemorySink::with_room(self.alloc, self.room) {
+            Ok(rows) => {
+                self.rows = Some(rows);
+                self.names = Some(names);
+                Ok(())
+            }
+            Err(_) => {
+                self.faults = self.faults.saturating_add(1);
+                Err(Failed)
+            }
+        }
+    }
 
     fn put(&mut self, bytes: &[u8]) -> Result<(), Failed> {
         match &mut self.rows {
@@ -61,21 +80,6 @@ impl Sink for MemoryRecord {
                 }
             },
             None => Ok(()),
-        }
-    }
-}
-
-impl RecordFile for MemoryRecord {
-    fn make(&mut self, _name: &str, _plan: &str) -> Result<(), Failed> {
-        match MemorySink::with_room(self.alloc, self.room) {
-            Ok(rows) => {
-                self.rows = Some(rows);
-                Ok(())
-            }
-            Err(_) => {
-                self.faults = self.faults.saturating_add(1);
-                Err(Failed)
-            }
         }
     }
 }

@@ -17,7 +17,7 @@ use Rattle.live_run.proofs.answers.answer.Goals as goal
 pub returns-in-Ok-Arrive-clause-part : goal.returns-in-Ok-Arrive-clause-part
 returns-in-Ok-Arrive-clause-part g c =
     let p = c.args.exec.now.plan in
-    let see = seen g.K.Sink.written g.K.Sink.faults g.R.Sink.written g.R.Sink.faults g.E.Sink.written g.E.Sink.faults in
+    let see = seen g.K.Sink.written g.K.Sink.faults g.R.RecordFile.written g.R.RecordFile.faults g.E.Sink.written g.E.Sink.faults in
     let arrived : c.in-Ok-Arrive.field-0 ≡ Arrive c.in-Ok-Arrive.event = rw c.in-Ok-Arrive.is at c.in-Ok-Arrive.field-0-is in
     let same : c.args.asked ≡ Ok (Arrive c.in-Ok-Arrive.event) = c.in-Ok-Arrive.is ∙ ap Ok arrived in
     IfErr-weaker c.take.result
@@ -30,7 +30,7 @@ pub returns-in-Ok-Pass-clause-part : goal.returns-in-Ok-Pass-clause-part
 returns-in-Ok-Pass-clause-part g c =
     let p = c.args.exec.now.plan in
     let s = c.args.streams.now in
-    let see = seen g.K.Sink.written g.K.Sink.faults g.R.Sink.written g.R.Sink.faults g.E.Sink.written g.E.Sink.faults in
+    let see = seen g.K.Sink.written g.K.Sink.faults g.R.RecordFile.written g.R.RecordFile.faults g.E.Sink.written g.E.Sink.faults in
     let after = see (record s { answers = c.pass.new.out }) in
     let passed : c.in-Ok-Pass.field-0 ≡ Pass c.in-Ok-Pass.slots = rw c.in-Ok-Pass.is at c.in-Ok-Pass.field-0-is in
     let same : c.args.asked ≡ Ok (Pass c.in-Ok-Pass.slots) = c.in-Ok-Pass.is ∙ ap Ok passed in
@@ -42,7 +42,7 @@ pub returns-in-Ok-End-clause-part : goal.returns-in-Ok-End-clause-part
 returns-in-Ok-End-clause-part g c =
     let p = c.args.exec.now.plan in
     let s = c.args.streams.now in
-    let see = seen g.K.Sink.written g.K.Sink.faults g.R.Sink.written g.R.Sink.faults g.E.Sink.written g.E.Sink.faults in
+    let see = seen g.K.Sink.written g.K.Sink.faults g.R.RecordFile.written g.R.RecordFile.faults g.E.Sink.written g.E.Sink.faults in
     let after = see (record s { answers = c.put_end.new.out }) in
     let ended : c.in-Ok-End.field-0 ≡ End = rw c.in-Ok-End.is at c.in-Ok-End.field-0-is in
     let same : c.args.asked ≡ Ok End = c.in-Ok-End.is ∙ ap Ok ended in
@@ -56,12 +56,12 @@ returns-in-Err-clause-put g c =
     let same : c.args.asked ≡ Err c.in-Err.fault = c.in-Err.is in
     on_ok_weaker c.refuse.result (λ put h stands.
     let p = c.args.exec.now.plan in
-    subst (λ (a : Asked). ArePut (seen g.K.Sink.written g.K.Sink.faults g.R.Sink.written g.R.Sink.faults g.E.Sink.written g.E.Sink.faults c.args.streams.now) (seen g.K.Sink.written g.K.Sink.faults g.R.Sink.written g.R.Sink.faults g.E.Sink.written g.E.Sink.faults c.refuse.new.streams) (exchange_texts p.tasks p.cycle c.args.number h a)) (sym same) (put p.tasks p.cycle h)) c.refuse.ensures.put
+    subst (λ (a : Asked). ArePut (seen g.K.Sink.written g.K.Sink.faults g.R.RecordFile.written g.R.RecordFile.faults g.E.Sink.written g.E.Sink.faults c.args.streams.now) (seen g.K.Sink.written g.K.Sink.faults g.R.RecordFile.written g.R.RecordFile.faults g.E.Sink.written g.E.Sink.faults c.refuse.new.streams) (exchange_texts p.tasks p.cycle c.args.number h a)) (sym same) (put p.tasks p.cycle h)) c.refuse.ensures.put
 
 pub returns-in-Err-clause-part : goal.returns-in-Err-clause-part
 returns-in-Err-clause-part g c =
     let p = c.args.exec.now.plan in
-    let see = seen g.K.Sink.written g.K.Sink.faults g.R.Sink.written g.R.Sink.faults g.E.Sink.written g.E.Sink.faults in
+    let see = seen g.K.Sink.written g.K.Sink.faults g.R.RecordFile.written g.R.RecordFile.faults g.E.Sink.written g.E.Sink.faults in
     let same : c.args.asked ≡ Err c.in-Err.fault = c.in-Err.is in
     IfErr-weaker c.refuse.result
     (λ fault. (set : TaskSet) (cycle : ℕ) (h : History) → ArePutInPart fault (see c.args.streams.now) (see c.refuse.new.streams) (exchange_texts set cycle c.args.number h (Err c.in-Err.fault)))

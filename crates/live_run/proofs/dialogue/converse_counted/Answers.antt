@@ -29,15 +29,16 @@ loop-heard-init g c =
       count = refl;
       stands = c.requires.started;
       plan = refl;
+      same = refl;
       misread = omega arith;
-      put = ArePut-row (seen g.K.Sink.written g.K.Sink.faults g.R.Sink.written g.R.Sink.faults g.E.Sink.written g.E.Sink.faults s) (g.K.Sink.written c.put_entry.new.out) (g.R.Sink.written s.rows) (g.K.Sink.faults c.put_entry.new.out) (g.R.Sink.faults s.rows) (start ++ []) [] told (Appends-nil (g.R.Sink.written s.rows)) c.in_ok-put_entry.ensures.counted (omega arith);
+      put = ArePut-row (seen g.K.Sink.written g.K.Sink.faults g.R.RecordFile.written g.R.RecordFile.faults g.E.Sink.written g.E.Sink.faults s) (g.K.Sink.written c.put_entry.new.out) (g.R.RecordFile.written s.rows) (g.K.Sink.faults c.put_entry.new.out) (g.R.RecordFile.faults s.rows) (start ++ []) [] told (Appends-nil (g.R.RecordFile.written s.rows)) c.in_ok-put_entry.ensures.counted (omega arith);
     }
 
 pub returns-in_err-put_entry-clause-broken : goal.returns-in_err-put_entry-clause-broken
 returns-in_err-put_entry-clause-broken g c =
     let p = c.args.exec.now.plan in
     let s = c.args.streams.now in
-    let see = seen g.K.Sink.written g.K.Sink.faults g.R.Sink.written g.R.Sink.faults g.E.Sink.written g.E.Sink.faults in
+    let see = seen g.K.Sink.written g.K.Sink.faults g.R.RecordFile.written g.R.RecordFile.faults g.E.Sink.written g.E.Sink.faults in
     let start = start_text p.tasks p.cycle in
     let source = c.args.source.now in
     let after = see (record s { answers = c.put_entry.new.out }) in
@@ -79,7 +80,7 @@ returns-in_err-answer-clause-broken g c =
     let o = (goal.at.returns-in_err-answer-clause-broken g c).After-answer in
     let p = c.args.exec.now.plan in
     let inv = c.loop-heard.invariant in
-    let see = seen g.K.Sink.written g.K.Sink.faults g.R.Sink.written g.R.Sink.faults g.E.Sink.written g.E.Sink.faults in
+    let see = seen g.K.Sink.written g.K.Sink.faults g.R.RecordFile.written g.R.RecordFile.faults g.E.Sink.written g.E.Sink.faults in
     let fault = c.in_err-answer.field-0.0 in
     let part = subst (λ (q : PlanParts). ArePutInPart fault (see c.loop-heard.streams) (see c.answer.new.streams) (exchange_texts q.tasks q.cycle (c.loop-heard.heard + 1) (before g o) c.asked_now-asked.result)) inv.plan (c.in_err-answer.ensures.part (before g o) inv.stands) in
     let same : c.from_residual-in_err-answer.result ≡ Err fault = search rules in
@@ -96,11 +97,11 @@ returns-in_err-answer-clause-broken g c =
     }))
 
 -- the texts with the answer
-all_put : (g : Over) (c : After-answer g) → ArePut (seen g.K.Sink.written g.K.Sink.faults g.R.Sink.written g.R.Sink.faults g.E.Sink.written g.E.Sink.faults c.loop-heard.streams) (seen g.K.Sink.written g.K.Sink.faults g.R.Sink.written g.R.Sink.faults g.E.Sink.written g.E.Sink.faults c.answer.new.streams) (exchange_texts c.loop-heard.exec.plan.tasks c.loop-heard.exec.plan.cycle (c.loop-heard.heard + 1) (before g c) c.asked_now-asked.result) → ArePut (seen g.K.Sink.written g.K.Sink.faults g.R.Sink.written g.R.Sink.faults g.E.Sink.written g.E.Sink.faults c.args.streams.now) (seen g.K.Sink.written g.K.Sink.faults g.R.Sink.written g.R.Sink.faults g.E.Sink.written g.E.Sink.faults c.answer.new.streams) (dialogue_texts c.args.exec.now.plan.tasks c.args.exec.now.plan.cycle (c.loop-heard.invariant.heards ++ now_heard g c ∷ []))
+all_put : (g : Over) (c : After-answer g) → ArePut (seen g.K.Sink.written g.K.Sink.faults g.R.RecordFile.written g.R.RecordFile.faults g.E.Sink.written g.E.Sink.faults c.loop-heard.streams) (seen g.K.Sink.written g.K.Sink.faults g.R.RecordFile.written g.R.RecordFile.faults g.E.Sink.written g.E.Sink.faults c.answer.new.streams) (exchange_texts c.loop-heard.exec.plan.tasks c.loop-heard.exec.plan.cycle (c.loop-heard.heard + 1) (before g c) c.asked_now-asked.result) → ArePut (seen g.K.Sink.written g.K.Sink.faults g.R.RecordFile.written g.R.RecordFile.faults g.E.Sink.written g.E.Sink.faults c.args.streams.now) (seen g.K.Sink.written g.K.Sink.faults g.R.RecordFile.written g.R.RecordFile.faults g.E.Sink.written g.E.Sink.faults c.answer.new.streams) (dialogue_texts c.args.exec.now.plan.tasks c.args.exec.now.plan.cycle (c.loop-heard.invariant.heards ++ now_heard g c ∷ []))
 all_put g c put =
     let p = c.args.exec.now.plan in
     let inv = c.loop-heard.invariant in
-    let see = seen g.K.Sink.written g.K.Sink.faults g.R.Sink.written g.R.Sink.faults g.E.Sink.written g.E.Sink.faults in
+    let see = seen g.K.Sink.written g.K.Sink.faults g.R.RecordFile.written g.R.RecordFile.faults g.E.Sink.written g.E.Sink.faults in
     let told = subst (λ (q : PlanParts). ArePut (see c.loop-heard.streams) (see c.answer.new.streams) (exchange_texts q.tasks q.cycle (c.loop-heard.heard + 1) (before g c) c.asked_now-asked.result)) inv.plan put in
     turn-put p.tasks p.cycle (c.loop-heard.heard + 1) (see c.args.streams.now) (see c.loop-heard.streams) (see c.answer.new.streams) inv.heards (now_heard g c) c.asked_now-asked.result (number g c) (is_asked g c) inv.put told
 
@@ -134,6 +135,7 @@ loop-heard-preserved g c =
       count = omega (arith, length-append inv.heards (now_heard g o ∷ []), inv.count);
       stands = subst (StandsFor c.answer.new.exec) (turn-history p.tasks p.cycle inv.heards (now_heard g o) c.asked_now-asked.result (is_asked g o)) stands;
       plan = c.in_ok-answer.ensures.plan ∙ inv.plan;
+      same = c.in_ok-answer.ensures.same ∙ inv.same;
       misread = omega (arith, inv.misread, c.hear.ensures.counted);
       put = all_put g o (c.in_ok-answer.ensures.put (before g o) inv.stands);
     }

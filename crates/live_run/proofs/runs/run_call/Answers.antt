@@ -9,15 +9,15 @@ use Rattle.live_run.specs.Runs.{IsStatusTold}
 use Rattle.live_run.proofs.RunLemmas.{memory-named}
 use Rattle.live_run.proofs.runs.run_call.Goals as goal
 
-pub returns-in-Err : goal.returns-in-Err
-returns-in-Err g c =
+pub returns-in-Err-clause-whole : goal.returns-in-Err-clause-whole
+returns-in-Err-clause-whole g c =
     let s = c.args.streams.now in
     let words = c.args.words.now in
     let e = g.E.Sink in
-    let told = subst (λ (r : LiveRefusal). IsStatusTold words [] r (e.written s.faults) (e.written c.tell_unnamed.new.err) (e.faults s.faults) (e.faults c.tell_unnamed.new.err) c.tell_unnamed.result) c.from.ensures c.tell_unnamed.ensures in
+    let told = subst (λ (r : LiveRefusal). IsStatusTold words [] r (e.written s.faults) (e.written c.tell_unnamed.new.err) (e.faults s.faults) (e.faults c.tell_unnamed.new.err) c.tell_unnamed.result) c.from.ensures c.tell_unnamed.ensures.told in
     record {
       outcome = Err (Run Memory);
-      ended = seen g.K.Sink.written g.K.Sink.faults g.R.Sink.written g.R.Sink.faults g.E.Sink.written g.E.Sink.faults s;
+      ended = seen g.K.Sink.written g.K.Sink.faults g.R.RecordFile.written g.R.RecordFile.faults g.E.Sink.written g.E.Sink.faults s;
       works = inr (refl, refl, refl, refl);
       ends = (memory-named words (plan_words words c.args.call) (e.written s.faults) (e.written c.tell_unnamed.new.err) (e.faults s.faults) (e.faults c.tell_unnamed.new.err) c.tell_unnamed.result told, refl);
     }
