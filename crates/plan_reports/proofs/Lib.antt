@@ -1,3 +1,4 @@
 pub mod CheckLines
 pub mod MarginLines
 pub mod PlanLines
+pub mod WrittenVersion
