@@ -35,4 +35,5 @@ view_help =
     ++ codes "  7   standard output takes no more\n"
     ++ codes "  8   memory ran out\n"
     ++ codes "  9   B is no table of a plan\n"
-    ++ codes "  10  standard input is no trace, or is too long for a picture\n"
+    ++ codes "  10  standard input is no trace or too long for a picture, or names a task that\n"
+    ++ codes "      the plan of jobs does not have\n"

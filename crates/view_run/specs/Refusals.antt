@@ -1,5 +1,5 @@
 -- Why a trace is not shown.
-use Rattle.std.specs.Prelude.{ℕ, codes}
+use Rattle.std.specs.Prelude.{ℕ, List, codes}
 use Rattle.slot_core.specs.Output.Texts.{worded}
 use Rattle.csv_table.specs.declared.faults.CsvFault.{CsvFault}
 use Rattle.csv_table.specs.declared.faults.CsvFault.TheVariants.{Memory as TableMemory, Failed as TableFailed}
@@ -12,6 +12,10 @@ use Rattle.view_jobs.specs.declared.faults.JobsFault.TheVariants.{Memory as Jobs
 use Rattle.view_picture.specs.declared.TheConstants.{PICTURE_LIMIT}
 use Rattle.view_picture.specs.declared.faults.PictureFault.{PictureFault}
 use Rattle.view_picture.specs.declared.faults.PictureFault.TheVariants.{Memory as PictureMemory, TooLong}
+
+-- the usage
+abbrev pub view_usage : List ℕ
+view_usage = codes "usage: slotview picture | jobs T | jobs --table B | events | spans | waves"
 
 -- trace no line N
 abbrev pub no_line : ℕ → Refusal

@@ -1,7 +1,8 @@
 //! `run` over a host: its arguments, its files and its standard streams.
 
-ghost use Rattle.std.specs.Prelude.{◌≡◌, ◌↔◌, None, IfOk, IsErr};
+ghost use Rattle.std.specs.Prelude.{◌≡◌, ◌↔◌, ◌⊎◌, None, Some, IfOk, IsErr};
 ghost use Rattle.std.specs.Process.{exit_status};
+ghost use Rattle.command_line.specs.declared.pages.Page.{Page};
 ghost use Rattle.command_line.specs.declared.status.Status.{Status};
 ghost use Rattle.command_line.specs.Pages.{page_of};
 ghost use Rattle.command_line.specs.Statuses.{exit_number};
@@ -47,6 +48,8 @@ where
     ensures memory { IsErr words → result ≡ Status.Memory }
     ensures usage { IfOk words (λ words. (result ≡ Status.Usage)
         ↔ ((page_of words ≡ None) × (view_of words ≡ None))) }
+    ensures page { IfOk words (λ words. (page : Page) → page_of words ≡ Some page
+        → (result ≡ Status.Done) ⊎ (result ≡ Status.WriteFault)) }
 {
     match words {
         Ok(words) => run_over(input, out, err, rt, &words),
@@ -61,8 +64,10 @@ where
     O: Write + Drop,
     E: Write + Drop,
     R: Files + AllocGlobal + Drop,
-    ensures { (result ≡ Status.Usage)
+    ensures usage { (result ≡ Status.Usage)
         ↔ ((page_of words.now ≡ None) × (view_of words.now ≡ None)) }
+    ensures page { (page : Page) → page_of words.now ≡ Some page
+        → (result ≡ Status.Done) ⊎ (result ≡ Status.WriteFault) }
 {
     let alloc = rt.alloc();
     let mut input = HostInput::new(input);

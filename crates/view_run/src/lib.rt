@@ -2,16 +2,16 @@
 //! tables or as waves.
 #![tactic(auto)]
 
-ghost use Rattle.std.specs.Prelude.{◌≡◌, ◌≢◌, ◌↔◌, None, Some, codes};
+ghost use Rattle.std.specs.Prelude.{◌≡◌, ◌≢◌, ◌↔◌, ◌++◌, ◌∷◌, [], None, Some, codes};
 ghost use Rattle.command_line.specs.Pages.{page_of, page_text, IsPageTold};
 ghost use Rattle.command_line.specs.declared.pages.Page.{Page};
 ghost use Rattle.command_line.specs.declared.refusal.Refusal.{Refusal};
 ghost use Rattle.command_line.specs.Refusals.{refusal_line, refusal_status};
 ghost use Rattle.command_line.specs.Reports.{IsTold};
-ghost use Rattle.view_run.specs.declared.TheConstants.{USAGE};
 ghost use Rattle.view_run.specs.declared.views.View.{View};
 ghost use Rattle.view_run.specs.Names.{names_of};
 ghost use Rattle.view_run.specs.Pages.{view_help};
+ghost use Rattle.view_run.specs.Refusals.{view_usage};
 ghost use Rattle.view_run.specs.Runs.{IsRefused, IsTextDue};
 ghost use Rattle.view_run.specs.Shown.{Shows, ShowsPart};
 ghost use Rattle.view_run.specs.Views.{view_of};
@@ -61,7 +61,7 @@ pub fn run<F: Files, I: Files, K: Sink, E: Sink>(
         ↔ ((page_of words.now ≡ None) × (view_of words.now ≡ None)) }
     ensures usage_touches_nothing { result ≡ Status.Usage
         → (files.new ≡ files.old) × (input.new ≡ input.old) × (out.new ≡ out.old) }
-    ensures usage_line { result ≡ Status.Usage → IsTold USAGE.now
+    ensures usage_line { result ≡ Status.Usage → IsTold (view_usage ++ 10 ∷ [])
         (E.written err.old) (E.written err.new) (E.faults err.old) (E.faults err.new) }
 
     // The words --help and --version are answered by these texts, and nothing is read.
@@ -118,7 +118,7 @@ fn run_view_of<F: Files, I: Files, K: Sink, E: Sink>(
     ensures usage { (result ≡ Status.Usage) ↔ (view_of words.now ≡ None) }
     ensures usage_touches_nothing { result ≡ Status.Usage
         → (files.new ≡ files.old) × (input.new ≡ input.old) × (out.new ≡ out.old) }
-    ensures usage_line { result ≡ Status.Usage → IsTold USAGE.now
+    ensures usage_line { result ≡ Status.Usage → IsTold (view_usage ++ 10 ∷ [])
         (E.written err.old) (E.written err.new) (E.faults err.old) (E.faults err.new) }
     ensures done { result ≡ Status.Done → (view : View) × (view_of words.now ≡ Some view)
         × Shows (IsTextDue view (names_of words.now view) (F.held files.old) (I.held input.old))

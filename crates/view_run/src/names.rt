@@ -9,8 +9,8 @@ use crate::views::{Source, View};
 use slot_core::{Memory, Words};
 use std::alloc::Global;
 
-/// Words that name the file of a plan and standard input where `run_outcome` has them: the task
-/// file or table in the second place, and the trace in the fourth.
+/// Words that name the files of a view in the places that `File` gives them: the task file or table
+/// in the second place, and standard input, which holds the trace, in the fourth.
 pub(crate) type Names = Words;
 
 /// The names of the files of the view.

@@ -53,6 +53,7 @@ statuses:
   7   standard output takes no more
   8   memory ran out
   9   B is no table of a plan
-  10  standard input is no trace, or is too long for a picture
+  10  standard input is no trace or too long for a picture, or names a task that
+      the plan of jobs does not have
 "
 }

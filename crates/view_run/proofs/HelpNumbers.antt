@@ -1,0 +1,16 @@
+-- The numbers in the help are the limits. Each list holds by computing the definitions.
+use Rattle.std.specs.Prelude.{◌≡◌, [], ◌∷◌, refl}
+use Rattle.slot_core.specs.declared.TheConstants.{TASK_FILE_LIMIT, TABLE_FILE_LIMIT}
+use Rattle.trace_lines.specs.declared.TheConstants.{READ_LINE_LIMIT}
+use Rattle.view_picture.specs.declared.TheConstants.{PICTURE_LIMIT}
+use Rattle.view_run.specs.declared.TheConstants.{INPUT_LIMIT}
+
+-- bytes of T, of B, of the trace and of a line
+pub bytes :
+    TASK_FILE_LIMIT ∷ TABLE_FILE_LIMIT ∷ INPUT_LIMIT ∷ READ_LINE_LIMIT ∷ []
+    ≡ 1048576 ∷ 4194304 ∷ 67108864 ∷ 1024 ∷ []
+bytes = refl
+
+-- slots of a picture
+pub slots : PICTURE_LIMIT ≡ 10000
+slots = refl
