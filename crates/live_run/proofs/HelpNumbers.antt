@@ -1,6 +1,6 @@
 -- The numbers in the help are the limits. Each list holds by computing the definitions.
-use Rattle.std.specs.Prelude.{◌≡◌, ◌^◌, [], ◌∷◌, refl}
-use Rattle.slot_core.specs.declared.TheConstants.{TASK_FILE_LIMIT, TABLE_FILE_LIMIT, OFFER_LIMIT, ARRIVAL_LIMIT, REPLAY_LIMIT, NUMBER_LIMIT}
+use Rattle.std.specs.Prelude.{◌≡◌, [], ◌∷◌, refl}
+use Rattle.slot_core.specs.declared.TheConstants.{TASK_FILE_LIMIT, TABLE_FILE_LIMIT, OFFER_LIMIT, ARRIVAL_LIMIT, REPLAY_LIMIT, NUMBER_LIMIT, TIME_LIMIT}
 use Rattle.live_lines.specs.declared.TheConstants.{HEARD_LIMIT}
 
 -- bytes of T, of B and of a line
@@ -9,6 +9,6 @@ bytes = refl
 
 -- SLOTS and WITHIN, ROW and the arrivals, N, INSTANCE, and the time
 pub numbers :
-    OFFER_LIMIT ∷ ARRIVAL_LIMIT ∷ REPLAY_LIMIT ∷ NUMBER_LIMIT ∷ 2 ^ 32 ∷ []
-    ≡ 65535 ∷ 65535 ∷ 100000 ∷ 4294967295 ∷ 4294967296 ∷ []
+    OFFER_LIMIT ∷ ARRIVAL_LIMIT ∷ REPLAY_LIMIT ∷ NUMBER_LIMIT ∷ TIME_LIMIT ∷ []
+    ≡ 65535 ∷ 65535 ∷ 100000 ∷ 4294967295 ∷ 17592186044416 ∷ []
 numbers = refl

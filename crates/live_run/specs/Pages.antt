@@ -38,7 +38,7 @@ live_help =
     ++ codes "\n"
     ++ codes "A line has at most 256 bytes, and one space between two words. A faulty line\n"
     ++ codes "changes nothing: it is answered refused, and standard error tells why. So is an\n"
-    ++ codes "arrival after 65535 others, and slots that would pass the time 4294967296.\n"
+    ++ codes "arrival after 65535 others, and slots that would pass the time 17592186044416.\n"
     ++ codes "\n"
     ++ codes "statuses:\n"
     ++ codes "  0   the run came to its end, whatever was refused\n"

@@ -29,9 +29,6 @@ use slot_exec::Exec;
 use slot_io::Sink;
 use std::sync::ledger::Ledger;
 
-/// The last time to which slots may pass.
-const LAST_TIME: u64 = TIME_LIMIT;
-
 /// What is asked for now by what the source gave: a command, or why it is refused.
 pub(crate) fn asked_now<T: SpareTable, S: LineSource>(
     exec: &Exec<T>,
@@ -66,7 +63,7 @@ fn allowed(row: u32, time: u64, command: LiveCommand) -> Result<LiveCommand, Lin
 {
     match command {
         LiveCommand::Arrive(_) if row >= ARRIVAL_LIMIT => Err(LineFault::NoMoreRows),
-        LiveCommand::Pass(slots) if time + u64::from(slots) > LAST_TIME => {
+        LiveCommand::Pass(slots) if time + u64::from(slots) > TIME_LIMIT => {
             Err(LineFault::NoMoreSlots)
         }
         other => Ok(other),

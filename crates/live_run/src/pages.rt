@@ -70,7 +70,7 @@ commands, and what they are answered:
 
 A line has at most 256 bytes, and one space between two words. A faulty line
 changes nothing: it is answered refused, and standard error tells why. So is an
-arrival after 65535 others, and slots that would pass the time 4294967296.
+arrival after 65535 others, and slots that would pass the time 17592186044416.
 
 statuses:
   0   the run came to its end, whatever was refused

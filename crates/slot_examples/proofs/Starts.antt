@@ -1,5 +1,5 @@
 -- Slots that lie at or after derived starts, and one that does not.
-use Rattle.std.specs.Prelude.{◌≡◌, ℕ, ◌+◌, ◌<◌, ◌≤◌, true, List, [], ◌∷◌, slice_get, codes, Option, Some, None, refl}
+use Rattle.std.specs.Prelude.{◌≡◌, ℕ, ◌+◌, ◌≤◌, List, [], ◌∷◌, slice_get, codes, Option, Some, None, refl}
 use Rattle.std.proofs.Common.{arith}
 use Rattle.slot_core.specs.declared.jobs.Key.TheVariants.{Offline}
 use Rattle.slot_core.specs.declared.events.Event.TheVariants.{Done as DoneEvent}
