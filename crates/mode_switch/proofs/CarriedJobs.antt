@@ -17,7 +17,7 @@ use Rattle.slot_facts.proofs.Lists.ApartKeys.{IsApart-from_count}
 use Rattle.slot_facts.proofs.Offline.DistinctKeys.{IsApart}
 use Rattle.slot_facts.proofs.Plans.InOrder.{AreInDeadlineOrder-in_order, AreInDeadlineOrder-one, IsPermutation-in_order}
 use Rattle.slot_facts.proofs.Plans.SortedJobs.{AreInDeadlineOrder-from_sorted}
-use Rattle.mode_switch.specs.Carried.{carried_of}
+use Rattle.change_laws.specs.Carried.{carried_of}
 use Rattle.mode_switch.specs.Keeping.{carried_from}
 
 -- of one more job

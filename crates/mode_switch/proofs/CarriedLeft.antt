@@ -7,7 +7,7 @@ use Rattle.std.proofs.lemmas.List.{length-map}
 use Rattle.std.proofs.lemmas.List.Elements.{All-head, All-from_recursion, recursion_from_All}
 use Rattle.std.proofs.lemmas.Option.{slice_get-get_or}
 use Rattle.slot_core.specs.declared.jobs.Job.{Job}
-use Rattle.mode_switch.specs.Carried.{since}
+use Rattle.change_laws.specs.Carried.{since}
 use Rattle.mode_switch.specs.Keeping.{carried_left, front_run, with_run}
 
 -- they begin with the job at that place

@@ -22,7 +22,7 @@ use Rattle.slot_facts.proofs.Lists.SameItems.{same-filter}
 use Rattle.slot_facts.proofs.Offline.DistinctKeys.{IsApart, IsApart-map, offline_jobs-apart}
 use Rattle.slot_facts.proofs.Offline.Jobs.{offline_from_cycles, offline-named}
 use Rattle.job_queue.specs.Queues.{QueueParts}
-use Rattle.mode_switch.specs.Carried.{jobs_after, since}
+use Rattle.change_laws.specs.Carried.{jobs_after, since}
 use Rattle.mode_switch.specs.Keeping.{KeepsChange, NoneIsReady, carried_left, history_of_change, own_left}
 use Rattle.mode_switch.specs.Parts.{ChangeParts}
 use Rattle.mode_switch.specs.Runs.{IsServedAfter, after_change, turn_at, turn_between}
@@ -30,7 +30,7 @@ use Rattle.mode_switch.specs.declared.turns.Turn.{Turn}
 use Rattle.mode_switch.specs.declared.turns.Turn.TheVariants.{Idle, Old, New}
 use Rattle.mode_switch.proofs.ChangeTurns.{AreSides, IsTurn, earliest-any_order, first-from_old, first_member, chosen_one, none-from_idle, other-from_new}
 use Rattle.mode_switch.proofs.DeadlineOrder.{carried_left-ordered, earliest-all_ready}
-use Rattle.mode_switch.proofs.GrantJobs.{IsSince, IsSince-from_carried}
+use Rattle.change_laws.proofs.GrantJobs.{IsSince, IsSince-from_carried}
 use Rattle.mode_switch.proofs.ServedChanges.{changes_are_served}
 use Rattle.mode_switch.proofs.ServedRuns.{time_of-after_change}
 

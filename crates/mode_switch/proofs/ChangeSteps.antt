@@ -28,8 +28,8 @@ use Rattle.scene_steps.proofs.Same.SameScenes.{same-trans}
 use Rattle.scene_steps.proofs.Slots.NewParts.{cycle_jobs-same}
 use Rattle.job_queue.specs.Queues.{QueueParts}
 use Rattle.slot_exec.specs.Changes.{jobs_in_cycle}
-use Rattle.mode_switch.specs.Carried.{AreCarried, jobs_after, since}
-use Rattle.mode_switch.specs.Grants.{CanChange}
+use Rattle.change_laws.specs.Carried.{AreCarried, jobs_after, since}
+use Rattle.change_laws.specs.Grants.{CanChange}
 use Rattle.mode_switch.specs.Keeping.{KeepsChange, carried_after, carried_left, history_of_change, own_after, own_left}
 use Rattle.mode_switch.specs.Parts.{ChangeParts, time_of_change}
 use Rattle.mode_switch.specs.Runs.{IsServedAfter, after_change, ran_in, turn_at, turn_between}
@@ -37,7 +37,7 @@ use Rattle.mode_switch.specs.declared.turns.Turn.{Turn}
 use Rattle.mode_switch.proofs.ChangeFacts.{front-apart, front-left, own-some, served, sides, turn-is, turn-own, turn-queue}
 use Rattle.mode_switch.proofs.CarriedLeft.{with_run-none}
 use Rattle.mode_switch.proofs.ChangeTurns.{AreSides, carried-ran, own-ran, own_after-same}
-use Rattle.mode_switch.proofs.GrantJobs.{IsSince, IsSince-from_carried}
+use Rattle.change_laws.proofs.GrantJobs.{IsSince, IsSince-from_carried}
 use Rattle.mode_switch.proofs.ServedRuns.{executed-ran, none_freed, ran-from_test, time_of-after_change}
 use Rattle.scene_steps.proofs.Same.SameSearches.{Has-same}
 

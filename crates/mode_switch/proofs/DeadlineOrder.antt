@@ -11,7 +11,7 @@ use Rattle.slot_core.specs.Keeping.Plans.{AreInDeadlineOrder}
 use Rattle.slot_core.specs.Runs.Choice.{earlier_of, earliest, ready}
 use Rattle.slot_facts.proofs.Lists.Members.{Has}
 use Rattle.slot_facts.proofs.Plans.InOrder.{is_earlier-one_way}
-use Rattle.mode_switch.specs.Carried.{since}
+use Rattle.change_laws.specs.Carried.{since}
 use Rattle.mode_switch.specs.Keeping.{carried_left, with_run}
 use Rattle.interval_build.proofs.Due.{AreInDeadlineOrder-drop}
 

@@ -16,7 +16,7 @@ use Rattle.slot_core.specs.Runs.Demand.{work_by}
 use Rattle.slot_facts.proofs.Plans.Items.{one_more_job}
 use Rattle.slot_facts.proofs.Scheduling.Beside.{work_by-both}
 use Rattle.scene_steps.proofs.Slots.NewParts.{cycle_jobs-same}
-use Rattle.mode_switch.specs.Carried.{since}
+use Rattle.change_laws.specs.Carried.{since}
 use Rattle.mode_switch.specs.DueTables.{sum_to}
 
 -- a time at or after which a number counts, and one before it

@@ -14,13 +14,13 @@ use Rattle.slot_facts.proofs.Demand.Feasible.{IsFeasible-from_none}
 use Rattle.slot_facts.proofs.Lists.Members.{Has-from_Contains}
 use Rattle.slot_facts.proofs.Lists.ApartKeys.{AreApart-from_members}
 use Rattle.mode_switch.specs.declared.turns.Turn.TheVariants.{Old, New}
-use Rattle.mode_switch.specs.Carried.{carried_of, since, cycles_of_change, jobs_after, AreCarried}
-use Rattle.mode_switch.specs.Grants.{CanChange}
-use Rattle.mode_switch.specs.Demand.{due_after, refusal_of, ShowsNoRoom}
-use Rattle.mode_switch.specs.Literal.{moved, moved_release, moved_deadline, due_at}
+use Rattle.change_laws.specs.Carried.{carried_of, since, cycles_of_change, jobs_after, AreCarried}
+use Rattle.change_laws.specs.Grants.{CanChange}
+use Rattle.change_laws.specs.Demand.{due_after, refusal_of, ShowsNoRoom}
+use Rattle.change_laws.specs.Literal.{moved, moved_release, moved_deadline, due_at}
 use Rattle.mode_switch.specs.Runs.{turn_between, turn_at, after_change, IsServedAfter}
 use Rattle.mode_switch.specs.Texts.{change_text}
-use Rattle.mode_switch.proofs.GrantRefusals.{shows-from_refusal, refusals_are_exact}
+use Rattle.change_laws.proofs.GrantRefusals.{shows-from_refusal, refusals_are_exact}
 
 -- a graph of one task
 abbrev lone : List ℕ → ℕ → ℕ → ℕ → Graph

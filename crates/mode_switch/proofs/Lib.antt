@@ -7,14 +7,6 @@ pub mod CycleQueues
 pub mod DeadlineOrder
 pub mod DueSums
 pub mod GrantCases
-pub mod GrantExact
-pub mod GrantForEver
-pub mod GrantJobs
-pub mod GrantLiteral
-pub mod GrantMoved
-pub mod GrantPatterns
-pub mod GrantRefusals
-pub mod GrantWindows
 pub mod Openings
 pub mod ServedChanges
 pub mod ServedChoices

@@ -26,14 +26,14 @@ use Rattle.slot_facts.proofs.Plans.InOrder.{AreInDeadlineOrder-in_order, AreInDe
 use Rattle.slot_facts.proofs.Plans.Items.{plan_cycle-bounds}
 use Rattle.scene_steps.proofs.Slots.Places.{AreApart-same}
 use Rattle.slot_exec.proofs.ShownExecutives.{job-named}
-use Rattle.mode_switch.specs.Carried.{AreCarried, carried_of, cycles_of_change}
-use Rattle.mode_switch.specs.Demand.{FitsFor, ShowsNoRoom, refusal_of}
-use Rattle.mode_switch.specs.Grants.{CanChange}
+use Rattle.change_laws.specs.Carried.{AreCarried, carried_of, cycles_of_change}
+use Rattle.change_laws.specs.Demand.{FitsFor, ShowsNoRoom, refusal_of}
+use Rattle.change_laws.specs.Grants.{CanChange}
 use Rattle.mode_switch.specs.Keeping.{carried_from}
 use Rattle.mode_switch.proofs.CarriedJobs.{carried_of-apart}
-use Rattle.mode_switch.proofs.GrantExact.{changes_are_exact}
-use Rattle.mode_switch.proofs.GrantJobs.{what_remains_is_carried}
-use Rattle.mode_switch.proofs.GrantRefusals.{refusals_are_exact}
+use Rattle.change_laws.proofs.GrantExact.{changes_are_exact}
+use Rattle.change_laws.proofs.GrantJobs.{what_remains_is_carried}
+use Rattle.change_laws.proofs.GrantRefusals.{refusals_are_exact}
 
 -- a carried job is one of the jobs, and is not offline
 carried-one : (jobs : List Job) (job : Job) → Contains (carried_from jobs) job → Has jobs job × (is_offline job.key ≡ false)

@@ -12,12 +12,12 @@ use Rattle.slot_core.specs.Feasibility.Feasible.{IsFeasible}
 use Rattle.slot_core.specs.Runs.Histories.{History}
 use Rattle.slot_facts.proofs.Lists.Members.{Has, Has-from_Contains, Contains-from_Has, Has-append_left, Has-append_right, Has-append_cases}
 use Rattle.slot_facts.proofs.Offline.Jobs.{cycle-positive}
-use Rattle.mode_switch.specs.Carried.{since, cycles_of_change, jobs_after, AreCarried}
-use Rattle.mode_switch.specs.Demand.{FitsFor}
+use Rattle.change_laws.specs.Carried.{since, cycles_of_change, jobs_after, AreCarried}
+use Rattle.change_laws.specs.Demand.{FitsFor}
 use Rattle.mode_switch.specs.Runs.{after_change, IsServedAfter}
 use Rattle.mode_switch.specs.Laws.{ChangesAreServed}
-use Rattle.mode_switch.proofs.GrantExact.{changes_are_exact}
-use Rattle.mode_switch.proofs.GrantForEver.{fits_for_ever}
+use Rattle.change_laws.proofs.GrantExact.{changes_are_exact}
+use Rattle.change_laws.proofs.GrantForEver.{fits_for_ever}
 use Rattle.mode_switch.proofs.ServedRuns.{served}
 
 -- the offline jobs of some cycles are among those of more

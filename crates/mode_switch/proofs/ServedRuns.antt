@@ -29,11 +29,11 @@ use Rattle.slot_facts.proofs.Offline.Jobs.{cycle-positive}
 use Rattle.slot_facts.proofs.Replays.Entries.{time_of-ran}
 use Rattle.slot_facts.proofs.Scheduling.Queue.{is_run_of}
 use Rattle.slot_facts.proofs.Scheduling.Raw.{IsInRaw-from_planned, IsBefore-from_planned}
-use Rattle.mode_switch.specs.Carried.{since, jobs_after, AreCarried}
-use Rattle.mode_switch.specs.Demand.{FitsFor}
+use Rattle.change_laws.specs.Carried.{since, jobs_after, AreCarried}
+use Rattle.change_laws.specs.Demand.{FitsFor}
 use Rattle.mode_switch.specs.Runs.{turn_between, ran_in, turn_at, after_change, IsServedAfter}
-use Rattle.mode_switch.proofs.GrantExact.{jobs_after-safe}
-use Rattle.mode_switch.proofs.GrantJobs.{jobs_after-own, jobs_after-to_come}
+use Rattle.change_laws.proofs.GrantExact.{jobs_after-safe}
+use Rattle.change_laws.proofs.GrantJobs.{jobs_after-own, jobs_after-to_come}
 use Rattle.mode_switch.proofs.ServedChoices.{RunsFirst, turn-runs_first}
 
 -- in n slots n slots pass

@@ -9,8 +9,8 @@ use Rattle.slot_core.specs.Feasibility.Sporadics.{sporadic_demand}
 use Rattle.slot_core.specs.Sets.Cycles.{cycle_of}
 use Rattle.sporadic_reserve.specs.Reserves.{Reserved, without_name}
 use Rattle.sporadic_reserve.proofs.Demands.{sporadic_demand-without_name}
-use Rattle.mode_switch.specs.Carried.{cycles_of_change, jobs_after}
-use Rattle.mode_switch.specs.Demand.{due_after, FitsFor, ShowsNoRoom}
+use Rattle.change_laws.specs.Carried.{cycles_of_change, jobs_after}
+use Rattle.change_laws.specs.Demand.{due_after, FitsFor, ShowsNoRoom}
 use Rattle.mode_switch.specs.DueTables.{FitsBy, IsDueTable, IsFirstShort, needed_by}
 use Rattle.mode_switch.proofs.DueSums.{sporadic_demand-zeros}
 

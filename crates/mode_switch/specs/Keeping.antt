@@ -14,8 +14,8 @@ use Rattle.slot_core.specs.Runs.Scenes.{unended}
 use Rattle.slot_core.specs.Keeping.Executives.{Executive}
 use Rattle.slot_core.specs.Keeping.Plans.{AreInDeadlineOrder, IsPlan, PlanParts, in_deadline_order}
 use Rattle.job_queue.specs.Queues.{QueueParts}
-use Rattle.mode_switch.specs.Carried.{AreCarried, carried_of, jobs_after, since}
-use Rattle.mode_switch.specs.Grants.{CanChange}
+use Rattle.change_laws.specs.Carried.{AreCarried, carried_of, jobs_after, since}
+use Rattle.change_laws.specs.Grants.{CanChange}
 use Rattle.mode_switch.specs.Parts.{ChangeParts, time_of_change}
 use Rattle.mode_switch.specs.Runs.{after_change}
 use Rattle.mode_switch.specs.declared.turns.Turn.{Turn}

@@ -1,11 +1,7 @@
-pub mod Carried
-pub mod Demand
 pub mod DueTables
 pub mod FaultTexts
-pub mod Grants
 pub mod Keeping
 pub mod Laws
-pub mod Literal
 pub mod Naming
 pub mod Parts
 pub mod Runs

@@ -15,7 +15,7 @@ use Rattle.slot_core.specs.Runs.Traces.{told_of_slot}
 use Rattle.slot_core.specs.Claims.Service.{IsInside}
 use Rattle.mode_switch.specs.declared.turns.Turn.{Turn}
 use Rattle.mode_switch.specs.declared.turns.Turn.TheVariants.{Idle, Old, New}
-use Rattle.mode_switch.specs.Carried.{since}
+use Rattle.change_laws.specs.Carried.{since}
 
 -- the turn of a slot, between the earliest carried job that is ready and the earliest job of the
 -- second set: the lesser deadline, and the carried job where they are level

@@ -5,7 +5,7 @@ ghost use Rattle.std.specs.Cmp.Lexicographic.{slice_cmp};
 ghost use Rattle.std.specs.Ordering.{nat_cmp};
 ghost use Rattle.slot_core.specs.Keeping.Kept.{AreApart};
 ghost use Rattle.slot_core.specs.Offline.Keys.{deadline_order, is_offline};
-ghost use Rattle.mode_switch.specs.Carried.{carried_of};
+ghost use Rattle.change_laws.specs.Carried.{carried_of};
 ghost use Rattle.mode_switch.specs.Keeping.{carried_from};
 
 use interval_row::SpareTable;

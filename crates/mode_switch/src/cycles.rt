@@ -7,7 +7,7 @@ ghost use Rattle.slot_core.specs.Keeping.Kept.{AreApart};
 ghost use Rattle.slot_core.specs.Keeping.Plans.{IsPlan};
 ghost use Rattle.slot_core.specs.Runs.Matches.{HaveSameItems};
 ghost use Rattle.slot_exec.specs.Changes.{jobs_in_cycle};
-ghost use Rattle.mode_switch.specs.Carried.{cycles_of_change};
+ghost use Rattle.change_laws.specs.Carried.{cycles_of_change};
 
 use cycle_plan::Plan;
 use job_queue::JobQueue;

@@ -7,8 +7,8 @@ ghost use Rattle.slot_core.specs.Keeping.Plans.{IsPlan};
 ghost use Rattle.slot_core.specs.Offline.OfflineJobs.{cycle_jobs, offline_jobs};
 ghost use Rattle.slot_core.specs.Runs.Demand.{work_by};
 ghost use Rattle.slot_core.specs.Sets.Cycles.{cycle_of};
-ghost use Rattle.mode_switch.specs.Carried.{cycles_of_change, jobs_after, since};
-ghost use Rattle.mode_switch.specs.Demand.{FitsFor, ShowsNoRoom};
+ghost use Rattle.change_laws.specs.Carried.{cycles_of_change, jobs_after, since};
+ghost use Rattle.change_laws.specs.Demand.{FitsFor, ShowsNoRoom};
 ghost use Rattle.mode_switch.specs.DueTables.{FitsBy, IsDueTable, IsFirstShort, needed_by, sum_to};
 
 use crate::cycles::cycles_of;

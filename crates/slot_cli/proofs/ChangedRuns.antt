@@ -26,10 +26,10 @@ use Rattle.slot_core.specs.Runs.Traces.{IsLegal, history_of, trace}
 use Rattle.slot_core.specs.Sets.Cycles.{cycle_of}
 use Rattle.slot_facts.proofs.Legal.Executives.{every_executive_is_kept}
 use Rattle.slot_facts.proofs.Replays.Times.{time_of-trace}
-use Rattle.mode_switch.specs.Carried.{AreCarried}
-use Rattle.mode_switch.specs.Demand.{refusal_of}
+use Rattle.change_laws.specs.Carried.{AreCarried}
+use Rattle.change_laws.specs.Demand.{refusal_of}
 use Rattle.mode_switch.specs.Texts.{change_text}
-use Rattle.mode_switch.proofs.GrantRefusals.{refusals_are_exact}
+use Rattle.change_laws.proofs.GrantRefusals.{refusals_are_exact}
 use Rattle.mode_switch.proofs.Openings.{carried-may}
 use Rattle.mode_switch.proofs.ServedChanges.{changes_are_served}
 use Rattle.slot_cli.specs.Changed.{carried_after, change_due, changed, history_to, IsChangeExact, IsGranted, IsDenied}

@@ -9,9 +9,9 @@ use Rattle.slot_core.specs.Output.Texts.{trace_text}
 use Rattle.slot_core.specs.Runs.Histories.{History, last_row}
 use Rattle.slot_core.specs.Runs.Scenes.{remaining}
 use Rattle.slot_core.specs.Runs.Traces.{history_of, trace}
-use Rattle.mode_switch.specs.Carried.{jobs_after}
-use Rattle.mode_switch.specs.Demand.{ShowsNoRoom, refusal_of}
-use Rattle.mode_switch.specs.Grants.{CanChange}
+use Rattle.change_laws.specs.Carried.{jobs_after}
+use Rattle.change_laws.specs.Demand.{ShowsNoRoom, refusal_of}
+use Rattle.change_laws.specs.Grants.{CanChange}
 use Rattle.mode_switch.specs.Keeping.{carried_from}
 use Rattle.mode_switch.specs.Runs.{IsServedAfter, after_change}
 use Rattle.mode_switch.specs.Texts.{change_text}

@@ -5,7 +5,7 @@ use Rattle.std.proofs.lemmas.Cmp.{nat_list_cmp_total}
 use Rattle.std.proofs.lemmas.List.Sorted.{ranks_by, answers_always}
 use Rattle.slot_core.specs.Offline.Keys.{deadline_order}
 use Rattle.slot_facts.proofs.Choice.Earliest.{job_cmp}
-use Rattle.mode_switch.specs.Carried.{carried_of}
+use Rattle.change_laws.specs.Carried.{carried_of}
 use Rattle.mode_switch.proofs.CarriedJobs.{carried_from-sorted}
 use Rattle.mode_switch.proofs.carried.carried_jobs.Goals as goal
 

@@ -1,6 +1,6 @@
 -- One more job is kept or not.
 use Rattle.std.proofs.Common.{◌≡◌, ◌++◌, ◌∷◌, [], ap, sym, ◌∙◌}
-use Rattle.mode_switch.specs.Carried.{carried_of}
+use Rattle.change_laws.specs.Carried.{carried_of}
 use Rattle.mode_switch.proofs.CarriedJobs.{carried_of-more}
 use Rattle.mode_switch.proofs.carried.gather.Goals as goal
 

@@ -1,6 +1,6 @@
 -- The firm and sporadic jobs among those so far.
 use Rattle.std.proofs.Common.{◌≡◌, take}
-use Rattle.mode_switch.specs.Carried.{carried_of}
+use Rattle.change_laws.specs.Carried.{carried_of}
 use Rattle.mode_switch.proofs.carried.gather.Given as goal
 
 abbrev pub invariant-loop-i : goal.invariant-loop-i

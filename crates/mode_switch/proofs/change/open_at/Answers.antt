@@ -3,8 +3,8 @@ use Rattle.std.proofs.Common.{◌≡◌, Option, subst}
 use Rattle.std.specs.Prelude.{MatchOption}
 use Rattle.slot_core.specs.declared.jobs.Evidence.{Evidence}
 use Rattle.slot_core.specs.Sets.Cycles.{cycle_of}
-use Rattle.mode_switch.specs.Carried.{cycles_of_change}
-use Rattle.mode_switch.specs.Demand.{FitsFor, ShowsNoRoom}
+use Rattle.change_laws.specs.Carried.{cycles_of_change}
+use Rattle.change_laws.specs.Demand.{FitsFor, ShowsNoRoom}
 use Rattle.mode_switch.specs.Keeping.{carried_from}
 use Rattle.mode_switch.proofs.Openings.{can-parts, cannot-from_shows, evidence-from_shows, few-parts, grant-parts, near-parts, none-from_can, ordered-parts, shows-parts}
 use Rattle.mode_switch.proofs.change.open_at.Goals as goal

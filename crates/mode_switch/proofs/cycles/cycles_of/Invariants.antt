@@ -1,6 +1,6 @@
 -- The greatest number of cycles for the jobs so far.
 use Rattle.std.proofs.Common.{◌≡◌, ◌≤◌, take}
-use Rattle.mode_switch.specs.Carried.{cycles_of_change}
+use Rattle.change_laws.specs.Carried.{cycles_of_change}
 use Rattle.mode_switch.proofs.cycles.cycles_of.Given as goal
 
 abbrev pub invariant-loop-job : goal.invariant-loop-job

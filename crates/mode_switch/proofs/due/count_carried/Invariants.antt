@@ -1,7 +1,7 @@
 -- What the jobs so far have left is counted.
 use Rattle.std.proofs.Common.{◌≡◌, ℕ, ◌+◌, ◌*◌, ◌^◌, ◌<◌, ◌≤◌, length, map, sum, take}
 use Rattle.slot_core.specs.Runs.Demand.{work_by}
-use Rattle.mode_switch.specs.Carried.{since}
+use Rattle.change_laws.specs.Carried.{since}
 use Rattle.mode_switch.specs.DueTables.{sum_to}
 use Rattle.mode_switch.proofs.due.count_carried.Given as goal
 

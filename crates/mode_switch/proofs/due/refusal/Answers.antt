@@ -2,7 +2,7 @@
 use Rattle.std.proofs.Common.{◌*◌, ap, subst, ◌∙◌, arith}
 use Rattle.slot_core.specs.Sets.Cycles.{cycle_of}
 use Rattle.slot_facts.proofs.Plans.Items.{plan_cycle-bounds}
-use Rattle.mode_switch.specs.Carried.{cycles_of_change, jobs_after}
+use Rattle.change_laws.specs.Carried.{cycles_of_change, jobs_after}
 use Rattle.mode_switch.specs.DueTables.{IsDueTable}
 use Rattle.mode_switch.proofs.Shortages.{few_places, first_reserve, refusal-from_short}
 use Rattle.mode_switch.proofs.due.refusal.Goals as goal

@@ -1,8 +1,8 @@
 -- The invariant says it of the parts that are seen.
 use Rattle.std.proofs.Common.{ℕ, ◌+◌, subst}
 use Rattle.slot_core.specs.Keeping.Plans.{AreInDeadlineOrder}
-use Rattle.mode_switch.specs.Carried.{AreCarried, jobs_after}
-use Rattle.mode_switch.specs.Grants.{CanChange}
+use Rattle.change_laws.specs.Carried.{AreCarried, jobs_after}
+use Rattle.change_laws.specs.Grants.{CanChange}
 use Rattle.mode_switch.specs.Keeping.{history_of_change}
 use Rattle.mode_switch.specs.Parts.{ChangeParts}
 use Rattle.mode_switch.specs.Runs.{IsServedAfter}

@@ -1,5 +1,0 @@
-use Rattle.mode_switch.proofs.GrantRefusals.{the_densest_pattern_shows_no_room}
-use Rattle.mode_switch.proofs.laws.the_densest_pattern_shows_no_room.Goals as goal
-
-pub returns : goal.returns
-returns c = the_densest_pattern_shows_no_room
