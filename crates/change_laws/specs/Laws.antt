@@ -10,7 +10,7 @@ use Rattle.slot_core.specs.Feasibility.Sporadics.{densest_pattern, IsLegalPatter
 use Rattle.slot_core.specs.Runs.Demand.{work_from}
 use Rattle.slot_core.specs.Claims.Schedules.{IsSchedule, HasSchedule}
 use Rattle.slot_core.specs.Keeping.Executives.{Executive, IsKept}
-use Rattle.change_laws.specs.Carried.{carried_of, cycles_of_change, jobs_after, AreCarried, IsLeastCycles}
+use Rattle.change_laws.specs.Carried.{carried_of, cycles_of_change, AreCarried, IsLeastCycles}
 use Rattle.change_laws.specs.Grants.{jobs_with, CanChangeFor, CanChange}
 use Rattle.change_laws.specs.Demand.{due_after, FitsFor, refusal_of, ShowsNoRoom}
 use Rattle.change_laws.specs.Literal.{CanChangeAt, FitsAt, due_at}
