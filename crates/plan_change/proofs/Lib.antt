@@ -1,0 +1,11 @@
+pub mod CarriedOrder
+pub mod CarriedRows
+pub mod CarriedServed
+pub mod FirstOffers
+pub mod FreshStart
+pub mod OneMore
+pub mod OwnRows
+pub mod RowOrder
+pub mod SwitchVerdicts
+pub mod Together
+pub mod UnderWay

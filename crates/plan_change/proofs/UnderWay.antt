@@ -1,0 +1,177 @@
+-- Offers that are made one after the other: what is known on the way, at the end, and where one has no room.
+use Rattle.std.proofs.Common.{◌≡◌, ℕ, ◌+◌, ◌-◌, ◌≤◌, true, cond, List, [], ◌∷◌, ◌++◌, refl, sym, ap, ◌∙◌, subst, arith}
+use Rattle.std.specs.Prelude.{nat_le}
+use Rattle.std.proofs.lemmas.Bool.Decides.{nat_tests}
+use Rattle.std.proofs.lemmas.List.{append-nil, append_assoc}
+use Rattle.slot_core.specs.declared.jobs.Evidence.{Evidence}
+use Rattle.slot_core.specs.declared.tasks.TaskSet.{TaskSet}
+use Rattle.slot_core.specs.declared.events.What.TheVariants.{Firm}
+use Rattle.slot_core.specs.declared.events.Firm.{Firm as FirmAnswer}
+use Rattle.slot_core.specs.declared.events.Firm.TheVariants.{Accepted, NoRoom}
+use Rattle.slot_core.specs.Sets.Cycles.{cycle_of}
+use Rattle.slot_core.specs.Sets.Ranges.{is_sound}
+use Rattle.slot_core.specs.Feasibility.Feasible.{IsFeasible}
+use Rattle.slot_core.specs.Keeping.Executives.{Executive, StandsFor}
+use Rattle.slot_core.specs.Keeping.Plans.{IsPlan, PlanParts}
+use Rattle.slot_core.specs.Runs.Answers.{firm_answer}
+use Rattle.slot_core.specs.Runs.Demand.{need_by, work_by}
+use Rattle.slot_core.specs.Runs.Histories.{History, time_of}
+use Rattle.slot_core.specs.Runs.Scenes.{scene_of}
+use Rattle.slot_core.specs.Runs.Traces.{started}
+use Rattle.slot_facts.proofs.Offers.Answers.{short-from_no_room}
+use Rattle.plan_change.specs.declared.offers.Offer.{Offer}
+use Rattle.plan_change.specs.Changed.{CanStartWith, HasNoRoom, IsChanged}
+use Rattle.plan_change.specs.Offers.{accepted_after, AllAccepted, first_jobs, MayBeOffered}
+use Rattle.plan_change.proofs.FirstOffers.{due-first, first_exactly}
+use Rattle.plan_change.proofs.Together.{need-after, work_by-offers}
+
+-- offers and more offers
+accepted_after-append : (h : History) (xs ys : List Offer) → accepted_after h (xs ++ ys) ≡ accepted_after (accepted_after h xs) ys
+accepted_after-append h [] ys = refl
+accepted_after-append h (x ∷ xs) ys = accepted_after-append (Firm x.row x.slots x.within Accepted ∷ h) xs ys
+
+AllAccepted-append : (set : TaskSet) (cycle : ℕ) (h : History) (xs ys : List Offer) → AllAccepted set cycle h xs → AllAccepted set cycle (accepted_after h xs) ys → AllAccepted set cycle h (xs ++ ys)
+AllAccepted-append set cycle h [] ys first second = second
+AllAccepted-append set cycle h (x ∷ xs) ys first second =
+    (first.0, AllAccepted-append set cycle (Firm x.row x.slots x.within Accepted ∷ h) xs ys first.1 second)
+
+AllAccepted-rest : (set : TaskSet) (cycle : ℕ) (h : History) (xs ys : List Offer) → AllAccepted set cycle h (xs ++ ys) → AllAccepted set cycle (accepted_after h xs) ys
+AllAccepted-rest set cycle h [] ys all = all
+AllAccepted-rest set cycle h (x ∷ xs) ys all =
+    AllAccepted-rest set cycle (Firm x.row x.slots x.within Accepted ∷ h) xs ys all.1
+
+MayBeOffered-front : (cycle row : ℕ) (xs ys : List Offer) → MayBeOffered cycle row (xs ++ ys) → MayBeOffered cycle row xs
+MayBeOffered-front cycle row [] ys may = tt
+MayBeOffered-front cycle row (x ∷ xs) ys may = (may.0, MayBeOffered-front cycle x.row xs ys may.1)
+
+-- they take no slot
+pub time-accepted : (h : History) (offers : List Offer) → time_of (accepted_after h offers) ≡ time_of h
+time-accepted h [] = refl
+time-accepted h (offer ∷ offers) = time-accepted (Firm offer.row offer.slots offer.within Accepted ∷ h) offers
+
+counts-due : (dl slots x : ℕ) → dl ≤ x → cond (nat_le (0 + dl) x) slots 0 ≡ slots
+counts-due dl slots x due = grind (arith, nat_tests)
+
+-- the work of one more offer at the end
+work-more : (before : List Offer) (offer : Offer) (x : ℕ) → work_by (first_jobs (before ++ offer ∷ [])) x ≡ work_by (first_jobs before) x + cond (nat_le (0 + offer.within) x) offer.slots 0
+work-more [] offer x = omega (arith, work_by-offers 0 offer [] x)
+work-more (first ∷ before) offer x =
+    omega (arith, work_by-offers 0 first (before ++ offer ∷ []) x, work_by-offers 0 first before x, work-more before offer x)
+
+-- an offer that has no room after others
+module _ (set : TaskSet) (sound : is_sound set ≡ true) (feasible : IsFeasible set (cycle_of set)) (before rest : List Offer) (offer : Offer) (may : MayBeOffered (cycle_of set) 0 (before ++ offer ∷ rest)) (accepted : AllAccepted set (cycle_of set) started before) (e : Evidence) (answer : firm_answer set.sporadics (cycle_of set) (scene_of set (cycle_of set) (accepted_after started before)) offer.slots offer.within ≡ NoRoom e) where
+  -- then all of them cannot be served
+  none-together : ¬ (CanStartWith set (before ++ offer ∷ rest))
+  none-together can =
+      let all = (first_exactly set (before ++ offer ∷ rest) sound feasible may).1 can in
+      let here = (AllAccepted-rest set (cycle_of set) started before (offer ∷ rest) all).0 in
+      cc (sym here ∙ answer)
+
+  -- and the evidence shows it
+  no_room-shown : HasNoRoom set (before ++ offer ∷ rest) (record { row = offer.row; evidence = e })
+  no_room-shown =
+      let cycle = cycle_of set in
+      let h = accepted_after started before in
+      let scene = scene_of set cycle h in
+      let x = e.until in
+      let front = MayBeOffered-front cycle 0 before (offer ∷ rest) may in
+      let short = short-from_no_room set.sporadics cycle scene offer.slots offer.within e answer in
+      let now : time_of h ≡ 0 = time-accepted started before in
+      let due : offer.within ≤ x = omega (arith, short.after, now) in
+      let needed = need-after set sound feasible started before x tt front accepted in
+      let at_zero : need_by set.sporadics scene (time_of h) x ≡ need_by set.sporadics scene 0 x = ap (λ (t : ℕ). need_by set.sporadics scene t x) now in
+      let need : e.need ≡ offer.slots + need_by set.sporadics scene (time_of h) x = ap (λ (f : Evidence). f.need) short.exact in
+      let room : e.room ≡ x - time_of h = ap (λ (f : Evidence). f.room) short.exact in
+      record {
+        before = before;
+        offer = offer;
+        rest = rest;
+        parts = refl;
+        row = refl;
+        fits = (first_exactly set before sound feasible front).0 accepted;
+        due = due;
+        need = omega (
+          arith,
+          need,
+          at_zero,
+          needed,
+          due-first set (before ++ offer ∷ []) x sound,
+          work-more before offer x,
+          counts-due offer.within offer.slots x due,
+        );
+        room = omega (arith, room, now);
+        more = omega (arith, short.short, need, room);
+      }
+
+  pub refused-here : (¬ (CanStartWith set (before ++ offer ∷ rest))) × HasNoRoom set (before ++ offer ∷ rest) (record { row = offer.row; evidence = e })
+  refused-here = (none-together, no_room-shown)
+
+-- of all offers these are left: those before them were accepted, and the executive stands for the history of that
+pub record IsUnderWay (first now : Executive) (all rest : List Offer) : Type 0 where
+  pub plan : now.plan ≡ first.plan
+  pub before : List Offer
+  pub parts : all ≡ before ++ rest
+  pub accepted : AllAccepted first.plan.tasks first.plan.cycle started before
+  pub stands : StandsFor now (accepted_after started before)
+  pub may : MayBeOffered first.plan.cycle now.last_row rest
+
+-- so it is before the first offer
+pub IsUnderWay-first : (exec : Executive) (all : List Offer) → StandsFor exec started → MayBeOffered exec.plan.cycle 0 all → IsUnderWay exec exec all all
+IsUnderWay-first exec all stands may =
+    record {
+      plan = refl;
+      before = [];
+      parts = refl;
+      accepted = tt;
+      stands = stands;
+      may = subst (λ row. MayBeOffered exec.plan.cycle row all) (sym stands.last) may;
+    }
+
+-- what an offer was answered at each history that the executive stood for
+abbrev pub IsAnswered : Executive → Offer → FirmAnswer → Type 0
+IsAnswered exec offer answer =
+    (h : History) → StandsFor exec h
+    → firm_answer exec.plan.tasks.sporadics exec.plan.cycle (scene_of exec.plan.tasks exec.plan.cycle h) offer.slots offer.within ≡ answer
+
+-- one more is accepted
+pub IsUnderWay-next : (first now next : Executive) (all rest : List Offer) (offer : Offer) → IsUnderWay first now all (offer ∷ rest) → next.plan ≡ now.plan → next.last_row ≡ offer.row → IsAnswered now offer Accepted → ((h : History) → StandsFor now h → StandsFor next (accepted_after h (offer ∷ []))) → IsUnderWay first next all rest
+IsUnderWay-next first now next all rest offer way same row answered stands =
+    let set = first.plan.tasks in
+    let cycle = first.plan.cycle in
+    let h = accepted_after started way.before in
+    let answer = subst (λ (p : PlanParts). firm_answer p.tasks.sporadics p.cycle (scene_of p.tasks p.cycle h) offer.slots offer.within ≡ Accepted) way.plan (answered h way.stands) in
+    record {
+      plan = same ∙ way.plan;
+      before = way.before ++ offer ∷ [];
+      parts = way.parts ∙ sym (append_assoc way.before (offer ∷ []) rest);
+      accepted = AllAccepted-append set cycle started way.before (offer ∷ []) way.accepted (answer, tt);
+      stands = subst (StandsFor next) (sym (accepted_after-append started way.before (offer ∷ []))) (stands h way.stands);
+      may = subst (λ r. MayBeOffered cycle r rest) (sym row) way.may.1;
+    }
+
+module _ (first : Executive) (plan : IsPlan first.plan) where
+  -- where none is left the change is made
+  pub IsChanged-from_way : (now : Executive) (all : List Offer) → MayBeOffered first.plan.cycle 0 all → IsUnderWay first now all [] → IsChanged first.plan all now
+  IsChanged-from_way now all may way =
+      let set = first.plan.tasks in
+      let whole : way.before ≡ all = sym (way.parts ∙ append-nil way.before) in
+      let accepted = subst (AllAccepted set first.plan.cycle started) whole way.accepted in
+      let Exact : ℕ → Type 0 = λ n. IsFeasible set n → MayBeOffered n 0 all → AllAccepted set n started all → CanStartWith set all in
+      record {
+        plan_of = way.plan;
+        served = subst Exact (sym plan.cycle) (λ feasible m a. (first_exactly set all plan.sound feasible m).0 a) plan.feasible may accepted;
+        accepted = accepted;
+        stands = subst (λ offers. StandsFor now (accepted_after started offers)) whole way.stands;
+      }
+
+  -- where one has no room it is refused
+  pub refused-from_way : (now : Executive) (all rest : List Offer) (offer : Offer) (e : Evidence) → MayBeOffered first.plan.cycle 0 all → IsUnderWay first now all (offer ∷ rest) → IsAnswered now offer (NoRoom e) → (¬ (CanStartWith first.plan.tasks all)) × HasNoRoom first.plan.tasks all (record { row = offer.row; evidence = e })
+  refused-from_way now all rest offer e may way answered =
+      let set = first.plan.tasks in
+      let h = accepted_after started way.before in
+      let answer = subst (λ (p : PlanParts). firm_answer p.tasks.sporadics p.cycle (scene_of p.tasks p.cycle h) offer.slots offer.within ≡ NoRoom e) way.plan (answered h way.stands) in
+      let Refused : List Offer → Type 0 = λ offers. (¬ (CanStartWith set offers)) × HasNoRoom set offers (record { row = offer.row; evidence = e }) in
+      let parts = subst (MayBeOffered first.plan.cycle 0) way.parts may in
+      let Here : ℕ → Type 0 = λ n. IsFeasible set n → MayBeOffered n 0 (way.before ++ offer ∷ rest) → AllAccepted set n started way.before → firm_answer set.sporadics n (scene_of set n h) offer.slots offer.within ≡ NoRoom e → Refused (way.before ++ offer ∷ rest) in
+      subst Refused (sym way.parts)
+      (subst Here (sym plan.cycle) (λ feasible m a told. refused-here set plan.sound feasible way.before rest offer m a e told) plan.feasible parts way.accepted answer)

@@ -1,0 +1,5 @@
+pub mod Carrying
+pub mod Changed
+pub mod Laws
+pub mod Lists
+pub mod Offers

@@ -1,0 +1,63 @@
+//! A change of plan in one call.
+
+ghost use Rattle.std.specs.Prelude.{◌≡◌, ◌+◌, ◌<◌, ◌^◌, length, Err, IfOk};
+ghost use Rattle.plan_change.specs.Carrying.{offers_from};
+ghost use Rattle.plan_change.specs.Changed.{CanStartWith, HasNoRoom, IsChanged, IsMoved};
+ghost use Rattle.plan_change.specs.declared.change.ChangeFault.TheVariants.{Memory as MemoryFault};
+ghost use Rattle.plan_change.specs.declared.moves.Refusal.{Refusal};
+
+use crate::keep::Keep;
+use crate::list::CarriedList;
+use crate::moves::{Moved, Refusal, carry};
+use cycle_plan::Plan;
+use interval_row::SpareTable;
+use slot_core::Memory;
+use slot_exec::Exec;
+use std::alloc::Global;
+
+/// Why there is no change of plan.
+#[derive(Clone, Copy, PartialEq, Eq)]
+pub enum ChangeFault {
+    /// Memory ran out.
+    Memory,
+    /// What is carried over cannot be served: the first job that has no room, with its evidence.
+    NoRoom(Refusal),
+}
+
+impl From<Memory> for ChangeFault {
+    ghost from_gives = { λ _ fault. fault ≡ MemoryFault };
+
+    fn from(_memory: Memory) -> ChangeFault {
+        ChangeFault::Memory
+    }
+}
+
+/// Starts an executive of this plan, and carries over to it what another one has left, as `carry`
+/// does. The other one stays as it was.
+pub fn change_plan<T: SpareTable>(
+    alloc: Global,
+    from: &Exec<T>,
+    plan: Plan,
+    keep: Keep,
+    first: u32,
+) -> Result<(Exec<T>, Moved), ChangeFault>
+    requires above { from.now.last_row < first }
+    requires rows { first + length from.now.scene.jobs < 2 ^ 32 }
+    ensures granted { IfOk result (λ changed. IsChanged
+        plan
+        (offers_from keep from.now plan.cycle first)
+        changed.0) }
+    ensures moved { IfOk result (λ changed. IsMoved keep from.now plan.cycle changed.1) }
+    ensures refused { (r : Refusal) → result ≡ Err (ChangeFault.NoRoom r)
+        → ¬ (CanStartWith plan.tasks (offers_from keep from.now plan.cycle first)) }
+    ensures no_room { (r : Refusal) → result ≡ Err (ChangeFault.NoRoom r)
+        → HasNoRoom plan.tasks (offers_from keep from.now plan.cycle first) r }
+{
+    let cycle = plan.cycle();
+    let mut list = CarriedList::with_places(alloc, from.job_count() as usize)?;
+    let mut into = Exec::start(alloc, plan)?;
+    match carry(from, &mut into, &mut list, cycle, keep, first) {
+        Ok(moved) => Ok((into, moved)),
+        Err(refusal) => Err(ChangeFault::NoRoom(refusal)),
+    }
+}
