@@ -1,12 +1,13 @@
 # make            sees that the programs of these sources are at hand, and builds what is not
 # make test       tries the programs at hand: those that were built here, or those of dist/ (no kit is needed)
 # make prove      the gate: each proof, the wrong bodies, the tests and the programs (needs rt of the Rattle kit)
+# make study      makes the tables and figures of docs/STUDY.md again, in minutes (no kit is needed)
 # make install    puts programs, man pages, completions and the library for C below PREFIX, all of them or none
 # make uninstall  takes them away again
 PREFIX = /usr/local
 DESTDIR =
 
-.PHONY: all test prove install uninstall
+.PHONY: all test prove study install uninstall
 
 all:
 	@for it in slotshift slotlive slotview; do start/at-hand --current $$it || ./build $$it || exit; done
@@ -16,6 +17,9 @@ test:
 
 prove:
 	@.ci/run
+
+study:
+	@$(MAKE) --no-print-directory -C study
 
 install:
 	@DESTDIR='$(DESTDIR)' PREFIX='$(PREFIX)' start/install
