@@ -1,12 +1,13 @@
 //! `run` over a host: its arguments, its files and its standard streams.
 
-ghost use Rattle.std.specs.Prelude.{◌≡◌, ◌⊎◌, None, Some, IfOk, IsErr};
+ghost use Rattle.std.specs.Prelude.{◌≡◌, ◌⊎◌, None, Some, IfOk, IsErr, codes};
 ghost use Rattle.std.specs.Process.{exit_status};
 ghost use Rattle.command_line.specs.declared.pages.Page.{Page};
 ghost use Rattle.command_line.specs.declared.status.Status.{Status};
-ghost use Rattle.command_line.specs.Pages.{page_of};
+ghost use Rattle.command_line.specs.Pages.{page_of, page_text, IsPageTold};
 ghost use Rattle.command_line.specs.Statuses.{exit_number};
 ghost use Rattle.live_run.specs.Calls.{live_call_of};
+ghost use Rattle.live_run.specs.Pages.{live_help};
 
 use crate::pages::tell_live_page;
 use crate::record::HostRecord;
@@ -80,9 +81,37 @@ where
         rows: HostRecord::new(rt),
         faults: HostSink::new(err),
     };
+    run_streams(rt, words, &mut streams)
+}
+
+/// The status of a run of these words over these streams. A page is told as `run` tells it.
+fn run_streams<O, E, R>(
+    rt: &R,
+    words: &Words,
+    streams: &mut Streams<HostSink<O>, HostRecord<&R>, HostSink<E>>,
+) -> Status
+where
+    O: Write + Drop,
+    E: Write + Drop,
+    R: Files + Input + AllocGlobal,
+    ensures usage { result ≡ Status.Usage
+        → (page_of words.now ≡ None) × (live_call_of words.now ≡ None) }
+    ensures no_form { page_of words.now ≡ None → live_call_of words.now ≡ None
+        → (result ≡ Status.Usage) ⊎ (result ≡ Status.Memory) }
+    ensures page { (page : Page) → page_of words.now ≡ Some page
+        → IsPageTold (page_text (codes "slotlive") live_help page)
+        (O.contents streams.old.answers.writer) (O.contents streams.new.answers.writer)
+        streams.old.answers.faults streams.new.answers.faults
+        (E.contents streams.old.faults.writer) (E.contents streams.new.faults.writer)
+        streams.old.faults.faults streams.new.faults.faults result }
+    ensures page_says_nothing { (page : Page) → page_of words.now ≡ Some page
+        → result ≡ Status.Done → streams.new.faults ≡ streams.old.faults }
+    ensures page_records_nothing { (page : Page) → page_of words.now ≡ Some page
+        → streams.new.rows ≡ streams.old.rows }
+{
     match page_of(words) {
-        Some(page) => tell_live_page(page, &mut streams),
-        None => run_read(rt, words, &mut streams),
+        Some(page) => tell_live_page(page, streams),
+        None => run_read(rt, words, streams),
     }
 }
 

@@ -1,6 +1,6 @@
 //! The file in which arrivals are recorded.
 
-ghost use Rattle.std.specs.Prelude.{◌≡◌, ◌≢◌, ◌↔◌, ◌≤◌, ℕ, List, Option, Some, None, false, IfErr, IfOk, IsErr, IsTrue, OnErr, OnOk};
+ghost use Rattle.std.specs.Prelude.{◌≡◌, ◌≢◌, ◌↔◌, ◌≤◌, ℕ, List, [], Option, Some, None, false, true, IfErr, IfOk, IsErr, IsOk, IsTrue, OnErr, OnOk};
 ghost use Rattle.std.specs.Fs.{file_type, IsFile};
 ghost use Rattle.std.specs.Io.KnownBytes.{Appends};
 ghost use Rattle.std.specs.IoError.{error_kind};
@@ -70,8 +70,9 @@ pub trait RecordFile {
     /// The names that it was made with, its own and that of the file of the plan; none before.
     ghost made: { Self → Option (List ℕ × List ℕ) };
 
-    /// Makes the file, empty; what is put from then on is put into it. It fails, and writes
-    /// nothing, where that may be the file of the plan under another name.
+    /// Makes the file, empty; what is put from then on is put into it. Where it fails, nothing is
+    /// written. It is to fail where that may be the file of the plan under another name: no clause
+    /// says so.
     fn make(&mut self, names: RecordNames) -> Result<(), Failed>
         ensures made { OnOk result (made self.new ≡ Some names) }
         ensures empty { OnOk result (IsEmpty (written self.new)) }
@@ -82,13 +83,15 @@ pub trait RecordFile {
         ensures failed { OnErr result (Rose (faults self.old) (faults self.new)) };
 
     /// Writes the bytes. After Failed a part of them from the front is written. It is the file of
-    /// the same name as before.
+    /// the same name as before. A put of no bytes answers Ok and changes nothing.
     fn put(&mut self, bytes: &[u8]) -> Result<(), Failed>
         ensures ok { OnOk result (Appends (written self.old) (written self.new) bytes.now) }
         ensures part { OnErr result (AppendsPart (written self.old) (written self.new) bytes.now) }
         ensures same { made self.new ≡ made self.old }
         ensures counted { faults self.old ≤ faults self.new }
-        ensures failed { OnErr result (Rose (faults self.old) (faults self.new)) };
+        ensures failed { OnErr result (Rose (faults self.old) (faults self.new)) }
+        ensures empty { bytes.now ≡ [] → IsOk result }
+        ensures unchanged { bytes.now ≡ [] → self.new ≡ self.old };
 }
 
 /// A file of a runtime, once it is made.
@@ -137,6 +140,9 @@ impl<R: rt::Files> RecordFile for HostRecord<R> {
     }
 
     fn put(&mut self, bytes: &[u8]) -> Result<(), Failed> {
+        if bytes.is_empty() {
+            return Ok(());
+        }
         match put_if_made(&mut self.file, bytes) {
             Ok(()) => Ok(()),
             Err(Failed) => {
@@ -164,14 +170,29 @@ fn are_apart(file: io::Result<Metadata>, plan: io::Result<Metadata>) -> bool
     ensures missing { IfErr file
         (λ error. IsTrue result ↔ (error_kind error ≡ ErrorKind.NotFound)) }
     ensures unknown { IfOk file (λ one. IsFile (file_type one) → IsErr plan → result ≡ false) }
+    ensures no_bytes { IfOk file (λ one. ¬ (IsFile (file_type one)) → result ≡ true) }
 {
     match (file, plan) {
         (Ok(one), Ok(other)) => {
-            !one.is_file() || one.dev() != other.dev() || one.ino() != other.ino()
+            has_no_bytes(&one) || differ((one.dev(), one.ino()), (other.dev(), other.ino()))
         }
-        (Ok(one), Err(_)) => !one.is_file(),
+        (Ok(one), Err(_)) => has_no_bytes(&one),
         (Err(error), _) => error.kind() == ErrorKind::NotFound,
     }
+}
+
+/// Whether it has no bytes of its own: it is no regular file.
+fn has_no_bytes(file: &Metadata) -> bool
+    ensures { IsTrue result ↔ ¬ (IsFile (file_type file.now)) }
+{
+    !file.is_file()
+}
+
+/// Whether these are the numbers of two files: of the device, and of the file on it.
+fn differ(one: (u64, u64), other: (u64, u64)) -> bool
+    ensures { IsTrue result ↔ (one ≢ other) }
+{
+    one != other
 }
 
 /// Puts the bytes where there is a sink.

@@ -71,6 +71,9 @@ impl RecordFile for MemoryRecord {
     }
 
     fn put(&mut self, bytes: &[u8]) -> Result<(), Failed> {
+        if bytes.is_empty() {
+            return Ok(());
+        }
         match &mut self.rows {
             Some(rows) => match rows.put(bytes) {
                 Ok(()) => Ok(()),
