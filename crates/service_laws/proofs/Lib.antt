@@ -1,8 +1,8 @@
 mod Earlier
-mod Frames
 mod LineCuts
 mod LineEntries
 mod LineSpans
 mod LineWords
+mod Pushed
 mod SoftWork
 mod Stacks

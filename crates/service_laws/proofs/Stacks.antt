@@ -35,9 +35,9 @@ use Rattle.slot_facts.proofs.Legal.Served.{reaches-earlier, every_legal_history_
 use Rattle.slot_facts.proofs.Legal.SoftOrder.{first_soft-below, waits, job_runs-not_soft}
 use Rattle.slot_facts.proofs.Legal.Steps.{waiting_own}
 use Rattle.slot_facts.proofs.Legal.Traces.{every_trace_is_legal}
-use Rattle.service_laws.specs.Nesting.{frames, HasFrame, AreTwo, IsWithin, IsNested, EveryLegalHistoryIsNested, EveryTraceIsNested}
+use Rattle.service_laws.specs.Nesting.{pushed, HasFrame, AreTwo, IsWithin, IsNested, EveryLegalHistoryIsNested, EveryTraceIsNested}
 use Rattle.service_laws.proofs.Earlier.{follows-suffix, follows-before, time-follows, unended-before, run-before, guaranteed-by, soft-by}
-use Rattle.service_laws.proofs.Frames.{RanOver, above-before, began-over, either-over}
+use Rattle.service_laws.proofs.Pushed.{RanOver, above-before, began-over, either-over}
 
 -- the job that runs goes after none that is ready, with the offline jobs of any number of cycles past the time
 module _ (set : TaskSet) (cycles : ℕ) (h : History) (sound : is_sound set ≡ true) (reaches : Reaches set h cycles) where
@@ -182,8 +182,8 @@ module _ (set : TaskSet) (h : History) (sound : is_sound set ≡ true) (feasible
         | inr may ↦ absurd (both_ways (is_soft key) hard (ap is_soft (sym may.keyed)))
       ]
 
-  -- where a job runs, each frame above its own is of a job that has ended
-  above-ended : (key : Key) (job : Job) (earlier : History) (above below : List Key) → Follows h (Run key) earlier → is_soft key ≡ false → frames (Run key ∷ earlier) ≡ above ++ key ∷ below → Contains all job → Has above job.key → has_ended earlier job ≡ true
+  -- where a job runs, each job that was pushed after it has ended
+  above-ended : (key : Key) (job : Job) (earlier : History) (above below : List Key) → Follows h (Run key) earlier → is_soft key ≡ false → pushed (Run key ∷ earlier) ≡ above ++ key ∷ below → Contains all job → Has above job.key → has_ended earlier job ≡ true
   above-ended key job earlier above below follows hard split listed over =
       let own = own-job key earlier follows hard in
       let own_key : own.0.key ≡ key = own.2 in

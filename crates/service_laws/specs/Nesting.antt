@@ -18,13 +18,13 @@ use Rattle.slot_core.specs.Runs.Histories.{History, Follows, executed, soft_jobs
 use Rattle.slot_core.specs.Runs.Scenes.{guaranteed, has_ended, has_started, soft_has_ended}
 use Rattle.slot_core.specs.Runs.Traces.{trace, history_of, IsLegal}
 
--- the keys of the guaranteed jobs that have started, the last first: the frames in the order in
--- which they were pushed, those of ended jobs too
-abbrev pub frames : History → List Key
-frames [] = []
-frames (Run key ∷ h) =
-    if is_soft key || nat_lt 0 (executed key h) then frames h else key ∷ frames h
-frames (_ ∷ h) = frames h
+-- the keys of the guaranteed jobs that have started, the last first: those whose frames were
+-- pushed, in that order; an ended job stays in the list though its frame is gone
+abbrev pub pushed : History → List Key
+pushed [] = []
+pushed (Run key ∷ h) =
+    if is_soft key || nat_lt 0 (executed key h) then pushed h else key ∷ pushed h
+pushed (_ ∷ h) = pushed h
 
 -- the job has a frame: it has started and not ended
 abbrev pub HasFrame : History → Job → Type 0
@@ -49,11 +49,11 @@ pub record IsNested (set : TaskSet) (cycle : ℕ) (h : History) : Type 0 where
       → Follows h (Run below.key) earlier → Follows earlier (Run above.key) between
       → has_started between below ≡ true
       → has_ended earlier above ≡ true
-  -- where a job runs, each frame above its own is of a job that has ended
+  -- where a job runs, each job that was pushed after it has ended: no frame lies above its own
   pub top :
       (key : Key) (job : Job) (earlier : History) (above below : List Key)
       → Follows h (Run key) earlier → is_soft key ≡ false
-      → frames (Run key ∷ earlier) ≡ above ++ key ∷ below
+      → pushed (Run key ∷ earlier) ≡ above ++ key ∷ below
       → Contains (guaranteed set cycle h) job → Contains above job.key
       → has_ended earlier job ≡ true
   -- a job that runs while another one has a frame has its window within that one's

@@ -17,7 +17,7 @@ use Rattle.slot_core.specs.Claims.Lawful.{IsLawful}
 use Rattle.slot_core.specs.Runs.Histories.{History, Follows, executed, is_over}
 use Rattle.slot_core.specs.Runs.Scenes.{guaranteed, has_ended}
 use Rattle.slot_core.specs.Runs.Traces.{arrive, slot, started, IsLegal}
-use Rattle.service_laws.specs.Nesting.{frames, HasFrame, AreTwo, IsWithin, IsNested}
+use Rattle.service_laws.specs.Nesting.{pushed, HasFrame, AreTwo, IsWithin, IsNested}
 use Rattle.slot_facts.proofs.Lists.Members.{Contains-from_Has}
 use Rattle.sample_sets.specs.Sets.{lone_task, set_of}
 
@@ -49,8 +49,8 @@ all_started = Run inner.key ∷ Run middle.key ∷ Run outer.key ∷ started
 pub all_started_is_legal : IsLegal windows_set 8 all_started
 all_started_is_legal = ((slot, tt, refl), ((slot, tt, refl), ((slot, tt, refl), tt)))
 
-pub three_frames : frames all_started ≡ inner.key ∷ middle.key ∷ outer.key ∷ []
-three_frames = refl
+pub three_pushed : pushed all_started ≡ inner.key ∷ middle.key ∷ outer.key ∷ []
+three_pushed = refl
 
 -- none of them has ended: there are as many frames as windows that lie within one another, so that
 -- the bound is sharp

@@ -1,4 +1,4 @@
--- The frames of a history, and which job ran over the frame of another.
+-- The jobs that a history pushed, and which job ran over the frame of another.
 use Rattle.std.proofs.Common.{◌≡◌, suc, ◌≤◌, true, ◌||◌, List, [], ◌∷◌, ◌++◌, refl, sym, ap, ◌∙◌, subst, ◌⊎◌, inl, inr, arith}
 use Rattle.std.specs.Prelude.{nat_lt}
 use Rattle.std.proofs.lemmas.Bool.{cases_Bool, cond-true, cond-false, false_from_ne_true, ltb-false, or_parts}
@@ -11,45 +11,45 @@ use Rattle.slot_facts.proofs.Choice.Earliest.{same_from_key}
 use Rattle.slot_facts.proofs.Lists.ApartKeys.{same_key-itself}
 use Rattle.slot_facts.proofs.Lists.Members.{Has, Has-append_right}
 use Rattle.slot_facts.proofs.Legal.Owned.{is_further}
-use Rattle.service_laws.specs.Nesting.{frames}
+use Rattle.service_laws.specs.Nesting.{pushed}
 use Rattle.service_laws.proofs.Earlier.{follows-longer}
 
--- a run pushes a frame where its job has none
-frames-run : (key : Key) (h : History) → (frames (Run key ∷ h) ≡ frames h) ⊎ ((frames (Run key ∷ h) ≡ key ∷ frames h) × (executed key h ≡ 0))
-frames-run key h =
+-- a run pushes its job where it has not run
+pushed-run : (key : Key) (h : History) → (pushed (Run key ∷ h) ≡ pushed h) ⊎ ((pushed (Run key ∷ h) ≡ key ∷ pushed h) × (executed key h ≡ 0))
+pushed-run key h =
     let held = is_soft key || nat_lt 0 (executed key h) in
     elim (cases_Bool held) [
-      | inl old ↦ inl (cond-true held (frames h) (key ∷ frames h) old)
+      | inl old ↦ inl (cond-true held (pushed h) (key ∷ pushed h) old)
       | inr new ↦
           let none = ltb-false 0 (executed key h) (or_parts (is_soft key) (nat_lt 0 (executed key h)) new).1 in
-          inr (cond-false held (frames h) (key ∷ frames h) new, omega (arith, none))
+          inr (cond-false held (pushed h) (key ∷ pushed h) new, omega (arith, none))
     ]
 
--- a job with a frame has run
-frame-ran : (key : Key) (h : History) → Has (frames h) key → 1 ≤ executed key h
-frame-ran key [] at = absurd at
-frame-ran key (Run k ∷ h) at =
+-- a job that was pushed has run
+pushed-ran : (key : Key) (h : History) → Has (pushed h) key → 1 ≤ executed key h
+pushed-ran key [] at = absurd at
+pushed-ran key (Run k ∷ h) at =
     let more = (is_further (Run k) h).ran key in
-    elim (frames-run k h) [
-      | inl old ↦ omega (arith, more, frame-ran key h (subst (λ ks. Has ks key) old at))
+    elim (pushed-run k h) [
+      | inl old ↦ omega (arith, more, pushed-ran key h (subst (λ ks. Has ks key) old at))
       | inr new ↦ elim (subst (λ ks. Has ks key) new.0 at) [
         | inl own ↦ omega (arith, cond-true (same_key key k) (suc (executed key h)) (executed key h) (same_key-itself key k (sym own)))
-        | inr other ↦ omega (arith, more, frame-ran key h other)
+        | inr other ↦ omega (arith, more, pushed-ran key h other)
       ]
     ]
-frame-ran key (what ∷ h) at = frame-ran key h at
+pushed-ran key (what ∷ h) at = pushed-ran key h at
 
--- where the job of this key runs, the frames above its own are those before
-not_pushed : (key : Key) (h : History) (above below : List Key) (other : Key) → key ∷ frames h ≡ above ++ key ∷ below → executed key h ≡ 0 → Has above other → ⊥
+-- where the job of this key runs, those that were pushed after it are those before
+not_pushed : (key : Key) (h : History) (above below : List Key) (other : Key) → key ∷ pushed h ≡ above ++ key ∷ below → executed key h ≡ 0 → Has above other → ⊥
 not_pushed key h [] below other split none at = at
 not_pushed key h (k ∷ above) below other split none at =
-    let rest : frames h ≡ above ++ key ∷ below = cc in
+    let rest : pushed h ≡ above ++ key ∷ below = cc in
     let own = subst (λ ks. Has ks key) (sym rest) (Has-append_right above (key ∷ below) key (inl refl)) in
-    absurd (omega (arith, none, frame-ran key h own))
+    absurd (omega (arith, none, pushed-ran key h own))
 
-pub above-before : (key : Key) (h : History) (above below : List Key) (other : Key) → frames (Run key ∷ h) ≡ above ++ key ∷ below → Has above other → frames h ≡ above ++ key ∷ below
+pub above-before : (key : Key) (h : History) (above below : List Key) (other : Key) → pushed (Run key ∷ h) ≡ above ++ key ∷ below → Has above other → pushed h ≡ above ++ key ∷ below
 above-before key h above below other split at =
-    elim (frames-run key h) [
+    elim (pushed-run key h) [
       | inl same ↦ sym same ∙ split
       | inr new ↦ absurd (not_pushed key h above below other (sym new.0 ∙ split) new.1 at)
     ]
@@ -72,24 +72,24 @@ began-longer : (what : What) (h : History) (key under : Key) → BeganOver h key
 unfolding over-longer
 began-longer what h key under (r, first) = (over-longer what h key under r, first)
 
--- a job whose frame is above that of another began over it
-pushed-over : (k : Key) (h : History) (above below : List Key) (key under : Key) → k ∷ frames h ≡ above ++ under ∷ below → executed k h ≡ 0 → Has above key → ((rest : List Key) → frames h ≡ rest ++ under ∷ below → Has rest key → BeganOver h key under) → BeganOver (Run k ∷ h) key under
+-- a job that was pushed after another began over it
+pushed-over : (k : Key) (h : History) (above below : List Key) (key under : Key) → k ∷ pushed h ≡ above ++ under ∷ below → executed k h ≡ 0 → Has above key → ((rest : List Key) → pushed h ≡ rest ++ under ∷ below → Has rest key → BeganOver h key under) → BeganOver (Run k ∷ h) key under
 pushed-over k h [] below key under split none at earlier = absurd at
 pushed-over k h (x ∷ above) below key under split none (inl own) earlier =
     let first : k ≡ x = cc in
-    let rest : frames h ≡ above ++ under ∷ below = cc in
+    let rest : pushed h ≡ above ++ under ∷ below = cc in
     let own_key : k ≡ key = first ∙ own in
     let listed = subst (λ ks. Has ks under) (sym rest) (Has-append_right above (under ∷ below) under (inl refl)) in
-    (record { before = h; runs = ([], ap (λ y. Run y ∷ h) own_key); started = frame-ran under h listed }, ap (λ y. executed y h) (sym own_key) ∙ none)
+    (record { before = h; runs = ([], ap (λ y. Run y ∷ h) own_key); started = pushed-ran under h listed }, ap (λ y. executed y h) (sym own_key) ∙ none)
 pushed-over k h (x ∷ above) below key under split none (inr at) earlier =
-    let rest : frames h ≡ above ++ under ∷ below = cc in
+    let rest : pushed h ≡ above ++ under ∷ below = cc in
     began-longer (Run k) h key under (earlier above rest at)
 
-pub began-over : (h : History) (above below : List Key) (key under : Key) → frames h ≡ above ++ under ∷ below → Has above key → BeganOver h key under
+pub began-over : (h : History) (above below : List Key) (key under : Key) → pushed h ≡ above ++ under ∷ below → Has above key → BeganOver h key under
 began-over [] [] below key under split at = absurd at
 began-over [] (x ∷ above) below key under split at = absurd (cc split)
 began-over (Run k ∷ h) above below key under split at =
-    elim (frames-run k h) [
+    elim (pushed-run k h) [
       | inl same ↦ began-longer (Run k) h key under (began-over h above below key under (sym same ∙ split) at)
       | inr new ↦ pushed-over k h above below key under (sym new.0 ∙ split) new.1 at (λ rest tail listed. began-over h rest below key under tail listed)
     ]
