@@ -1,4 +1,5 @@
--- The numbers in the help are the limits. Each list holds by computing the definitions.
+-- The limits that the help names, each with its number. No statement here names the text of the
+-- help: a reader compares its numbers with these. Each list holds by computing the constants.
 use Rattle.std.specs.Prelude.{◌≡◌, [], ◌∷◌, refl}
 use Rattle.slot_core.specs.declared.TheConstants.{TASK_FILE_LIMIT, TABLE_FILE_LIMIT}
 use Rattle.trace_lines.specs.declared.TheConstants.{READ_LINE_LIMIT}
