@@ -5,7 +5,6 @@
 #include "heap.h"
 
 #include <stdint.h>
-#include <string.h>
 
 struct unit {
     uint64_t length; /* of the block, with this word */
@@ -83,8 +82,11 @@ struct slotexec_block rattle_alloc(size_t bytes, size_t alignment)
 struct slotexec_block rattle_realloc(void *at, size_t kept, size_t bytes, size_t alignment)
 {
     struct slotexec_block block = rattle_alloc(bytes, alignment);
+    const unsigned char *from = at;
+    unsigned char *to = block.at;
+    size_t count = kept < bytes ? kept : bytes, place;
     if (!block.ok) return block;
-    memcpy(block.at, at, kept < bytes ? kept : bytes);
+    for (place = 0; place < count; place++) to[place] = from[place];
     rattle_dealloc(at);
     return block;
 }

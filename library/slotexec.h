@@ -16,8 +16,8 @@
  * that the executive will ever need, by the three functions of heap.c or arena.c (arena.h tells how
  * large its array has to be), and `ss_close` gives all of it back.
  *
- * The library is tried on x86-64, and on aarch64 under qemu (`make aarch64`). Of other processors
- * nothing is said.
+ * The library is tried on x86-64, and on aarch64 under qemu, with Linux (`make aarch64`) and
+ * without a system (`make bare`). Of other processors nothing is said.
  *
  * How long the calls take on a PC, for two controllers of examples/, stands in docs/PERFORMANCE.md
  * (`make -C library test` measures it). Of them the slot that ends a cycle brings in the jobs and
@@ -31,9 +31,21 @@
  *   after it tells. What one call writes does not overlap with what else it is handed.
  * - A `ss_slots` is all zero at first, and only these calls write it. It may be moved; of two
  *   copies only the last one written is used.
- * - One call at a time on a handle, always on the thread that opened it, and none from a signal
- *   handler or from the forked child of a process with threads.
- * - rattle_alloc, rattle_realloc and rattle_dealloc are linked, and are as heap.h says.
+ * - One call at a time on a handle: the next one begins after the last one has ended, and sees what
+ *   it wrote, as after a mutex, or on one core with interrupts masked. Which thread, core or stack
+ *   makes it does not count: the library has no variables and no locks of its own.
+ * - ss_open and ss_close call the functions of the heap, so they are made where these may be: with
+ *   heap.c not in a signal handler, nor in the forked child of a process with threads; with arena.c
+ *   one at a time for all handles.
+ * - rattle_alloc, rattle_realloc and rattle_dealloc are linked, and are as heap.h says. The library
+ *   also needs memcpy, memmove and memset, and nothing else (bare/memory.c has these three).
+ *
+ * An interrupt or a signal handler may make every call but ss_open and ss_close, while no other
+ * call on the handle is under way: mask it around those that are made outside of it. The library
+ * uses vector registers. So an interrupt's entry that calls it saves all of them, and those that
+ * any call in C may change (bare/start.S). It uses the stack of what was interrupted;
+ * docs/PERFORMANCE.md has how much. Arrivals that other interrupts bring wait in an inbox for the
+ * slot's start: unit/ is a control unit that is made so.
  *
  * No other condition is left: a number out of its range, a row that does not rise, a call on a
  * closed handle each have a status, and then nothing has changed but the fault that ss_open tells.
@@ -96,8 +108,10 @@ typedef struct {
 } ss_told;
 
 /* The name of a job. What its kind has no use for is 0.
- * SS_OFFLINE:  group is the graph, task the task, number the instance, each from 0.
- * SS_SPORADIC: group is the index of the task, number the row of the arrival.
+ * SS_OFFLINE:  group is the graph and task its task, by their places in the task file, and number
+ *              the instance, which release of the graph it is: each from 0.
+ * SS_SPORADIC: group is the place of the sporadic task in the file, from 0, as ss_sporadic_index
+ *              returns it, and no graph; number is the row of the arrival.
  * SS_FIRM and SS_SOFT: number is the row of the arrival.
  * SS_NONE: no job.
  * A graph and a task are at most 65,535, an index 255, a row 2^32 - 1: with more, with another kind
