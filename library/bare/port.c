@@ -32,6 +32,11 @@ void port_close(void)
     __asm__ volatile("msr daifset, #2" ::: "memory");
 }
 
+void port_idle(void)
+{
+    __asm__ volatile("wfi" ::: "memory");
+}
+
 /* An interrupt ends wfi also while it is closed. It is handled by a call, and one at a time: a slot
  * that is over at once after this one finds the job begun that has it. */
 void port_wait(void)

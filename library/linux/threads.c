@@ -74,6 +74,7 @@ static void *work(void *words)
         if (is_set(&quit)) return NULL;
         if (!__atomic_exchange_n(&self->is_given, false, __ATOMIC_ACQ_REL)) continue;
         unit_run(&self->frame);
+        while (!unit_has_rows() && self->frame.had < self->frame.slots) sched_yield();
         set(&self->is_done, true);
     }
 }

@@ -3,7 +3,8 @@
  * - jobs nest on two stacks (and how often they would not on one is counted);
  * - each job that is not stopped has ended by its derived deadline, with its overrun;
  * - with `chains` each task runs after the one before it in its graph, with its overrun.
- * usage: unit TABLE SLOTS SEED LEVEL [chains]   (LEVEL: 1 arrivals, 2 runs, 3 spans) */
+ * With `rows` a thousand rows are left: afterwards the plan goes on without arrivals.
+ * usage: unit TABLE SLOTS SEED LEVEL [chains | rows]   (LEVEL: 1 arrivals, 2 runs, 3 spans) */
 #include "common.h"
 #include "../unit/unit.h"
 
@@ -21,6 +22,7 @@ static unsigned count;
 
 static uint8_t table[4194304];
 static bool has_chains;
+static uint32_t first; /* the row before the first one */
 static unsigned long jobs, early, went_on, stopped, nest, single, refused, withdrawn;
 static unsigned long asked, crowded; /* crowded: not asked for, since too many wait */
 static uint32_t accepted[8]; /* rows of requests */
@@ -70,7 +72,7 @@ static void look_before(const ss_key *key)
 /* How many slots the job takes: what it may have, some less, or some more. */
 static uint32_t slots_of(const struct frame *frame)
 {
-    uint32_t dice = unit.row < ROWS ? below(100) : 50;
+    uint32_t dice = unit.row - first < ROWS ? below(100) : 50;
     if (dice < 20) return 1 + below(frame->slots);
     if (dice >= 90) return frame->slots + 1 + below(2);
     return frame->slots;
@@ -140,7 +142,8 @@ static void put(enum arrival_kind kind, uint32_t number, uint32_t within)
 void bench_devices(void)
 {
     uint32_t row = accepted[below(8)];
-    if (unit.row >= ROWS || unit.now / 1000 % 2 > 0) return; /* a thousand slots are quiet */
+    if (unit.row - first >= ROWS) return;
+    if (unit.now / 1000 % 2 > 0) return; /* a thousand slots are quiet */
     if (below(12) == 0) put(ARRIVAL_SOFT, 1 + below(6), 0);
     if (below(8) == 0) put(ARRIVAL_FIRM, 1 + below(8), below(unit.plan.cycle));
     if (below(16) == 0) put(ARRIVAL_FIRM, 1 + below(4), below(30));
@@ -166,12 +169,14 @@ int main(int words, char **word)
     status = unit_open(table, read_table(word[1], table, sizeof table),
                        (enum record_level)strtoul(word[4], NULL, 10), to_stdout, &fault);
     if (status != SS_OK) unit_fault("open", status);
+    if (words > 5 && strcmp(word[5], "rows") == 0) first = unit.row = UINT32_MAX - 1000;
     unit.until = strtoul(word[2], NULL, 10);
     dispatch_run();
     if (ss_close(&unit.slots) != SS_OK) unit_fault("close", SS_CLOSED);
     HOLDS(nest == 0);
     HOLDS(unit.record.lost == 0);
-    HOLDS(crowded * 4 <= asked);
+    HOLDS(crowded * 4 <= asked || first > 0);
+    HOLDS(first == 0 || !unit_has_rows());
     fprintf(stderr, "slots %lu rows %lu jobs %lu early %lu more %lu stopped %lu refused %lu"
             " withdrawn %lu crowded %lu nest %lu single %lu\n", (unsigned long)unit.now,
             (unsigned long)unit.row, jobs, early, went_on, stopped, refused, withdrawn,

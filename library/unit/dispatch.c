@@ -49,6 +49,7 @@ static void begin(struct stack *mine)
     if (port_mark(&frame->mark) == 0) {
         port_open();
         unit_run(frame);
+        while (!unit_has_rows() && frame->had < frame->slots) port_idle();
         port_close();
         frame->ended = true;
         while (has_turn(mine, mine->depth)) wait_for_slot();

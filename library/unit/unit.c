@@ -25,8 +25,19 @@ static void want(const char *what, uint32_t status)
 
 uint32_t unit_next_row(void)
 {
-    if (unit.row == UINT32_MAX) unit_fault("rows", SS_BAD_ROW);
-    return ++unit.row;
+    return unit_has_rows() ? ++unit.row : 0;
+}
+
+bool unit_has_rows(void)
+{
+    return unit.row < UINT32_MAX - 1;
+}
+
+bool unit_has_asked(const char *what, uint32_t status)
+{
+    if (status == SS_BAD_NUMBER) unit.row--;
+    else if (status != SS_BAD_ROW || unit_has_rows()) want(what, status);
+    return status == SS_OK;
 }
 
 static struct pending *pending_of(struct pending *all, uint64_t row)
@@ -56,10 +67,11 @@ uint32_t unit_open(const uint8_t *table, size_t bytes, enum record_level level, 
     return status;
 }
 
-/* The job has ended before its slots did: they are free for others. */
+/* The job has ended before its slots did: they are free for others. The last row of all is kept for
+ * the job that ended before the other rows were used up. */
 static void end_early(const struct frame *frame)
 {
-    uint32_t row = unit_next_row();
+    uint32_t row = ++unit.row;
     ss_told told;
     want("done", ss_done(&unit.slots, row, &frame->key, &told));
     record_done(&unit.record, row, &frame->key, &told);
@@ -72,15 +84,6 @@ static void settle(struct frame *frame)
     if (!frame->ended && frame->had == frame->slots) watch_rest(frame);
 }
 
-/* Whether the call did what it says. Where a number of it is out of its range it has not, and has
- * no row: rows have no gaps, so that those of the record are those of the run. */
-static bool is_done(const char *what, uint32_t status)
-{
-    if (status == SS_BAD_NUMBER) unit.row--;
-    else want(what, status);
-    return status == SS_OK;
-}
-
 /* Soft work: its row where it was asked for, and else 0. */
 static uint32_t ask_soft(const struct arrival *arrival, ss_told *told)
 {
@@ -88,7 +91,7 @@ static uint32_t ask_soft(const struct arrival *arrival, ss_told *told)
     uint32_t row;
     if (place == NULL) return 0;
     row = unit_next_row();
-    if (!is_done("soft", ss_soft(&unit.slots, row, arrival->number, told))) return 0;
+    if (!unit_has_asked("soft", ss_soft(&unit.slots, row, arrival->number, told))) return 0;
     record_soft(&unit.record, row, arrival->number, told);
     if (told->answer == SS_TAKEN) *place = (struct pending){0, row, arrival->number, arrival->tag};
     return row;
@@ -97,16 +100,13 @@ static uint32_t ask_soft(const struct arrival *arrival, ss_told *told)
 static uint32_t ask_firm(const struct arrival *arrival, ss_told *told)
 {
     struct pending *place = pending_of(requests, 0);
-    uint64_t due = unit.now + arrival->within;
-    uint32_t row;
+    uint32_t work = arrival->number, within = arrival->within, row;
     if (place == NULL) return 0;
     row = unit_next_row();
-    if (!is_done("firm", ss_firm(&unit.slots, row, arrival->number, arrival->within, told))) {
-        return 0;
-    }
-    record_firm(&unit.record, row, arrival->number, arrival->within, told);
+    if (!unit_has_asked("firm", ss_firm(&unit.slots, row, work, within, told))) return 0;
+    record_firm(&unit.record, row, work, within, told);
     if (told->answer == SS_ACCEPTED) {
-        *place = (struct pending){due, row, arrival->number, arrival->tag};
+        *place = (struct pending){unit.now + within, row, work, arrival->tag};
     }
     return row;
 }
@@ -114,7 +114,7 @@ static uint32_t ask_firm(const struct arrival *arrival, ss_told *told)
 static uint32_t sound_alarm(const struct arrival *arrival, ss_told *told)
 {
     uint32_t row = unit_next_row();
-    if (!is_done("sporadic", ss_sporadic(&unit.slots, row, arrival->number, told))) return 0;
+    if (!unit_has_asked("sporadic", ss_sporadic(&unit.slots, row, arrival->number, told))) return 0;
     record_sporadic(&unit.record, row, arrival->number, told);
     if (told->answer == SS_TAKEN) {
         alarms[arrival->number].due = told->first;
@@ -129,7 +129,7 @@ static uint32_t take_back(const struct arrival *arrival, ss_told *told)
     uint32_t row = unit_next_row();
     struct pending *place = pending_of(requests, arrival->number);
     struct frame *frame = dispatch_find(&key);
-    if (!is_done("withdraw", ss_withdraw(&unit.slots, row, arrival->number, told))) return 0;
+    if (!unit_has_asked("withdraw", ss_withdraw(&unit.slots, row, arrival->number, told))) return 0;
     record_withdraw(&unit.record, row, arrival->number, told);
     if (told->answer == SS_FREED && place != NULL) place->row = 0;
     if (told->answer == SS_FREED && frame != NULL) frame->dropped = true;

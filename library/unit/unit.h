@@ -40,8 +40,15 @@ uint32_t unit_open(const uint8_t *table, size_t bytes, enum record_level level, 
  * gives the dispatcher the job that has the next slot. dispatch_slot_over calls it. */
 void unit_tick(void);
 
-/* The row of the next arrival. */
+/* The row of the next arrival, or 0 where rows are used up; and whether they are not. Afterwards a
+ * job that ends early keeps its slots. */
 uint32_t unit_next_row(void);
+bool unit_has_rows(void);
+
+/* Whether a call with that row did what it says. Where a number of it is out of its range it has no
+ * row: rows have no gaps, so that those of the record are those of the run. Where rows are used up
+ * nothing more is asked for, while slots pass and the plan goes on. Any other status is a fault. */
+bool unit_has_asked(const char *what, uint32_t status);
 
 /* What the application has. */
 
@@ -50,8 +57,8 @@ uint32_t unit_next_row(void);
 void unit_run(const struct frame *frame);
 
 /* What an arrival was answered, at a slot's start. A row of 0: it was not asked for, since a number
- * of it is out of its range, or UNIT_PENDING of its kind wait already; its answer is SS_NO_ROOM
- * then. A request is taken back by its row. */
+ * of it is out of its range, rows are used up, or UNIT_PENDING of its kind wait already; its answer
+ * is SS_NO_ROOM then. A request is taken back by its row. */
 void unit_told(const struct arrival *arrival, uint32_t row, const ss_told *told);
 
 /* How many slots a job may ask for, beyond its worst case, where it is not done by then. */

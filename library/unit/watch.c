@@ -10,13 +10,6 @@ static uint64_t due_of_rest(const struct frame *frame)
     return under != NULL && under->due <= frame->due ? under->due - 1 : frame->due;
 }
 
-/* More slots than a request may have are not asked for, and take no row. */
-static bool is_made(uint32_t status)
-{
-    if (status != SS_OK) unit.row--;
-    return status == SS_OK;
-}
-
 static bool is_accepted(struct frame *frame)
 {
     uint64_t due = due_of_rest(frame);
@@ -25,7 +18,9 @@ static bool is_accepted(struct frame *frame)
     if (due <= unit.now) return false;
     within = (uint32_t)(due - unit.now);
     row = unit_next_row();
-    if (!is_made(ss_firm(&unit.slots, row, frame->more, within, &told))) return false;
+    if (!unit_has_asked("rest", ss_firm(&unit.slots, row, frame->more, within, &told))) {
+        return false;
+    }
     record_firm(&unit.record, row, frame->more, within, &told);
     if (told.answer != SS_ACCEPTED) return false;
     frame->key = (ss_key){SS_FIRM, 0, 0, row};
@@ -41,7 +36,7 @@ static bool is_taken(struct frame *frame)
     ss_told told;
     if (dispatch_under(frame) != NULL) return false;
     row = unit_next_row();
-    if (!is_made(ss_soft(&unit.slots, row, frame->more, &told))) return false;
+    if (!unit_has_asked("rest", ss_soft(&unit.slots, row, frame->more, &told))) return false;
     record_soft(&unit.record, row, frame->more, &told);
     if (told.answer != SS_TAKEN) return false;
     frame->key.number = row;

@@ -71,6 +71,11 @@ void port_strike(void)
     is_open = true;
 }
 
+void port_idle(void)
+{
+    port_strike();
+}
+
 void port_wait(void)
 {
     is_open = true;

@@ -32,6 +32,7 @@ void port_switch(struct port_context *from, struct port_context *to);
 
 void port_open(void);  /* interrupts may come from here on */
 void port_close(void); /* and from here on they may not */
+void port_idle(void);  /* waits, open, for some time: a job that has nothing left to do */
 void port_wait(void);  /* waits until one has come and is handled, and no second one */
 
 /* A slot is over, here: for the jobs of a test. Before it the devices have their interrupts. */
