@@ -1,4 +1,4 @@
-# make            sees that the programs of these sources are at hand, and builds what is not
+# make            tells which programs are of these sources, and builds the others
 # make test       tries the programs at hand: those that were built here, or those of dist/ (no kit is needed)
 # make prove      the gate: each proof, the wrong bodies, the tests and the programs (needs rt of the Rattle kit)
 # make study      makes the tables and figures of docs/STUDY.md again, in minutes (no kit is needed)
@@ -10,7 +10,9 @@ DESTDIR =
 .PHONY: all test prove study install uninstall
 
 all:
-	@for it in slotshift slotlive slotview; do start/at-hand --current $$it || ./build $$it || exit; done
+	@for it in $$(cat start/programs); do \
+	    { found=$$(start/at-hand --current $$it) && echo "$$it: $$found is of these sources"; } || ./build $$it || exit; \
+	done
 
 test:
 	@checks/quick

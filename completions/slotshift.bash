@@ -1,15 +1,19 @@
-# Completion of the words of slotshift, slotlive and slotview for bash: put
+# Completion of the words of slotshift, slotlive, slotview, slotplan and slotlint for bash: put
 # `source PATH/completions/slotshift.bash` into ~/.bashrc.
 
-# Offers the files with this ending, or all where there is none, and folders; in /dev the two devices that serve as one.
+# Offers the files with this ending, or all where there is none, and folders; in /dev the devices that serve as one,
+# which are these two where no third word names another.
 _slotshift_files() {
-    local IFS=$'\n'
+    local IFS=$'\n' devices=$'/dev/null\n/dev/stdin'
     compopt -o filenames 2>/dev/null
-    case $2 in
-    /dev/*) COMPREPLY=($(compgen -W $'/dev/null\n/dev/stdin' -- "$2")) ;;
-    esac
-    [ "${#COMPREPLY[@]}" = 0 ] || return
     COMPREPLY=($(compgen -f -X "!*.$1" -- "$2") $(compgen -d -- "$2"))
+    case $2 in
+    /dev/*/*) ;;
+    /dev/*)
+        COMPREPLY+=($(compgen -W "${3-$devices}" -- "$2"))
+        return
+        ;;
+    esac
     [ "${#COMPREPLY[@]}" -gt 0 ] || COMPREPLY=($(compgen -f -- "$2"))
 }
 
@@ -37,7 +41,7 @@ _slotlive() {
         [ "${current#-}" = "$current" ] || COMPREPLY=($(compgen -W '--table --help --version' -- "$current"))
         ;;
     --table:2) _slotshift_files bin "$current" ;;
-    --record:*) _slotshift_files csv "$current" ;;
+    --record:*) _slotshift_files csv "$current" /dev/null ;;
     *:2 | *:3) COMPREPLY=($(compgen -W --record -- "$current")) ;;
     esac
 }
@@ -58,6 +62,35 @@ _slotview() {
     esac
 }
 
+_slotlint() {
+    local current=${COMP_WORDS[COMP_CWORD]} ending=toml
+    COMPREPLY=()
+    case ${COMP_WORDS[COMP_CWORD - 1]}:$current in
+    --slots:*) return ;;
+    --tasks:*) ;;
+    *:-*)
+        COMPREPLY=($(compgen -W '--json --all --tasks --slots --help --version' -- "$current"))
+        return
+        ;;
+    *) [[ " ${COMP_WORDS[*]} " != *' --tasks '* ]] || ending=csv ;;
+    esac
+    _slotshift_files "$ending" "$current"
+}
+
+_slotplan() {
+    local current=${COMP_WORDS[COMP_CWORD]}
+    COMPREPLY=()
+    case ${COMP_WORDS[1]}:$COMP_CWORD in
+    *:1)
+        local questions='load who header'
+        COMPREPLY=($(compgen -W "$questions --help --version" -- "$current"))
+        ;;
+    load:2 | who:2 | header:2) _slotshift_files toml "$current" ;;
+    esac
+}
+
 complete -F _slotshift slotshift
 complete -F _slotlive slotlive
 complete -F _slotview slotview
+complete -F _slotlint slotlint
+complete -F _slotplan slotplan

@@ -12,9 +12,10 @@
  * arrival is SS_BAD_ROW, while slots pass and the plan goes on. Close and open before: jobs that
  * are under way, and the last arrivals of sporadic tasks, are forgotten then.
  *
- * Every call but `ss_open` and `ss_close` takes no memory and gives none back. `ss_open` takes all
- * that the executive will ever need, by the three functions of heap.c or arena.c (arena.h tells how
- * large its array has to be), and `ss_close` gives all of it back.
+ * Every call but `ss_open`, `ss_close` and `ss_change` takes no memory and gives none back.
+ * `ss_open` takes all that the executive will ever need, by the three functions of heap.c or
+ * arena.c (arena.h tells how large its array has to be), and `ss_close` gives all of it back.
+ * `ss_change` opens a second executive, and closes one of the two.
  *
  * The library is tried on x86-64, and on aarch64 under qemu, with Linux (`make aarch64`) and
  * without a system (`make bare`). Of other processors nothing is said.
@@ -33,22 +34,24 @@
  *   copies only the last one written is used.
  * - One call at a time on a handle: the next one begins after the last one has ended, and sees what
  *   it wrote, as after a mutex, or on one core with interrupts masked. Which thread, core or stack
- *   makes it does not count: the library has no variables and no locks of its own.
- * - ss_open and ss_close call the functions of the heap, so they are made where these may be: with
- *   heap.c not in a signal handler, nor in the forked child of a process with threads; with arena.c
- *   one at a time for all handles.
+ *   makes it does not count: the library has no variables and no locks of its own. ss_carry is a
+ *   call on both of its handles, which are two.
+ * - ss_open, ss_close and ss_change call the functions of the heap, so they are made where these
+ *   may be: with heap.c not in a signal handler, nor in the forked child of a process with threads;
+ *   with arena.c one at a time for all handles.
  * - rattle_alloc, rattle_realloc and rattle_dealloc are linked, and are as heap.h says. The library
  *   also needs memcpy, memmove and memset, and nothing else (bare/memory.c has these three).
  *
- * An interrupt or a signal handler may make every call but ss_open and ss_close, while no other
- * call on the handle is under way: mask it around those that are made outside of it. The library
+ * An interrupt or a signal handler may make every call but these three, while no other call on the
+ * handle is under way: mask it around those that are made outside of it. The library
  * uses vector registers. So an interrupt's entry that calls it saves all of them, and those that
  * any call in C may change (bare/start.S). It uses the stack of what was interrupted;
  * docs/PERFORMANCE.md has how much. Arrivals that other interrupts bring wait in an inbox for the
  * slot's start: unit/ is a control unit that is made so.
  *
  * No other condition is left: a number out of its range, a row that does not rise, a call on a
- * closed handle each have a status, and then nothing has changed but the fault that ss_open tells.
+ * closed handle each have a status, and then nothing has changed but what ss_open and ss_change
+ * tell of a fault; SS_REFUSED says itself what it leaves.
  */
 #ifndef SLOTEXEC_H
 #define SLOTEXEC_H
@@ -67,13 +70,15 @@ extern "C" {
 /* How a call ended. */
 enum {
     SS_OK = 0,         /* the call did what it says */
-    SS_MEMORY = 1,     /* memory ran out (ss_open alone) */
-    SS_BAD_TABLE = 2,  /* the bytes are no table (ss_open alone) */
+    SS_MEMORY = 1,     /* memory ran out (ss_open, ss_change) */
+    SS_BAD_TABLE = 2,  /* the bytes are no table (ss_open, ss_change) */
     SS_BAD_ROW = 3,    /* the row of the arrival is not above the last one */
     SS_BAD_NUMBER = 4, /* a number, an index, a key or a name is none that may come, or no room */
-    SS_AT_END = 5,     /* the time is 2^44 slots: no more slot passes (ss_slot alone) */
+    SS_AT_END = 5,     /* the time is 2^44 slots: no more slot passes (ss_slot, ss_pass) */
     SS_CLOSED = 6,     /* the handle has no executive */
-    SS_STILL_OPEN = 7  /* the handle has one already (ss_open alone) */
+    SS_STILL_OPEN = 7, /* the handle has one already (ss_open alone) */
+    SS_REFUSED = 8,    /* what is carried over has no room there (ss_carry, ss_change) */
+    SS_NOT_FRESH = 9   /* the second executive has seen a slot or an arrival (ss_carry alone) */
 };
 
 /* The kind of a key. */
@@ -87,6 +92,10 @@ enum { SS_SOON = 1 };                                              /* ss_sporadi
 enum { SS_FREED = 0 };                                             /* ss_done, ss_withdraw */
 enum { SS_NOT_RUNNING = 1 };                                       /* ss_done */
 enum { SS_NO_JOB = 1 };                                            /* ss_withdraw */
+
+/* Which offline jobs go on at a change of plan: none; those that have run a slot; or all that
+ * remains of the instances of graphs that were released before this slot. */
+enum { SS_DROP = 0, SS_STARTED = 1, SS_GRAPHS = 2 };
 
 /* The limits. */
 enum {
@@ -128,6 +137,14 @@ typedef struct {
     uint64_t start, end, work;
     int64_t spare;
 } ss_span;
+
+/* A job that remains: its name, the slots that it has left, the time by which they are due, and the
+ * time from which it may run. */
+typedef struct {
+    ss_key key;
+    uint32_t left;
+    uint64_t deadline, start;
+} ss_job;
 
 /* Writes the version of the library to the front of `text`, with no zero after it, and tells its
  * length. SS_BAD_NUMBER where it is longer than `room`. It needs no executive. The library is the
@@ -185,12 +202,69 @@ uint32_t ss_withdraw(ss_slots *slots, uint32_t row, uint32_t firm, ss_told *told
  * of the end of that slot: so an offer's `within` counts from there. */
 uint32_t ss_slot(ss_slots *slots, ss_key *ran);
 
+/* What the next slot runs, and in `count` for how many slots from it on, 1 to `most`, that stays so
+ * where nothing arrives: so a unit may set a timer once in place of a tick for each slot. No slot
+ * passes. The count is at most a cycle, and so the greatest where no soft work waits, where the set
+ * has no sporadic task, and where soft work runs; else it may be a smaller one. After an arrival it
+ * may be another: ask again. SS_BAD_NUMBER where `most` is 0. */
+uint32_t ss_ahead(ss_slots *slots, uint32_t most, ss_key *ran, uint32_t *count);
+
+/* Slots pass, one after the other, as with ss_slot, while what is to run is what ran in the first of
+ * them: `passed` tells how many, 1 to `most`. It is less than `most` only where something else is to
+ * run in the next slot, or the time is at its limit. SS_BAD_NUMBER where `most` is 0, else SS_AT_END
+ * where the time is at its limit before. */
+uint32_t ss_pass(ss_slots *slots, uint32_t most, uint32_t *passed);
+
 /* How many spans there are up to the end of the third cycle, the one at hand being the first: at
  * least 1, and at most one for each slot of three cycles. */
 uint32_t ss_span_count(ss_slots *slots, uint32_t *count);
 
 /* The span at this place, from 0. SS_BAD_NUMBER at the count and above. */
 uint32_t ss_get_span(ss_slots *slots, uint32_t place, ss_span *span);
+
+/* How many guaranteed jobs remain: those of the plan up to the end of the third cycle, the one at
+ * hand being the first, and the firm and sporadic ones that were accepted. Soft work is not among
+ * them. */
+uint32_t ss_job_count(ss_slots *slots, uint32_t *count);
+
+/* The remaining job at this place, from 0: they stand in no order, which each call may change.
+ * SS_BAD_NUMBER at the count and above. */
+uint32_t ss_get_job(ss_slots *slots, uint32_t place, ss_job *job);
+
+/* A change of plan: what one executive has left goes on in another, before its first slot. Each
+ * firm and sporadic job goes on, and of the offline ones those that `keep` says; soft work does
+ * not. Each is offered to the second executive as a firm task, with the slots that it has left and
+ * its deadline counted from the change on. All are accepted exactly where all of them can be served
+ * there, beside its own jobs and whatever sporadic ones come. Then it goes on with them:
+ * - A job that was carried over is SS_FIRM, whatever it was. A firm or sporadic one keeps its row;
+ *   offline ones have the rows from `first` on, by deadline and then by key: so map their keys
+ *   first, as ss_get_job tells them. An old key names no job there, or another one.
+ * - It counts as not started until it runs there: ss_done is SS_NOT_RUNNING before, while
+ *   ss_withdraw serves at once.
+ * - Sporadic tasks may come at once, those of the same name too: no separation goes over.
+ * - Graphs begin anew with their first instance: what their phase was is lost. So with SS_GRAPHS or
+ *   SS_STARTED a graph of both plans has what is left of its old instance beside the new one.
+ * - Times count from 0 again, and a deadline that was told before is one of the first executive.
+ * A deadline beyond the second plan's cycle is cut to it, which can refuse more than need be: give
+ * a plan that is changed to a cycle as long as the furthest deadline that it takes over. After
+ * SS_OK `told` has how many jobs were carried over, and how many have a deadline that was cut.
+ * `first` is above the last row, and so many rows follow it as a cycle of the first plan has slots,
+ * else SS_BAD_ROW; with SS_DROP it says nothing. SS_BAD_NUMBER where `keep` is none of the three.
+ * After SS_REFUSED `told->answer` is the row of the first offer that has no room, and the three
+ * numbers are the first time from the change on by which more slots are needed than there are, the
+ * need, and the room. */
+
+/* From one open handle to another. SS_NOT_FRESH where a slot has passed at the second one or
+ * something has arrived. The first one stays as it was, with all that it has. After SS_REFUSED the
+ * second one has accepted the offers before the one that has no room: close it, and open it
+ * anew. */
+uint32_t ss_carry(ss_slots *from, ss_slots *into, uint32_t first, uint32_t keep, ss_told *told);
+
+/* Opens the plan of a binary table, carries over to it, and leaves it in the handle; the first
+ * executive is closed. SS_MEMORY, SS_BAD_TABLE with the fault as ss_open tells it, or SS_REFUSED:
+ * then the handle stays as it was. Both executives take memory for a while. */
+uint32_t ss_change(ss_slots *slots, const uint8_t *table, size_t bytes, uint32_t first,
+                   uint32_t keep, ss_told *told);
 
 /* Writes the text of a key, as traces have it, to the front of `text`, with no zero after it, and
  * tells its length: at most SS_KEY_TEXT bytes. SS_BAD_NUMBER where it is no key, or it names what

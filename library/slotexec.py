@@ -31,6 +31,8 @@ class Status(enum.IntEnum):
     AT_END = 5
     CLOSED = 6
     STILL_OPEN = 7
+    REFUSED = 8
+    NOT_FRESH = 9
 
 
 class Kind(enum.IntEnum):
@@ -80,16 +82,28 @@ class Gone(enum.IntEnum):
     NO_JOB = 1
 
 
+class Keep(enum.IntEnum):
+    """Which offline jobs go on at a change of plan: none, those that have run a slot, or all that
+    remains of the instances of graphs that were released before this slot."""
+
+    DROP = 0
+    STARTED = 1
+    GRAPHS = 2
+
+
 Told = collections.namedtuple("Told", "answer first second third")
 Key = collections.namedtuple("Key", "kind group task number", defaults=(0, 0, 0))
 Span = collections.namedtuple("Span", "start end work spare")
+Job = collections.namedtuple("Job", "key left deadline start")
+Carried = collections.namedtuple("Carried", "jobs cut")
+Refusal = collections.namedtuple("Refusal", "row until need room")
 
 
 class SlotError(Exception):
     """A call that did not do what it says. Nothing has changed.
 
     `status` tells why; of a table that is none, `fault` the fault's number and three of its numbers,
-    as slotexec.h lists them.
+    as slotexec.h lists them; of a change of plan that is refused, a `Refusal`.
     """
 
     def __init__(self, status, fault=None):
@@ -117,6 +131,12 @@ class _Key(ctypes.Structure):
 class _Span(ctypes.Structure):
     _fields_ = [(name, ctypes.c_uint64) for name in ("start", "end", "work")] + [
         ("spare", ctypes.c_int64)
+    ]
+
+
+class _Job(ctypes.Structure):
+    _fields_ = [("key", _Key), ("left", ctypes.c_uint32)] + [
+        (name, ctypes.c_uint64) for name in ("deadline", "start")
     ]
 
 
@@ -165,6 +185,19 @@ def _of_this_version(loaded):
     return loaded
 
 
+def _numbers(told):
+    return (told.answer, told.first, told.second, told.third)
+
+
+def _carried(status, told):
+    """What a change of plan has carried over; an error where it is not made."""
+    if status == Status.OK:
+        return Carried(told.first, told.second)
+    if status == Status.REFUSED:
+        raise SlotError(status, Refusal(*_numbers(told)))
+    raise SlotError(status, _numbers(told) if status == Status.BAD_TABLE else None)
+
+
 class Executive:
     """An open executive. It is closed by `close`, or at the end of a `with`."""
 
@@ -177,8 +210,7 @@ class Executive:
         size = ctypes.c_size_t(len(table))
         status = self._library.ss_open(self._handle(), table, size, ctypes.byref(fault))
         if status != Status.OK:
-            told = (fault.answer, fault.first, fault.second, fault.third)
-            raise SlotError(status, told if status == Status.BAD_TABLE else None)
+            raise SlotError(status, _numbers(fault) if status == Status.BAD_TABLE else None)
 
     @classmethod
     def of_file(cls, path, library=None):
@@ -252,6 +284,19 @@ class Executive:
         self._call("ss_slot", ctypes.byref(ran))
         return Key(Kind(ran.kind), ran.group, ran.task, ran.number)
 
+    def ahead(self, most):
+        """What the next slot runs, and for how many slots, 1 to `most`, that stays so where nothing
+        arrives."""
+        ran, count = _Key(), ctypes.c_uint32()
+        self._call("ss_ahead", _number(most), ctypes.byref(ran), ctypes.byref(count))
+        return Key(Kind(ran.kind), ran.group, ran.task, ran.number), count.value
+
+    def pass_slots(self, most):
+        """Slots pass, at most `most`, while what is to run stays the same: how many have passed."""
+        passed = ctypes.c_uint32()
+        self._call("ss_pass", _number(most), ctypes.byref(passed))
+        return passed.value
+
     def spans(self):
         """The spans up to the end of the third cycle from now."""
         return [self._span(place) for place in range(self._asked("ss_span_count", ctypes.c_uint32))]
@@ -260,6 +305,33 @@ class Executive:
         span = _Span()
         self._call("ss_get_span", _number(place), ctypes.byref(span))
         return Span(span.start, span.end, span.work, span.spare)
+
+    def jobs(self):
+        """The guaranteed jobs that remain, in no order."""
+        return [self._job(place) for place in range(self._asked("ss_job_count", ctypes.c_uint32))]
+
+    def _job(self, place):
+        job = _Job()
+        self._call("ss_get_job", _number(place), ctypes.byref(job))
+        key = Key(Kind(job.key.kind), job.key.group, job.key.task, job.key.number)
+        return Job(key, job.left, job.deadline, job.start)
+
+    def carry(self, into, first, keep):
+        """What this one has left goes on in another one, before its first slot, as slotexec.h says:
+        `Carried`. This one stays as it was. A SlotError of the status REFUSED has a `Refusal` as
+        its fault, and the other one is to be opened anew."""
+        told = _Told()
+        words = (_number(first), _number(keep), ctypes.byref(told))
+        status = self._library.ss_carry(self._handle(), into._handle(), *words)
+        return _carried(status, told)
+
+    def change(self, table, first, keep):
+        """Goes on with the plan of a binary table, given as bytes: `Carried`. A SlotError leaves
+        this one as it was."""
+        told = _Told()
+        words = (ctypes.c_size_t(len(table)), _number(first), _number(keep), ctypes.byref(told))
+        status = self._library.ss_change(self._handle(), table, *words)
+        return _carried(status, told)
 
     def key_text(self, key):
         """The text of a key, as traces have it."""

@@ -16,12 +16,12 @@ HELP = f"""{USAGE}
 
 Tells all that is wrong in task files and arrivals files of slotshift, a line each:
   FILE:LINE:COLUMN: graph "speed", task "pi": unknown key "perid"; did you mean "period"?
-A line with "note:" behind the place is on what slotshift takes, and is likely not meant.
+A line with "note:" behind the place marks what is valid but probably unintended.
 
   FILE ..        task files, or behind --tasks arrivals files
   --tasks T      the task file of the arrivals, which is judged first
   --slots N      the slots of the replay, below which the arrivals have to be
-  COMMAND        a command that was refused, as ./slotshift replay T A N: its words and files
+  COMMAND        a command that failed, as ./slotshift replay T A N: its words and files
   --json         a JSON list in place of the lines, for editors
   --all          each line, also where many are alike
   --help, --version

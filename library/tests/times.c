@@ -8,14 +8,15 @@
 #include <string.h>
 #include <time.h>
 
-enum { SLOTS = 100000, STACK = 1 << 20, PAINT = 0x5a };
+enum { SLOTS = 100000, CHANGES = 31, STACK = 1 << 20, PAINT = 0x5a };
 
 /* What is measured: each call, and once more the slots that end a cycle. */
-enum { SLOT, CYCLE_END, FIRM, SOFT, SPORADIC, DONE, WITHDRAW, GET_SPAN, KEY_TEXT, KINDS };
+enum { SLOT, CYCLE_END, FIRM, SOFT, SPORADIC, DONE, WITHDRAW, GET_SPAN, KEY_TEXT, CARRY, CHANGE,
+       KINDS };
 
 static const char *const names[KINDS] = {
     "ss_slot", "at a cycle's end", "ss_firm", "ss_soft", "ss_sporadic", "ss_done",
-    "ss_withdraw", "ss_get_span", "ss_key_text",
+    "ss_withdraw", "ss_get_span", "ss_key_text", "ss_carry", "ss_change",
 };
 
 static uint8_t table[4194304];
@@ -86,6 +87,30 @@ static void ask(ss_slots *slots, const ss_key *ran)
     note(KEY_TEXT, start, ss_key_text(slots, ran, text, sizeof text, &length));
 }
 
+/* Changes to the same plan, in slots that follow one another: such as are made are noted. */
+static void change(ss_slots *slots, uint32_t row)
+{
+    uint32_t n;
+    for (n = 0; n < CHANGES; n++) {
+        ss_slots next = {0};
+        uint32_t status;
+        uint64_t start;
+        ss_told told;
+        ss_key ran;
+        if (ss_open(&next, table, bytes, &told) != SS_OK) exit(1);
+        start = clock_now();
+        status = ss_carry(slots, &next, row + 1, SS_GRAPHS, &told);
+        if (status == SS_OK) note(CARRY, start, status);
+        if (ss_close(&next) != SS_OK || ss_slot(slots, &ran) != SS_OK) exit(1);
+    }
+    for (n = 0; n < CHANGES; n++) {
+        ss_told told;
+        uint64_t start = clock_now();
+        uint32_t status = ss_change(slots, table, bytes, row + 1, SS_DROP, &told);
+        if (status == SS_OK) note(CHANGE, start, status);
+    }
+}
+
 static void *run(void *at)
 {
     ss_slots slots = {0};
@@ -105,6 +130,7 @@ static void *run(void *at)
         if ((slot + 1) % cycle == 0) times[CYCLE_END][counts[CYCLE_END]++] = took;
         if (below(8) == 0) ask(&slots, &ran);
     }
+    change(&slots, row);
     start = clock_now();
     if (ss_close(&slots) != SS_OK) exit(1);
     closed = clock_now() - start;

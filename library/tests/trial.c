@@ -1,6 +1,6 @@
 /* Tries the calls over a table with a sporadic task: the version, each status, tables that end too
  * early or too late, each allocation of ss_open refused, and 100,000 slots with arrivals of every
- * kind, in which nothing is allocated.
+ * kind, in which nothing is allocated, and as many looks ahead.
  * usage: trial TABLE */
 #include "common.h"
 #include "counting.h"
@@ -47,6 +47,8 @@ static void closed_handle(void)
     HOLDS(ss_done(&slots, 1, &key, &told) == SS_CLOSED);
     HOLDS(ss_withdraw(&slots, 1, 1, &told) == SS_CLOSED);
     HOLDS(ss_slot(&slots, &key) == SS_CLOSED);
+    HOLDS(ss_ahead(&slots, 1, &key, &number) == SS_CLOSED);
+    HOLDS(ss_pass(&slots, 1, &number) == SS_CLOSED);
     HOLDS(ss_span_count(&slots, &number) == SS_CLOSED);
     HOLDS(ss_get_span(&slots, 0, &span) == SS_CLOSED);
     HOLDS(ss_key_text(&slots, &key, text, sizeof text, &length) == SS_CLOSED);
@@ -127,7 +129,9 @@ static void wrong_numbers(void)
     HOLDS(ss_key_text(&slots, &first, text, 1, &length) == SS_BAD_NUMBER);
     HOLDS(ss_key_text(&slots, &first, text, sizeof text, &length) == SS_OK && length > 1);
     HOLDS(ss_sporadic_index(&slots, no_name, sizeof no_name - 1, &index) == SS_BAD_NUMBER);
-    HOLDS(index == 77);
+    HOLDS(ss_ahead(&slots, 0, &none, &index) == SS_BAD_NUMBER);
+    HOLDS(ss_pass(&slots, 0, &index) == SS_BAD_NUMBER);
+    HOLDS(index == 77 && none.kind == SS_NONE);
     HOLDS(ss_last_row(&slots, &count) == SS_OK && count == 0);
 }
 
@@ -169,6 +173,40 @@ static void many_slots(void)
     HOLDS(answers[4][0] && answers[4][1]);
 }
 
+static bool same_key(const ss_key *a, const ss_key *b)
+{
+    return a->kind == b->kind && a->group == b->group && a->task == b->task
+        && a->number == b->number;
+}
+
+/* What is told ahead of slots, at most `most`, runs in them, and ss_pass passes no fewer. */
+static void told_ahead(uint32_t most, bool at_once)
+{
+    ss_key first, next;
+    uint32_t count, passed, slot;
+    HOLDS(ss_ahead(&slots, most, &first, &count) == SS_OK && count >= 1 && count <= most);
+    if (at_once) {
+        HOLDS(ss_pass(&slots, most, &passed) == SS_OK && passed >= count && passed <= most);
+        HOLDS(ss_ahead(&slots, 1, &next, &count) == SS_OK && count == 1);
+        HOLDS(passed == most || !same_key(&first, &next));
+    } else {
+        for (slot = 0; slot < count; slot++)
+            HOLDS(ss_slot(&slots, &next) == SS_OK && same_key(&first, &next));
+    }
+    key = first;
+}
+
+/* The same over and over, with arrivals between, of which the keys are those that ran. */
+static void many_looks(void)
+{
+    uint32_t look, row;
+    HOLDS(ss_last_row(&slots, &row) == SS_OK);
+    for (look = 0; look < SLOTS; look++) {
+        while (below(3) == 0) arrive(++row, &key);
+        told_ahead(1 + below(90), below(2) == 0);
+    }
+}
+
 int main(int count, char **words)
 {
     unsigned long allocations, blocks;
@@ -181,6 +219,7 @@ int main(int count, char **words)
     blocks = heap_blocks;
     wrong_numbers();
     many_slots();
+    many_looks();
     HOLDS(ss_close(&slots) == SS_OK && !slots.open && heap_blocks == 0);
     closed_handle();
     printf("%lu allocations of ss_open, each refused in turn; %lu blocks held, and none allocated "

@@ -42,11 +42,7 @@ pub(crate) fn needed_by(sporadics: &[Sporadic], end: u32) -> Option<u64>
 
 /// The slots that the densest arrivals from slot 0 on need by each end from 0 to `last`; where no
 /// task arrives, an empty table.
-pub(crate) fn needed_table(
-    alloc: Global,
-    sporadics: &[Sporadic],
-    last: u32,
-) -> Result<List<u64>, Memory>
+pub fn needed_table(alloc: Global, sporadics: &[Sporadic], last: u32) -> Result<List<u64>, Memory>
     requires { last < 2 ^ 32 - 1 }
     ensures values { IfOk result (λ table. (x : ℕ) → x ≤ last
         → slice_index table x ≡ sporadic_demand sporadics.now [] 0 x) }

@@ -1,13 +1,14 @@
 //! The cycle test: whether every window has slots for the work that must run in it.
 #![tactic(auto)]
 
-ghost use Rattle.std.specs.Prelude.{◌≡◌, ◌<◌, ◌≤◌, true, All, IfOk, IsTrue};
+ghost use Rattle.std.specs.Prelude.{◌≡◌, ℕ, ◌*◌, ◌^◌, ◌<◌, ◌≤◌, true, [], All, IfOk, IsTrue, slice_index};
 ghost use Rattle.std.specs.List.Sorted.{IsNonDecreasingBy};
 ghost use Rattle.slot_core.specs.declared.TheConstants.{SLOT_LIMIT};
 ghost use Rattle.slot_core.specs.declared.jobs.Job.{Job};
 ghost use Rattle.slot_core.specs.declared.tasks.TaskSet.{TaskSet};
 ghost use Rattle.slot_core.specs.Sets.Cycles.{cycle_of};
 ghost use Rattle.slot_core.specs.Feasibility.Feasible.{demand, window_demand, counterexample_in};
+ghost use Rattle.slot_core.specs.Feasibility.Sporadics.{sporadic_demand};
 ghost use Rattle.slot_core.specs.Sets.Ranges.{is_sound};
 ghost use Rattle.demand_test.specs.Verdicts.{verdict_of, AreOfSet, MeansSchedules};
 
@@ -16,8 +17,8 @@ mod ends;
 mod offline;
 mod windows;
 
-pub use arrivals::arrivals_by;
 use arrivals::needed_by;
+pub use arrivals::{arrivals_by, needed_table};
 use offline::offline_slots;
 use slot_core::{Job, Memory, Sporadic, TaskSet, Window};
 use std::alloc::Global;
@@ -118,7 +119,32 @@ fn test_ordered(
     ensures { IfOk result
         (λ v. v ≡ verdict_of (counterexample_in jobs.now sporadics.now cycle)) }
 {
-    match first_failing(alloc, jobs, sporadics, cycle)? {
+    let needed = needed_table(alloc, sporadics, 2 * cycle)?;
+    test_with(alloc, jobs, sporadics, needed.items(), cycle)
+}
+
+/// The test of jobs that are in the order of their starts, where `arrivals` has for each length, 0
+/// to two cycles, the slots that the sporadic tasks need in a window of that length, as
+/// `needed_table` gives them. Who tests many lists of jobs beside the same arrivals makes it once.
+pub fn test_with(
+    alloc: Global,
+    jobs: &[Job],
+    sporadics: &[Sporadic],
+    arrivals: &[u64],
+    cycle: u32,
+) -> Result<Verdict, Memory>
+    requires positive { 0 < cycle }
+    requires cycle { cycle ≤ SLOT_LIMIT }
+    requires within { All (λ (j : Job). j.dl ≤ cycle) jobs.now }
+    requires fits { window_demand jobs.now sporadics.now cycle 0 cycle ≤ cycle }
+    requires ordered { IsNonDecreasingBy (λ (j : Job). j.est) jobs.now }
+    requires needed { (x : ℕ) → x ≤ 2 * cycle
+        → slice_index arrivals.now x ≡ sporadic_demand sporadics.now [] 0 x }
+    requires small { All (λ n. n < 2 ^ 63) arrivals.now }
+    ensures { IfOk result
+        (λ v. v ≡ verdict_of (counterexample_in jobs.now sporadics.now cycle)) }
+{
+    match first_failing(alloc, jobs, sporadics, arrivals, cycle)? {
         Some(window) => Ok(Verdict::Fails(window)),
         None => Ok(Verdict::Fits),
     }

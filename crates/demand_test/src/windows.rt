@@ -1,14 +1,14 @@
 //! The search for a window with more demand than slots.
 
-ghost use Rattle.std.specs.Prelude.{◌≡◌, ℕ, ◌+◌, ◌-◌, ◌*◌, ◌^◌, ◌<◌, ◌≤◌, ◌↔◌, All, IfOk, IsTrue, length, max, nat_le, sum_by, slice_index};
+ghost use Rattle.std.specs.Prelude.{◌≡◌, ℕ, ◌+◌, ◌-◌, ◌*◌, ◌^◌, ◌<◌, ◌≤◌, ◌↔◌, [], All, IfOk, IsTrue, length, max, nat_le, sum_by, slice_index};
 ghost use Rattle.std.specs.List.{prefix_len, range_with_len};
 ghost use Rattle.std.specs.List.Sorted.{IsNonDecreasingBy};
 ghost use Rattle.slot_core.specs.declared.TheConstants.{SLOT_LIMIT};
 ghost use Rattle.slot_core.specs.declared.jobs.Job.{Job};
 ghost use Rattle.slot_core.specs.Feasibility.Feasible.{first_some, first_failing_from};
+ghost use Rattle.slot_core.specs.Feasibility.Sporadics.{sporadic_demand};
 ghost use Rattle.demand_test.specs.EndTables.{first_end, ending_by, needed_in, failing_in, AreReadable, IsKnown, AreKnown};
 
-use crate::arrivals::needed_table;
 use crate::ends::Ends;
 use slot_core::{Job, Memory, Sporadic, Window};
 use std::alloc::Global;
@@ -266,11 +266,12 @@ fn nothing_known(last: usize) -> Bounds
 }
 
 /// The failing window of least start, and then of least end, or none: every start is tried. The
-/// jobs are in the order of their starts.
+/// jobs are in the order of their starts, and `arrivals` has what the sporadic tasks need.
 pub(crate) fn first_failing(
     alloc: Global,
     jobs: &[Job],
     sporadics: &[Sporadic],
+    arrivals: &[u64],
     cycle: u32,
 ) -> Result<Option<Window>, Memory>
     requires positive { 0 < cycle }
@@ -278,13 +279,14 @@ pub(crate) fn first_failing(
     requires within { All (λ (j : Job). j.dl ≤ cycle) jobs.now }
     requires few { sum_by (λ (j : Job). j.declared) jobs.now ≤ cycle }
     requires ordered { IsNonDecreasingBy (λ (j : Job). j.est) jobs.now }
+    requires needed { (x : ℕ) → x ≤ 2 * cycle
+        → slice_index arrivals.now x ≡ sporadic_demand sporadics.now [] 0 x }
+    requires small { All (λ n. n < 2 ^ 63) arrivals.now }
     ensures { IfOk result (λ w. w ≡ first_some
         (first_failing_from jobs.now sporadics.now cycle) (range_with_len 0 cycle)) }
 {
     let last = 2 * cycle as usize;
-    let needed = needed_table(alloc, sporadics, 2 * cycle)?;
     let mut ends = Ends::of(alloc, jobs, cycle)?;
-    let arrivals = needed.items();
     let mut bounds = nothing_known(last);
     let mut rest = jobs;
     for from in 0..cycle {

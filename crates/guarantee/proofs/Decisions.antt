@@ -4,7 +4,7 @@ use Rattle.std.specs.Prelude.{find, min, not, Err, Ok, OnOk, Result}
 use Rattle.std.specs.Int.{int_min}
 use Rattle.std.specs.Option.{is_none, option_map}
 use Rattle.std.specs.List.{list_all, range_with_len}
-use Rattle.std.proofs.lemmas.Bool.{cases_Bool, cases_lt, le-ltb, ltb-false}
+use Rattle.std.proofs.lemmas.Bool.{cases_Bool, cases_lt, le-ltb, ltb-false, ltb-true}
 use Rattle.std.proofs.lemmas.Int.{ints, clamps}
 use Rattle.slot_core.specs.declared.jobs.Evidence.{Evidence}
 use Rattle.slot_core.specs.declared.jobs.Span.{Span}
@@ -16,9 +16,9 @@ use Rattle.spare_capacity.proofs.Slack.{slack, free-least, free-start, IsLeastFr
 use Rattle.spare_capacity.specs.Laws.{work_until}
 use Rattle.spare_capacity.specs.PlanSpans.{AreProper}
 use Rattle.sporadic_reserve.specs.Reserves.{Reserved}
-use Rattle.guarantee.specs.Offers.{evidence_at, first_short, is_short, need_until, soft_fits, LeavesFree}
+use Rattle.guarantee.specs.Offers.{evidence_at, first_short, is_short, need_until, soft_fits, IsShortAfter, LeavesFree, LeavesSlots}
 use Rattle.guarantee.specs.declared.SoftRoom.TheVariants.{Free, Short}
-use Rattle.guarantee.specs.Stretches.{MostFrom}
+use Rattle.guarantee.specs.Stretches.{LeavesFrom, MostFrom}
 use Rattle.guarantee.proofs.Searches.{fails-from_none, find-none, find-passes}
 
 -- without sporadic tasks a time is short exactly where the slack is below the slots
@@ -164,3 +164,19 @@ free-all spans reserve t now told left free is greatest fewer small after same n
 pub OnOk-map : {X E : Type 0} (r : Result X E) (P Q : Type 0) → OnOk r P → (P → Q) → OnOk r Q
 OnOk-map (Ok x) P Q holds then = then holds
 OnOk-map (Err e) P Q holds then = tt
+
+-- what the search tells once some slots are taken: so many more are left, or a time is short
+pub slots-left : (spans : List Span) (reserve : Reserved) (t taken from left : ℕ) → from ≡ t + taken + 1 → LeavesFrom spans reserve t from (taken + 1) left from → LeavesSlots spans reserve t taken (left + 1)
+slots-left spans reserve t taken from left is leaves =
+    let all : LeavesFrom spans reserve t (t + taken + 1) (taken + 1) left (t + taken + 1) = rw is at leaves in
+    λ x after within needed. omega (arith, all.at x (omega arith) (omega arith) needed)
+
+pub slots-short : (spans : List Span) (reserve : Reserved) (t taken from : ℕ) (e : Evidence) → from ≡ t + taken + 1 → Some e ≡ option_map (evidence_at spans reserve t from (taken + 1)) (first_short spans reserve t from (taken + 1) from) → IsShortAfter spans reserve t taken
+slots-short spans reserve t taken from e is found =
+    by_found (first_short spans reserve t (t + taken + 1) (taken + 1) (t + taken + 1)) refl (rw is at found)
+  where
+    by_found : (o : Option ℕ) → first_short spans reserve t (t + taken + 1) (taken + 1) (t + taken + 1) ≡ o → Some e ≡ option_map (evidence_at spans reserve t (t + taken + 1) (taken + 1)) o → IsShortAfter spans reserve t taken
+    by_found None none same = absurd (cc same)
+    by_found (Some x) at same =
+        let (low, high, short) = find-passes (is_short spans reserve t (t + taken + 1) (taken + 1)) (t + taken + 1) (last_end t spans + 1 - (t + taken + 1)) x at in
+        (x, omega (arith, low), omega (arith, high), omega (arith, ltb-true (x - t) (taken + 1 + need_until spans reserve (t + taken + 1) x) short))

@@ -62,3 +62,17 @@ abbrev pub LeavesFree : List Span → Reserved → ℕ → ℕ → Type 0
 LeavesFree spans reserve t free =
     (x : ℕ) → t < x → x ≤ last_end t spans → 1 ≤ need_until spans reserve (t + 1) x
     → free + need_until spans reserve (t + 1) x ≤ x - t
+
+-- once so many slots from t on are taken, so many more are free up to each later time by which
+-- something is needed, where sporadic tasks arrive after the slots taken
+abbrev pub LeavesSlots : List Span → Reserved → ℕ → ℕ → ℕ → Type 0
+LeavesSlots spans reserve t taken more =
+    (x : ℕ) → t + taken < x → x ≤ last_end t spans
+    → 1 ≤ need_until spans reserve (t + taken + 1) x
+    → taken + more + need_until spans reserve (t + taken + 1) x ≤ x - t
+
+-- once so many slots are taken, up to a later time no other is free
+abbrev pub IsShortAfter : List Span → Reserved → ℕ → ℕ → Type 0
+IsShortAfter spans reserve t taken =
+    (x : ℕ) × (t + taken < x) × (x ≤ last_end t spans)
+    × (x - t ≤ taken + need_until spans reserve (t + taken + 1) x)

@@ -11,7 +11,7 @@ ghost use Rattle.spare_capacity.specs.Laws.{work_until};
 ghost use Rattle.spare_capacity.specs.Recurrence.{first_spare, last_end};
 ghost use Rattle.interval_row.specs.Changes.{ends_before};
 ghost use Rattle.interval_row.specs.Tables.{spans_of_pairs, IsTable};
-ghost use Rattle.guarantee.specs.Offers.{answer_to, first_short, lets_run, need_until, soft_fits, LeavesFree};
+ghost use Rattle.guarantee.specs.Offers.{answer_to, first_short, lets_run, need_until, soft_fits, IsShortAfter, LeavesFree, LeavesSlots};
 
 mod search;
 mod walk;
@@ -157,6 +157,42 @@ pub fn soft_room<T: SpareTable, L: Ledger>(
                 due: evidence.need - 1 - demand,
             }
         }
+    }
+}
+
+/// Once soft work has taken so many slots from now on, how many more slots it may take one after the
+/// other, with the densest arrivals of sporadic tasks after those that are taken. There may be more
+/// than these, as later slots leave fewer arrivals; 0 exactly where it may not take the next one.
+pub fn soft_slots<T: SpareTable, L: Ledger>(
+    table: &T,
+    reserve: &Reserve,
+    taken: u32,
+    steps: &mut Steps<L>,
+) -> u64
+    requires within { T.time table.now + taken
+        < last_end (T.time table.now) (spans_of_pairs (T.pairs table.now)) }
+    requires near { last_end (T.time table.now) (spans_of_pairs (T.pairs table.now))
+        < HORIZON_LIMIT }
+    requires few { taken < OFFER_LIMIT }
+    ensures leaves { 1 ≤ result
+        → LeavesSlots
+        (spans_of_pairs (T.pairs table.now))
+        reserve.now
+        (T.time table.now)
+        taken
+        result }
+    ensures short { result ≡ 0 → IsShortAfter
+        (spans_of_pairs (T.pairs table.now))
+        reserve.now
+        (T.time table.now)
+        taken }
+    ensures steps { steps.old ≤ steps.new }
+    ensures reads_once { steps.new ≤ steps.old + length (T.pairs table.now) }
+{
+    let from = table.time() + u64::from(taken) + 1;
+    match short_or_left(table, reserve, from, taken + 1, from, u64::MAX, steps) {
+        Ok(left) => left + 1,
+        Err(_evidence) => 0,
     }
 }
 

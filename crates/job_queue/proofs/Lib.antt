@@ -6,3 +6,4 @@ pub mod ReadyJobs
 pub mod ReadyPlaces
 pub mod Runs
 pub mod Searches
+pub mod Starts

@@ -4,6 +4,7 @@ ghost use Rattle.std.specs.Prelude.{◌≡◌};
 ghost use Rattle.std.specs.Option.{option_copied};
 ghost use Rattle.slot_core.specs.Runs.Choice.{earlier_of};
 ghost use Rattle.slot_core.specs.Offline.Keys.{is_earlier, same_key};
+ghost use Rattle.job_queue.specs.Starts.{goes_before, sooner, starts_before};
 
 use slot_core::{Job, Key};
 
@@ -58,4 +59,31 @@ fn is_earlier_by_key(a: &Job, b: &Job) -> bool
     ensures { result ≡ is_earlier a.now b.now }
 {
     a.key < b.key
+}
+
+/// Whether the job starts after `now`, and goes before the other one, where there is one.
+pub(crate) fn starts_before(job: &Job, now: u64, other: Option<&Job>) -> bool
+    ensures { result ≡ starts_before now (option_copied other.entry) job.now }
+{
+    now < job.est && goes_before(job, other)
+}
+
+/// Whether the job goes before the other one, where there is one.
+fn goes_before(job: &Job, other: Option<&Job>) -> bool
+    ensures { result ≡ goes_before (option_copied other.entry) job.now }
+{
+    match other {
+        Some(other) => is_earlier(job, other),
+        None => true,
+    }
+}
+
+/// The sooner of a start, if there is one, and that of this job.
+pub(crate) fn sooner(start: Option<u64>, job: &Job) -> Option<u64>
+    ensures { result ≡ sooner start job.now }
+{
+    match start {
+        Some(start) => Some(start.min(job.est)),
+        None => Some(job.est),
+    }
 }

@@ -9,10 +9,11 @@ ghost use Rattle.slot_core.specs.Offline.Keys.{is_earlier, is_soft, same_key};
 ghost use Rattle.slot_core.specs.Runs.Choice.{earlier_of, earliest, ready};
 ghost use Rattle.slot_core.specs.Runs.Matches.{HaveSameItems};
 ghost use Rattle.slot_core.specs.Claims.Safety.{after_run};
+ghost use Rattle.job_queue.specs.Starts.{first_start, sooner, starts_before};
 ghost use Rattle.job_queue.specs.Queues.{IsEarliestLast, IsQueue, IsReadyPlace, after_run_at, search_steps};
 
 use crate::marked::MarkedJobs;
-use crate::order::{earlier_of, has_key, is_earlier};
+use crate::order::{earlier_of, has_key, is_earlier, sooner, starts_before};
 use slot_core::{Job, Key, Memory, Steps};
 use std::alloc::Global;
 use std::collections::VecDeque;
@@ -215,6 +216,24 @@ impl JobQueue {
     {
         let place = self.place_of(key, steps)?;
         Some(*self.job(place))
+    }
+
+    /// The first start after `now` of the jobs that earliest deadline first takes before this one,
+    /// or of all jobs where none is given. None exactly where no such job starts after `now`. One
+    /// step a job looked at: all but the listed ones behind the first that is such a job.
+    pub fn next_start<L: Ledger>(
+        &self,
+        now: u64,
+        other: Option<&Job>,
+        steps: &mut Steps<L>,
+    ) -> Option<u64>
+        ensures start { result ≡ first_start now (option_copied other.entry) self.now.jobs }
+        ensures steps { steps.old ≤ steps.new }
+        ensures few_steps { steps.new ≤ steps.old + length self.now.jobs }
+    {
+        let start = first_start(None, &self.beside, now, other, steps);
+        let start = first_start(start, self.come.jobs(), now, other, steps);
+        first_listed(start, &self.listed, now, other, steps)
     }
 
     /// The job of this key, where it may start by `now`. None exactly where no such job has it. One
@@ -706,4 +725,54 @@ fn earliest_listed<'a, L: Ledger>(
         best = earlier_of(best, job);
     }
     best
+}
+
+/// The first of this start and those after `now` of these jobs that go before the other one. One
+/// step a job.
+fn first_start<L: Ledger>(
+    start: Option<u64>,
+    jobs: &[Job],
+    now: u64,
+    other: Option<&Job>,
+    steps: &mut Steps<L>,
+) -> Option<u64>
+    ensures start { result
+        ≡ fold sooner start (filter (starts_before now (option_copied other.entry)) jobs.now) }
+    ensures steps { steps.new ≡ steps.old + length jobs.now }
+{
+    let mut first = start;
+    for job in jobs {
+        steps.tick();
+        if starts_before(job, now, other) {
+            first = sooner(first, job);
+        }
+    }
+    first
+}
+
+/// The same of these, which stand in order of start. One step a job, up to the first that is one of
+/// those.
+fn first_listed<L: Ledger>(
+    start: Option<u64>,
+    listed: &VecDeque<Job>,
+    now: u64,
+    other: Option<&Job>,
+    steps: &mut Steps<L>,
+) -> Option<u64>
+    requires { IsNonDecreasingBy (λ j. j.est) listed.now.items }
+    ensures start { result
+        ≡ fold
+        sooner
+        start
+        (filter (starts_before now (option_copied other.entry)) listed.now.items) }
+    ensures steps { steps.old ≤ steps.new }
+    ensures few_steps { steps.new ≤ steps.old + length listed.now.items }
+{
+    for job in listed {
+        steps.tick();
+        if starts_before(job, now, other) {
+            return sooner(start, job);
+        }
+    }
+    start
 }

@@ -42,7 +42,7 @@ live_help =
     ++ codes "\n"
     ++ codes "statuses:\n"
     ++ codes "  0   the run came to its end, whatever was refused\n"
-    ++ codes "  1   the words are none of the forms\n"
+    ++ codes "  1   the words are none of the forms, or FILE is the word for T or B\n"
     ++ codes "  2   T, B or standard input cannot be read\n"
     ++ codes "  3   T or B has too many bytes\n"
     ++ codes "  4   T has a fault\n"

@@ -74,7 +74,7 @@ arrival after 65535 others, and slots that would pass the time 17592186044416.
 
 statuses:
   0   the run came to its end, whatever was refused
-  1   the words are none of the forms
+  1   the words are none of the forms, or FILE is the word for T or B
   2   T, B or standard input cannot be read
   3   T or B has too many bytes
   4   T has a fault

@@ -1,8 +1,15 @@
+pub mod AloneSets
 pub mod FoundMargins
 pub mod Growths
+pub mod Joined
+pub mod KeptJobs
 pub mod LongerChains
 pub mod LongerSets
 pub mod MarginLists
+pub mod OwnJobs
 pub mod Pairs
+pub mod SameWindows
 pub mod SoundGrowths
+pub mod TaskTests
+pub mod TestedJobs
 pub mod WholeCycle

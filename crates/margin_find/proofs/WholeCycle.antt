@@ -67,7 +67,7 @@ longer_graph_work cycle t growth g task at =
     ap (λ n. (cycle / g.period) * n) sum ∙ mul-add (cycle / g.period) (sum_by wcet g.tasks) growth
 
 -- the task at a place
-at_graph : (set : TaskSet) (g t : ℕ) → t < length (tasks_of set g) → (graph : Graph) × (task : Task) × (slice_get set.graphs g ≡ Some graph) × (slice_get graph.tasks t ≡ Some task)
+pub at_graph : (set : TaskSet) (g t : ℕ) → t < length (tasks_of set g) → (graph : Graph) × (task : Task) × (slice_get set.graphs g ≡ Some graph) × (slice_get graph.tasks t ≡ Some task)
 at_graph set g t within = by_found (slice_get set.graphs g) refl within
   where
     by_found : (o : Option Graph) → slice_get set.graphs g ≡ o → t < length (option_map_or (λ (graph : Graph). graph.tasks) o []) → (graph : Graph) × (task : Task) × (slice_get set.graphs g ≡ Some graph) × (slice_get graph.tasks t ≡ Some task)
@@ -165,7 +165,8 @@ StaysSound-from_whole set part growth sound of fits =
     let once : 1 * (wcet_at set part + growth) ≤ jobs * (wcet_at set part + growth) = mul-le-mul_right (wcet_at set part + growth) (jobs_in_cycle-positive set part sound of) in
     let least = wcet-le set part sound of in
     let within : wcet_at set part + growth ≤ SLOT_LIMIT = omega (arith, cycle-at_most set sound) in
-    record { sound = grown-sound set part growth sound within; within = within }
+    let most : demand (grown set part growth) cycle 0 cycle ≤ cycle = omega (arith, whole-grows set part growth sound of) in
+    record { sound = grown-sound set part growth sound within; within = within; fits = most }
 
 -- the whole cycle where its demand is more than its slots
 pub counterexample-whole : (set : TaskSet) (cycle needed : ℕ) → demand set cycle 0 cycle ≡ needed → cycle < needed → counterexample set cycle ≡ Some (record { from = 0; until = cycle; demand = needed })

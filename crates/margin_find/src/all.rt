@@ -10,7 +10,8 @@ ghost use Rattle.slot_core.specs.Sets.Ranges.{is_sound};
 ghost use Rattle.margin_find.specs.Parts.{IsTaskOf};
 ghost use Rattle.margin_find.specs.Margins.{AreMargins, graph_parts, parts_of};
 
-use crate::margin::{TaskMargin, margin_near};
+use crate::kept::Kept;
+use crate::margin::{TaskMargin, margin_beside};
 use cycle_plan::Plan;
 use slot_core::{Graph, List, Memory, Part, Sporadic, TaskSet};
 use std::alloc::Global;
@@ -68,9 +69,11 @@ fn find_each(alloc: Global, plan: &Plan, parts: &[Part]) -> Result<List<TaskMarg
     ensures { IfOk result (λ found. AreMargins plan.now.tasks parts.now found) }
 {
     let mut found = List::new(alloc);
+    let mut kept = Kept::of(alloc, plan, Part::Top)?;
     let mut likely = 0;
     for part in parts {
-        let margin = margin_near(alloc, plan, *part, likely)?;
+        kept = kept.turned(alloc, plan, *part)?;
+        let margin = margin_beside(alloc, plan, &kept, *part, likely)?;
         likely = margin.growth;
         found.push(TaskMargin { at: *part, margin })?;
     }

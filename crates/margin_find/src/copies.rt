@@ -1,14 +1,12 @@
-//! Copies of a task set with one task longer.
+//! Copies of graphs and of sporadic tasks with one task longer.
 
-ghost use Rattle.std.specs.Prelude.{◌≡◌, ◌+◌, ◌^◌, ◌<◌, length, slice_get, IfOk};
-ghost use Rattle.std.specs.Option.{option_map_or};
-ghost use Rattle.slot_core.specs.declared.tasks.Graph.{Graph};
-ghost use Rattle.slot_core.specs.declared.tasks.Sporadic.{Sporadic};
-ghost use Rattle.slot_core.specs.Claims.Growth.{changed_at, longer_task, with_longer_task, longer_sporadic, grown};
+ghost use Rattle.std.specs.Prelude.{◌≡◌, ◌+◌, ◌^◌, ◌<◌, [], ◌∷◌, length, IfOk};
+ghost use Rattle.slot_core.specs.Claims.Growth.{changed_at, longer_task, with_longer_task, longer_sporadic};
 ghost use Rattle.slot_core.specs.Offline.Precedence.{wcet_of};
-ghost use Rattle.margin_find.specs.Parts.{IsTaskOf, wcet_at, tasks_at, sporadic_wcet};
+ghost use Rattle.margin_find.specs.Kept.{alone, once_a_cycle};
+ghost use Rattle.margin_find.specs.Parts.{sporadic_wcet};
 
-use slot_core::{Graph, Graphs, Memory, Name, Part, Sporadic, Sporadics, Task, TaskSet, Tasks};
+use slot_core::{Graph, Graphs, Memory, Name, Sporadic, Sporadics, Task, TaskSet, Tasks};
 use std::alloc::Global;
 
 /// A second name like this one.
@@ -55,17 +53,6 @@ fn copy_graph(alloc: Global, graph: &Graph) -> Result<Graph, Memory>
     })
 }
 
-/// A second list of such graphs.
-fn copy_graphs(alloc: Global, graphs: &[Graph]) -> Result<Graphs, Memory>
-    ensures { IfOk result (λ copies. copies ≡ graphs.now) }
-{
-    let mut copies = Graphs::new(alloc);
-    for graph in graphs {
-        copies.push(copy_graph(alloc, graph)?)?;
-    }
-    Ok(copies)
-}
-
 /// A second sporadic task like this one.
 fn copy_sporadic(sporadic: &Sporadic) -> Sporadic
     ensures { result ≡ sporadic.now }
@@ -89,19 +76,6 @@ fn copy_sporadics(alloc: Global, sporadics: &[Sporadic]) -> Result<Sporadics, Me
     Ok(copies)
 }
 
-/// A second set like this one.
-fn copy_set(alloc: Global, tasks: &TaskSet) -> Result<TaskSet, Memory>
-    ensures { IfOk result (λ copy. copy ≡ tasks.now) }
-{
-    let sporadics = copy_sporadics(alloc, tasks.sporadics.items())?;
-    let graphs = copy_graphs(alloc, tasks.graphs.items())?;
-    Ok(TaskSet {
-        soft_limit: tasks.soft_limit,
-        graphs,
-        sporadics,
-    })
-}
-
 /// Gives the task at this place so many slots more.
 fn lengthen_task(tasks: &mut Tasks, task: usize, by: u32)
     requires of { task < length tasks.old }
@@ -109,16 +83,6 @@ fn lengthen_task(tasks: &mut Tasks, task: usize, by: u32)
     ensures { tasks.new ≡ changed_at (longer_task by) task tasks.old }
 {
     tasks.item_mut(task).wcet += by;
-}
-
-/// Gives the task at this place of the graph at its place so many slots more.
-fn lengthen_graph(graphs: &mut Graphs, graph: usize, task: usize, by: u32)
-    requires of { graph < length graphs.old }
-    requires task { task < length (tasks_at graphs.old graph) }
-    requires few { wcet_of (tasks_at graphs.old graph) task + by < 2 ^ 32 }
-    ensures { graphs.new ≡ changed_at (with_longer_task task by) graph graphs.old }
-{
-    lengthen_task(&mut graphs.item_mut(graph).tasks, task, by);
 }
 
 /// Gives the sporadic task at this place so many slots more.
@@ -130,33 +94,69 @@ fn lengthen_sporadic(sporadics: &mut Sporadics, index: usize, by: u32)
     sporadics.item_mut(index).wcet += by;
 }
 
-/// Gives a task or sporadic task of the set so many slots more.
-fn lengthen(set: &mut TaskSet, at: Part, by: u32)
-    requires of { IsTaskOf set.old at }
-    requires few { wcet_at set.old at + by < 2 ^ 32 }
-    ensures { set.new ≡ grown set.old at by }
+/// Copies of the sporadic tasks, the one at this place with so many slots more.
+pub(crate) fn longer_sporadics(
+    alloc: Global,
+    sporadics: &[Sporadic],
+    index: usize,
+    by: u32,
+) -> Result<Sporadics, Memory>
+    requires of { index < length sporadics.now }
+    requires few { sporadic_wcet sporadics.now index + by < 2 ^ 32 }
+    ensures { IfOk result (λ longer.
+        longer ≡ changed_at (longer_sporadic by) index sporadics.now) }
 {
-    match at {
-        Part::Task(graph, task) => {
-            lengthen_graph(&mut set.graphs, usize::from(graph), usize::from(task), by);
-        }
-        Part::Sporadic(index) => lengthen_sporadic(&mut set.sporadics, usize::from(index), by),
-        _ => {}
-    }
+    let mut longer = copy_sporadics(alloc, sporadics)?;
+    lengthen_sporadic(&mut longer, index, by);
+    Ok(longer)
 }
 
-/// A copy of the set with a task or sporadic task of it longer.
-pub(crate) fn longer_set(
+/// A copy of the graph, its task at this place with so many slots more.
+fn longer_graph(alloc: Global, graph: &Graph, task: usize, by: u32) -> Result<Graph, Memory>
+    requires of { task < length graph.now.tasks }
+    requires few { wcet_of graph.now.tasks task + by < 2 ^ 32 }
+    ensures { IfOk result (λ longer. longer ≡ with_longer_task task by graph.now) }
+{
+    let mut longer = copy_graph(alloc, graph)?;
+    lengthen_task(&mut longer.tasks, task, by);
+    Ok(longer)
+}
+
+/// A list of one sporadic task, which comes once a cycle and takes one slot.
+fn once_a_cycle(alloc: Global, name: &Name, cycle: u32) -> Result<Sporadics, Memory>
+    ensures { IfOk result (λ sporadics. sporadics ≡ once_a_cycle name.now cycle ∷ []) }
+{
+    let mut sporadics = Sporadics::new(alloc);
+    sporadics.push(Sporadic {
+        name: copy_name(name),
+        wcet: 1,
+        separation: cycle,
+        deadline: 1,
+    })?;
+    Ok(sporadics)
+}
+
+/// The set that has this graph alone, its task at this place with so many slots more.
+pub(crate) fn longer_alone(
     alloc: Global,
-    tasks: &TaskSet,
-    at: Part,
+    soft_limit: u32,
+    cycle: u32,
+    graph: &Graph,
+    task: usize,
     by: u32,
 ) -> Result<TaskSet, Memory>
-    requires of { IsTaskOf tasks.now at }
-    requires few { wcet_at tasks.now at + by < 2 ^ 32 }
-    ensures { IfOk result (λ longer. longer ≡ grown tasks.now at by) }
+    requires of { task < length graph.now.tasks }
+    requires few { wcet_of graph.now.tasks task + by < 2 ^ 32 }
+    ensures { IfOk result (λ set.
+        set ≡ alone soft_limit cycle (with_longer_task task by graph.now)) }
 {
-    let mut longer = copy_set(alloc, tasks)?;
-    lengthen(&mut longer, at, by);
-    Ok(longer)
+    let longer = longer_graph(alloc, graph, task, by)?;
+    let sporadics = once_a_cycle(alloc, &graph.name, cycle)?;
+    let mut graphs = Graphs::new(alloc);
+    graphs.push(longer)?;
+    Ok(TaskSet {
+        soft_limit,
+        graphs,
+        sporadics,
+    })
 }

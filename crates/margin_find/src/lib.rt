@@ -4,8 +4,10 @@
 
 mod all;
 mod copies;
+mod kept;
 pub mod laws;
 mod margin;
+mod own;
 mod search;
 mod whole;
 

@@ -2,8 +2,10 @@
 
 ghost use Rattle.std.specs.Prelude.{IfOk};
 ghost use Rattle.slot_core.specs.Claims.Growth.{IsMargin};
+ghost use Rattle.margin_find.specs.Kept.{ServesFor};
 ghost use Rattle.margin_find.specs.Parts.{IsTaskOf};
 
+use crate::kept::Kept;
 use crate::search::narrowed;
 use crate::whole::by_whole_cycle;
 use cycle_plan::Plan;
@@ -39,9 +41,24 @@ pub fn margin_near(alloc: Global, plan: &Plan, at: Part, likely: u32) -> Result<
     requires { IsTaskOf plan.now.tasks at }
     ensures { IfOk result (λ m. IsMargin plan.now.tasks at m.growth m.window) }
 {
-    let tasks = plan.tasks();
-    let whole = by_whole_cycle(tasks, plan.cycle(), at);
-    let bounds = narrowed(alloc, tasks, at, whole, likely)?;
+    let kept = Kept::of(alloc, plan, at)?;
+    margin_beside(alloc, plan, &kept, at, likely)
+}
+
+/// The same, with what the tests of this task share.
+pub(crate) fn margin_beside(
+    alloc: Global,
+    plan: &Plan,
+    kept: &Kept,
+    at: Part,
+    likely: u32,
+) -> Result<Margin, Memory>
+    requires of { IsTaskOf plan.now.tasks at }
+    requires kept { ServesFor plan.now.tasks at kept.now }
+    ensures { IfOk result (λ m. IsMargin plan.now.tasks at m.growth m.window) }
+{
+    let whole = by_whole_cycle(plan.tasks(), plan.cycle(), at);
+    let bounds = narrowed(alloc, plan, kept, at, whole, likely)?;
     Ok(Margin {
         growth: bounds.fits,
         window: bounds.window,

@@ -25,7 +25,7 @@ use Rattle.scene_steps.proofs.Slots.Places.{AreApart-same}
 use Rattle.plan_change.specs.declared.keep.Keep.{Keep}
 use Rattle.plan_change.specs.declared.offers.Offer.{Offer}
 use Rattle.plan_change.specs.Carrying.{carried_from, carried_jobs, goes_first, goes_on, in_row_order, next_row, offer_of, offers_from, offers_of, row_in}
-use Rattle.plan_change.specs.Laws.{OneListIsCarried, PredecessorsGoFirst}
+use Rattle.plan_change.specs.Laws.{OneListIsCarried, PredecessorsGoFirst, TheRowOrderRises}
 use Rattle.plan_change.proofs.CarriedRows.{carried-one, carried-sorted}
 use Rattle.plan_change.proofs.CarriedServed.{carried_jobs_keep_their_order}
 use Rattle.plan_change.proofs.RowOrder.{AreInRowOrder, AreInRowOrder-in_order, AreInRowOrder-one, IsPermutation-in_row_order}
@@ -82,6 +82,12 @@ first-at (j ∷ jobs) zero (suc n) before after sorted lower at_m at_n =
 first-at (j ∷ jobs) (suc m) (suc n) before after sorted lower at_m at_n =
     first-at jobs m n before after sorted.1 (omega (arith, lower)) at_m at_n
 
+pub the_row_order_rises : TheRowOrderRises
+the_row_order_rises jobs apart = (
+  IsPermutation-in_row_order jobs,
+  λ m n a b lower at_m at_n. first-at (in_row_order jobs) m n a b (AreInRowOrder-in_order jobs (IsApart-from_count jobs apart)) lower at_m at_n,
+)
+
 -- of two offline jobs the one that goes first is due no later
 first_due : (off other : Bool) (dl row dl' row' : ℕ) (xs ys : List ℕ) → off ≡ true → other ≡ true → is_lt (slice_cmp nat_cmp ((cond off 1 0) ∷ (cond off dl row) ∷ xs) ((cond other 1 0) ∷ (cond other dl' row') ∷ ys)) ≡ true → dl ≤ dl'
 first_due off other dl row dl' row' xs ys a b first = grind (arith, nat_tests)
@@ -120,7 +126,7 @@ module _ (exec : Executive) (kept : IsKept exec) (keep : Keep) (before after : J
       ]
 
 pub predecessors_go_first : PredecessorsGoFirst
-predecessors_go_first exec set keep first m n before after a b later kept above sound feasible at_m at_n precede made_m made_n =
+predecessors_go_first exec set keep first m n before after a b later kept sound feasible at_m at_n precede made_m made_n =
     let c = exec.scene.time in
     let cycle = cycle_of set in
     let jobs = carried_from keep exec in

@@ -1,6 +1,6 @@
 -- The jobs that an executive carries over: each may be offered, and their rows rise.
 use Rattle.std.proofs.Common.{◌≡◌, ℕ, ◌+◌, ◌-◌, ◌*◌, ◌/◌, ◌<◌, ◌≤◌, min, Bool, true, false, cond, List, [], ◌∷◌, length, refl, sym, ap, ◌∙◌, subst, inl, inr, arith}
-use Rattle.std.specs.Prelude.{filter, nat_le, sum_by}
+use Rattle.std.specs.Prelude.{◌||◌, not, filter, nat_le, sum_by}
 use Rattle.std.specs.Cmp.Lexicographic.{slice_cmp}
 use Rattle.std.specs.Ordering.{is_lt, nat_cmp}
 use Rattle.std.proofs.lemmas.Bool.{cases_Bool, cases_eq, cond-true, false≢true}
@@ -32,7 +32,9 @@ use Rattle.slot_facts.proofs.Plans.Items.{plan_cycle-bounds}
 use Rattle.slot_facts.proofs.Scheduling.Beside.{planned_due}
 use Rattle.slot_facts.proofs.Scheduling.Raw.{IsInRaw-from_planned}
 use Rattle.plan_change.specs.declared.keep.Keep.{Keep}
-use Rattle.plan_change.specs.Carrying.{carried_from, goes_first, goes_on, in_row_order, offers_from, offers_of}
+use Rattle.plan_change.specs.declared.keep.Keep.TheVariants.{Drop, Graphs, Started}
+use Rattle.plan_change.specs.declared.offers.Offer.{Offer}
+use Rattle.plan_change.specs.Carrying.{carried_from, goes_first, goes_on, in_row_order, offer_of, offers_from, offers_of}
 use Rattle.plan_change.specs.Laws.{CarriedJobsMayBeOffered}
 use Rattle.plan_change.specs.Offers.{MayBeOffered}
 use Rattle.plan_change.proofs.OwnRows.{is_own, own_count, own_rows}
@@ -127,11 +129,23 @@ offers-may c cycle row next (job ∷ jobs) sorted apart each own positive low =
           )
     ]
 
+-- where no job is an offline one, each has its own row, whatever the next one that is free
+offers-own : (c cycle next other : ℕ) (jobs : List Job) → ((job : Job) → Has jobs job → is_offline job.key ≡ false) → offers_of c cycle next jobs ≡ offers_of c cycle other jobs
+offers-own c cycle next other [] none = refl
+offers-own c cycle next other (job ∷ jobs) none =
+    let rest = offers-own c cycle next other jobs (λ j at. none j (inr at)) in
+    rw (none job (inl refl)) (ap (λ (offers : List Offer). offer_of c cycle (row_of job.key) job ∷ offers) rest)
+
+-- an offline job does not go on where none is kept
+pub none-kept : (off : Bool) → off ≡ true → (not off || false) ≡ true → ⊥
+none-kept true is goes = absurd (cc goes)
+none-kept false is goes = absurd (cc is)
+
 -- a time within three cycles of the start of its own lies at most that far ahead
 near_ahead : (t cycle dl : ℕ) → dl ≤ (t / cycle + 3) * cycle → dl ≤ t + 3 * cycle
 near_ahead t cycle dl low = omega (arith, div-add-mod' t cycle)
 
-ahead-in_reach : (t cycle : ℕ) → 1 ≤ cycle → t + cycle ≤ (t / cycle + 3) * cycle
+pub ahead-in_reach : (t cycle : ℕ) → 1 ≤ cycle → t + cycle ≤ (t / cycle + 3) * cycle
 ahead-in_reach t cycle some = omega (arith, div-add-mod' t cycle, mod_below t cycle some)
 
 -- a sum over those that pass is at most the sum over all
@@ -190,6 +204,14 @@ module _ (exec : Executive) (kept : IsKept exec) where
       let permuted = IsPermutation-sym going (in_row_order going) (IsPermutation-in_row_order going) in
       Has-filter_passes test exec.scene.jobs job (Has-permuted (in_row_order going) going job permuted at)
 
+  -- with Drop none of them is an offline one
+  pub none-dropped : (job : Job) → Has (carried_from Drop exec) job → is_offline job.key ≡ false
+  none-dropped job at =
+      elim (cases_Bool (is_offline job.key)) [
+        | inl offline ↦ absurd (none-kept (is_offline job.key) offline (carried-one Drop job at).1)
+        | inr other ↦ other
+      ]
+
   pub carried-sorted : (keep : Keep) → AreInRowOrder (carried_from keep exec)
   carried-sorted keep =
       AreInRowOrder-in_order (filter (goes_on keep exec.plan.tasks exec.scene.time) exec.scene.jobs) (going-apart keep)
@@ -235,8 +257,8 @@ module _ (exec : Executive) (kept : IsKept exec) where
         ]) stands
 
     -- so they may be offered
-    pub carried-may : (keep : Keep) (cycle first : ℕ) → exec.last_row < first → 1 ≤ cycle → MayBeOffered cycle 0 (offers_from keep exec cycle first)
-    carried-may keep cycle first above some =
+    carried-above : (keep : Keep) (cycle first : ℕ) → exec.last_row < first → 1 ≤ cycle → MayBeOffered cycle 0 (offers_from keep exec cycle first)
+    carried-above keep cycle first above some =
         offers-may exec.scene.time cycle 0 first (carried_from keep exec) (carried-sorted keep) (carried-apart keep)
         (λ job at. MayGoOn-kept job (carried-one keep job at).0)
         (λ job at other.
@@ -244,22 +266,25 @@ module _ (exec : Executive) (kept : IsKept exec) where
         (rows.0, omega (arith, rows.1, above)))
         some (omega (arith, above))
 
--- an executive carries over no more than it has
-pub carried-few : (keep : Keep) (exec : Executive) → length (carried_from keep exec) ≤ length exec.scene.jobs
-carried-few keep exec =
-    let test = goes_on keep exec.plan.tasks exec.scene.time in
-    let going = filter test exec.scene.jobs in
-    omega (
-      arith,
-      length_permutation going (in_row_order going) (IsPermutation-in_row_order going),
-      length-filter test exec.scene.jobs,
-      count_by-le-length test exec.scene.jobs,
-    )
+    -- and where no offline job goes on, whatever row is told for those
+    pub carried-may : (keep : Keep) (cycle first : ℕ) → ((keep ≡ Drop → ⊥) → exec.last_row < first) → 1 ≤ cycle → MayBeOffered cycle 0 (offers_from keep exec cycle first)
+    carried-may Drop cycle first above some =
+        subst (MayBeOffered cycle 0) (offers-own exec.scene.time cycle (exec.last_row + 1) first (carried_from Drop exec) none-dropped) (carried-above Drop cycle (exec.last_row + 1) (omega arith) some)
+    carried-may Started cycle first above some = carried-above Started cycle first (above (λ e. absurd (cc e))) some
+    carried-may Graphs cycle first above some = carried-above Graphs cycle first (above (λ e. absurd (cc e))) some
 
--- its offers, by a time and a list that are its own
-pub offers-same : (keep : Keep) (exec : Executive) (cycle first t : ℕ) (jobs : List Job) → t ≡ exec.scene.time → jobs ≡ carried_from keep exec → offers_of t cycle first jobs ≡ offers_from keep exec cycle first
-offers-same keep exec cycle first t jobs now same =
-    ap (offers_of t cycle first) same ∙ ap (λ (u : ℕ). offers_of u cycle first (carried_from keep exec)) now
+-- as many are carried over as go on
+pub carried-length : (keep : Keep) (exec : Executive) → length (carried_from keep exec) ≡ length (filter (goes_on keep exec.plan.tasks exec.scene.time) exec.scene.jobs)
+carried-length keep exec =
+    let going = filter (goes_on keep exec.plan.tasks exec.scene.time) exec.scene.jobs in
+    omega (arith, length_permutation going (in_row_order going) (IsPermutation-in_row_order going))
+
+-- its offers, by a time, a cycle and a list that are these
+pub offers-same : (keep : Keep) (exec : Executive) (cycle first t n : ℕ) (jobs : List Job) → t ≡ exec.scene.time → n ≡ cycle → jobs ≡ carried_from keep exec → offers_of t n first jobs ≡ offers_from keep exec cycle first
+offers-same keep exec cycle first t n jobs now whole same =
+    ap (offers_of t n first) same
+    ∙ ap (λ (u : ℕ). offers_of u n first (carried_from keep exec)) now
+    ∙ ap (λ (m : ℕ). offers_from keep exec m first) whole
 
 pub carried_jobs_may_be_offered : CarriedJobsMayBeOffered
 carried_jobs_may_be_offered exec h keep cycle first kept stands above some =

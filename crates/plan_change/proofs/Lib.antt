@@ -3,8 +3,10 @@ pub mod CarriedRows
 pub mod CarriedServed
 pub mod FirstOffers
 pub mod FreshStart
+pub mod OfferOrder
 pub mod OneMore
 pub mod OwnRows
+pub mod Released
 pub mod RowOrder
 pub mod SwitchVerdicts
 pub mod Together

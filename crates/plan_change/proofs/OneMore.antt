@@ -1,9 +1,10 @@
 -- The loops over jobs: one more is listed, counted or offered.
 use Rattle.std.proofs.Common.{◌≡◌, ℕ, ◌+◌, ◌-◌, ◌<◌, ◌≤◌, Bool, true, false, cond, List, [], ◌∷◌, ◌++◌, drop, get_or, length, take, Some, sym, ap, ◌∙◌, arith}
 use Rattle.std.specs.Prelude.{filter, nat_lt, slice_get}
-use Rattle.std.proofs.lemmas.List.{drop_all, drop_more, length-take, take_all, take_more}
+use Rattle.std.proofs.lemmas.List.{drop_all, drop_more, length-append, take_all, take_more}
 use Rattle.std.proofs.lemmas.List.Elements.{filter-append}
-use Rattle.std.proofs.lemmas.List.Sums.{count_by-le-length, length-filter, sum_by-append, sum_by-cons}
+use Rattle.std.proofs.lemmas.List.Sums.{length-filter, sum_by-append, sum_by-cons, sum_by-take-le}
+use Rattle.std.proofs.lemmas.Bool.{cond-true}
 use Rattle.std.proofs.lemmas.Option.{get_or_from_slice_get, slice_get_within}
 use Rattle.slot_core.specs.declared.jobs.Job.{Job}
 use Rattle.plan_change.specs.declared.offers.Offer.{Offer}
@@ -16,10 +17,22 @@ filter-more p jobs i job at =
     ap (filter p) (take_more jobs i job (slice_get_within jobs i job at) ∙ ap (λ (j : Job). take i jobs ++ j ∷ []) here)
     ∙ filter-append p (take i jobs) (job ∷ [])
 
--- there are no more of them than items
-pub filter-few : (p : Job → Bool) (jobs : List Job) (i : ℕ) → length (filter p (take i jobs)) ≤ i
-filter-few p jobs i =
-    omega (arith, length-filter p (take i jobs), count_by-le-length p (take i jobs), length-take i jobs)
+-- before one that passes there are fewer of them than of all
+pub filter-room : (p : Job → Bool) (jobs : List Job) (i : ℕ) (job : Job) → slice_get jobs i ≡ Some job → p job ≡ true → length (filter p (take i jobs)) < length (filter p jobs)
+filter-room p jobs i job at passes =
+    let one : ℕ = cond (p job) 1 0 in
+    let all = sum_by-take-le (λ (j : Job). cond (p j) 1 0) jobs (i + 1) in
+    omega (
+      arith,
+      ap (λ (js : List Job). length js) (filter-more p jobs i job at),
+      length-append (filter p (take i jobs)) (filter p (job ∷ [])),
+      length-filter p (job ∷ []),
+      sum_by-cons (λ (j : Job). cond (p j) 1 0) job [],
+      cond-true {A = ℕ} (p job) 1 0 passes,
+      length-filter p (take (i + 1) jobs),
+      length-filter p jobs,
+      all,
+    )
 
 -- of all items
 pub filter-all : (p : Job → Bool) (jobs : List Job) (i : ℕ) → length jobs ≤ i → filter p (take i jobs) ≡ filter p jobs

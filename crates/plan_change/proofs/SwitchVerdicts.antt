@@ -10,15 +10,15 @@ use Rattle.slot_core.specs.Sets.Cycles.{cycle_of}
 use Rattle.slot_core.specs.Keeping.Executives.{Executive}
 use Rattle.slot_core.specs.Runs.Demand.{work_by}
 use Rattle.slot_core.specs.Runs.Matches.{HaveSameItems}
-use Rattle.slot_facts.proofs.Lists.Members.{AllByRecursion-from_Has, Contains-from_Has, Has-filter, Has-from_Contains}
+use Rattle.slot_facts.proofs.Lists.Members.{AllByRecursion-from_Has, Contains-from_Has, Has, Has-filter}
+use Rattle.slot_facts.proofs.Lists.Permuted.{Has-permuted}
 use Rattle.slot_facts.proofs.Lists.SameItems.{jobs-same_items, same-from_permutation, same-sym}
 use Rattle.slot_facts.proofs.Lists.Sums.{sum_by-filter, sum_by-le-where, sum_by-map}
 use Rattle.scene_steps.proofs.Slots.Places.{AreApart-same}
 use Rattle.change_laws.specs.Carried.{AreCarried, carried_of, since}
 use Rattle.change_laws.proofs.GrantJobs.{what_remains_is_carried}
 use Rattle.plan_change.specs.declared.keep.Keep.{Keep}
-use Rattle.plan_change.specs.declared.keep.Keep.TheVariants.{Drop}
-use Rattle.plan_change.specs.Carrying.{goes_on, in_row_order, is_kept, next_row, offer_of, offers_from, offers_of, row_in}
+use Rattle.plan_change.specs.Carrying.{carried_from, goes_on, in_row_order, is_kept, next_row, offer_of, offers_from, offers_of, row_in}
 use Rattle.plan_change.specs.Laws.{AgreesWithTheSwitch, CarryingMoreIsHarder}
 use Rattle.plan_change.specs.Offers.{first_jobs, row_after}
 use Rattle.plan_change.proofs.FirstOffers.{AreCarried-first, less_work_can_change, since-zero}
@@ -100,31 +100,42 @@ less-work exec keep cycle first x carried same =
     )
 
 -- where no offline job goes on and no deadline is cut, the work is the same
-no_more : (off : Bool) (dl cycle x left : ℕ) → (off ≡ false → dl ≤ cycle) → cond (not off || false) (cond (nat_le (min dl cycle) x) left 0) 0 ≤ cond (not off) (cond (nat_le dl x) left 0) 0
-no_more true dl cycle x left near = omega arith
-no_more false dl cycle x left near =
+no_more : (off kept : Bool) (dl cycle x left : ℕ) → ((not off || kept) ≡ true → off ≡ false) → (off ≡ false → dl ≤ cycle) → cond (not off || kept) (cond (nat_le (min dl cycle) x) left 0) 0 ≤ cond (not off) (cond (nat_le dl x) left 0) 0
+no_more true true dl cycle x left none near = absurd (cc (none refl))
+no_more true false dl cycle x left none near = omega arith
+no_more false kept dl cycle x left none near =
     let low = near refl in
     let same : min dl cycle ≡ dl = omega arith in
     rw same (omega arith)
 
-more-work : (exec : Executive) (cycle first x : ℕ) (carried : List Job) → HaveSameItems carried (carried_of exec.scene.jobs) → ((job : Job) → Contains exec.scene.jobs job → is_offline job.key ≡ false → job.dl ≤ exec.scene.time + cycle) → work_by (map (since 0) (first_jobs (offers_from Drop exec cycle first))) x ≤ work_by (map (since exec.scene.time) carried) x
-more-work exec cycle first x carried same near =
+-- a job that goes on is then no offline one, and is due within the cycle
+record IsNear (exec : Executive) (keep : Keep) (cycle : ℕ) (job : Job) : Type 0 where
+  pub none : goes_on keep exec.plan.tasks exec.scene.time job ≡ true → is_offline job.key ≡ false
+  pub near : is_offline job.key ≡ false → job.dl - exec.scene.time ≤ cycle
+
+more-work : (exec : Executive) (keep : Keep) (cycle first x : ℕ) (carried : List Job) → HaveSameItems carried (carried_of exec.scene.jobs) → ((job : Job) → Has exec.scene.jobs job → IsNear exec keep cycle job) → work_by (map (since 0) (first_jobs (offers_from keep exec cycle first))) x ≤ work_by (map (since exec.scene.time) carried) x
+more-work exec keep cycle first x carried same near =
     let c = exec.scene.time in
     let set = exec.plan.tasks in
-    let Near : Job → Type 0 = λ j. is_offline j.key ≡ false → j.dl - c ≤ cycle in
-    let all = AllByRecursion-from_Has Near exec.scene.jobs (λ j at other. omega (arith, near j (Contains-from_Has exec.scene.jobs j at) other)) in
     omega (
       arith,
       work-switched exec carried x same,
-      work-carried exec Drop cycle first x,
+      work-carried exec keep cycle first x,
       sum_by-le-where
-          (λ (j : Job). cond (goes_on Drop set c j) (cut_work c cycle x j) 0)
+          (λ (j : Job). cond (goes_on keep set c j) (cut_work c cycle x j) 0)
           (λ (j : Job). cond (not (is_offline j.key)) (own_work c x j) 0)
-          Near
+          (IsNear exec keep cycle)
           exec.scene.jobs
-          all
-          (λ j low. no_more (is_offline j.key) (j.dl - c) cycle x j.left low),
+          (AllByRecursion-from_Has (IsNear exec keep cycle) exec.scene.jobs near)
+          (λ j is. no_more (is_offline j.key) (is_kept keep set c j) (j.dl - c) cycle x j.left is.none is.near),
     )
+
+-- each job that goes on is carried over
+Has-carried : (keep : Keep) (exec : Executive) (job : Job) → Has exec.scene.jobs job → goes_on keep exec.plan.tasks exec.scene.time job ≡ true → Has (carried_from keep exec) job
+Has-carried keep exec job at goes =
+    let test = goes_on keep exec.plan.tasks exec.scene.time in
+    let going = filter test exec.scene.jobs in
+    Has-permuted going (in_row_order going) job (IsPermutation-in_row_order going) (Has-filter test exec.scene.jobs job at goes)
 
 -- the jobs of a switch may be carried over, in whatever order
 AreCarried-same : (c row : ℕ) (xs ys : List Job) → HaveSameItems xs ys → AreCarried c row ys → AreCarried c row xs
@@ -148,15 +159,19 @@ carrying_more_is_harder exec set keep first carried kept sound feasible may same
     less_work_can_change set 0 exec.scene.time (row_after 0 offers) exec.last_row (first_jobs offers) carried sound feasible (AreCarried-first cycle offers may) own (λ x. less-work exec keep cycle first x carried same) can
 
 pub agrees_with_the_switch : AgreesWithTheSwitch
-agrees_with_the_switch exec set first carried kept sound feasible may same near =
+agrees_with_the_switch exec set keep first carried kept sound feasible may same near none =
     let cycle = cycle_of set in
-    let offers = offers_from Drop exec cycle first in
+    let offers = offers_from keep exec cycle first in
     let jobs = exec.scene.jobs in
     let beside = λ (j : Job). not (is_offline j.key) in
     let own = AreCarried-same exec.scene.time exec.last_row carried (carried_of jobs) same (what_remains_is_carried exec kept) in
-    let low = λ (job : Job) (at : Contains jobs job) (other : is_offline job.key ≡ false).
-    let listed = Contains-from_Has (carried_of jobs) job (Has-filter beside jobs job (Has-from_Contains jobs job at) (ap not other)) in
-    near job (Contains-permutation (carried_of jobs) carried job ((jobs-same_items (carried_of jobs) carried).0 (same-sym carried (carried_of jobs) same)) listed) in (
-      carrying_more_is_harder exec set Drop first carried kept sound feasible may same,
-      λ can. less_work_can_change set exec.scene.time 0 exec.last_row (row_after 0 offers) carried (first_jobs offers) sound feasible own (AreCarried-first cycle offers may) (λ x. more-work exec cycle first x carried same low) can,
+    let low = λ (job : Job) (at : Has jobs job) (other : is_offline job.key ≡ false).
+    let listed = Contains-from_Has (carried_of jobs) job (Has-filter beside jobs job at (ap not other)) in
+    near job (Contains-permutation (carried_of jobs) carried job ((jobs-same_items (carried_of jobs) carried).0 (same-sym carried (carried_of jobs) same)) listed) in
+    let each : (job : Job) → Has jobs job → IsNear exec keep cycle job = λ job at. record {
+      none = λ goes. none job (Contains-from_Has (carried_from keep exec) job (Has-carried keep exec job at goes));
+      near = λ other. omega (arith, low job at other);
+    } in (
+      carrying_more_is_harder exec set keep first carried kept sound feasible may same,
+      λ can. less_work_can_change set exec.scene.time 0 exec.last_row (row_after 0 offers) carried (first_jobs offers) sound feasible own (AreCarried-first cycle offers may) (λ x. more-work exec keep cycle first x carried same each) can,
     )

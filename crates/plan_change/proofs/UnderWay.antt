@@ -1,6 +1,8 @@
 -- Offers that are made one after the other: what is known on the way, at the end, and where one has no room.
-use Rattle.std.proofs.Common.{◌≡◌, ℕ, ◌+◌, ◌-◌, ◌≤◌, true, cond, List, [], ◌∷◌, ◌++◌, refl, sym, ap, ◌∙◌, subst, arith}
+use Rattle.std.proofs.Common.{◌≡◌, ℕ, ◌+◌, ◌-◌, ◌*◌, ◌<◌, ◌≤◌, true, cond, List, [], ◌∷◌, ◌++◌, refl, sym, ap, ◌∙◌, subst, inl, inr, arith}
 use Rattle.std.specs.Prelude.{nat_le}
+use Rattle.std.proofs.Math.Nat.{zero-div}
+use Rattle.std.proofs.lemmas.Bool.{cases_lt}
 use Rattle.std.proofs.lemmas.Bool.Decides.{nat_tests}
 use Rattle.std.proofs.lemmas.List.{append-nil, append_assoc}
 use Rattle.slot_core.specs.declared.jobs.Evidence.{Evidence}
@@ -16,14 +18,14 @@ use Rattle.slot_core.specs.Keeping.Plans.{IsPlan, PlanParts}
 use Rattle.slot_core.specs.Runs.Answers.{firm_answer}
 use Rattle.slot_core.specs.Runs.Demand.{need_by, work_by}
 use Rattle.slot_core.specs.Runs.Histories.{History, time_of}
-use Rattle.slot_core.specs.Runs.Scenes.{scene_of}
+use Rattle.slot_core.specs.Runs.Scenes.{horizon, scene_of}
 use Rattle.slot_core.specs.Runs.Traces.{started}
 use Rattle.slot_facts.proofs.Offers.Answers.{short-from_no_room}
 use Rattle.plan_change.specs.declared.offers.Offer.{Offer}
-use Rattle.plan_change.specs.Changed.{CanStartWith, HasNoRoom, IsChanged}
+use Rattle.plan_change.specs.Changed.{CanStartWith, HasNoRoom, IsChanged, IsCutOff}
 use Rattle.plan_change.specs.Offers.{accepted_after, AllAccepted, first_jobs, MayBeOffered}
 use Rattle.plan_change.proofs.FirstOffers.{due-first, first_exactly}
-use Rattle.plan_change.proofs.Together.{need-after, work_by-offers}
+use Rattle.plan_change.proofs.Together.{fit-from_accepted, need-after, work_by-offers}
 
 -- offers and more offers
 accepted_after-append : (h : History) (xs ys : List Offer) → accepted_after h (xs ++ ys) ≡ accepted_after (accepted_after h xs) ys
@@ -52,6 +54,9 @@ time-accepted h (offer ∷ offers) = time-accepted (Firm offer.row offer.slots o
 counts-due : (dl slots x : ℕ) → dl ≤ x → cond (nat_le (0 + dl) x) slots 0 ≡ slots
 counts-due dl slots x due = grind (arith, nat_tests)
 
+counts-later : (dl slots x : ℕ) → x < dl → cond (nat_le (0 + dl) x) slots 0 ≡ 0
+counts-later dl slots x late = grind (arith, nat_tests)
+
 -- the work of one more offer at the end
 work-more : (before : List Offer) (offer : Offer) (x : ℕ) → work_by (first_jobs (before ++ offer ∷ [])) x ≡ work_by (first_jobs before) x + cond (nat_le (0 + offer.within) x) offer.slots 0
 work-more [] offer x = omega (arith, work_by-offers 0 offer [] x)
@@ -78,6 +83,7 @@ module _ (set : TaskSet) (sound : is_sound set ≡ true) (feasible : IsFeasible 
       let short = short-from_no_room set.sporadics cycle scene offer.slots offer.within e answer in
       let now : time_of h ≡ 0 = time-accepted started before in
       let due : offer.within ≤ x = omega (arith, short.after, now) in
+      let ends : horizon cycle (time_of h) ≡ 3 * cycle = ap (horizon cycle) now ∙ ap (λ n. (n + 3) * cycle) (zero-div cycle) in
       let needed = need-after set sound feasible started before x tt front accepted in
       let at_zero : need_by set.sporadics scene (time_of h) x ≡ need_by set.sporadics scene 0 x = ap (λ (t : ℕ). need_by set.sporadics scene t x) now in
       let need : e.need ≡ offer.slots + need_by set.sporadics scene (time_of h) x = ap (λ (f : Evidence). f.need) short.exact in
@@ -90,6 +96,7 @@ module _ (set : TaskSet) (sound : is_sound set ≡ true) (feasible : IsFeasible 
         row = refl;
         fits = (first_exactly set before sound feasible front).0 accepted;
         due = due;
+        near = omega (arith, short.before, ends);
         need = omega (
           arith,
           need,
@@ -101,6 +108,25 @@ module _ (set : TaskSet) (sound : is_sound set ≡ true) (feasible : IsFeasible 
         );
         room = omega (arith, room, now);
         more = omega (arith, short.short, need, room);
+        least = λ y early. elim (cases_lt y offer.within) [
+          | inl sooner ↦
+              let fit = fit-from_accepted set sound feasible started before tt front accepted y (omega arith) (omega (arith, early, short.before, ends)) in
+              omega (arith, due-first set (before ++ offer ∷ []) y sound, work-more before offer y, counts-later offer.within offer.slots y sooner, fit)
+          | inr later ↦
+              let low : offer.within ≤ y = omega (arith, later) in
+              let fit = short.least y (omega (arith, low, now)) early in
+              let moved : need_by set.sporadics scene (time_of h) y ≡ need_by set.sporadics scene 0 y = ap (λ (t : ℕ). need_by set.sporadics scene t y) now in
+              omega (
+                arith,
+                due-first set (before ++ offer ∷ []) y sound,
+                work-more before offer y,
+                counts-due offer.within offer.slots y low,
+                need-after set sound feasible started before y tt front accepted,
+                moved,
+                fit,
+                now,
+              )
+        ];
       }
 
   pub refused-here : (¬ (CanStartWith set (before ++ offer ∷ rest))) × HasNoRoom set (before ++ offer ∷ rest) (record { row = offer.row; evidence = e })
@@ -175,3 +201,16 @@ module _ (first : Executive) (plan : IsPlan first.plan) where
       let Here : ℕ → Type 0 = λ n. IsFeasible set n → MayBeOffered n 0 (way.before ++ offer ∷ rest) → AllAccepted set n started way.before → firm_answer set.sporadics n (scene_of set n h) offer.slots offer.within ≡ NoRoom e → Refused (way.before ++ offer ∷ rest) in
       subst Refused (sym way.parts)
       (subst Here (sym plan.cycle) (λ feasible m a told. refused-here set plan.sound feasible way.before rest offer m a e told) plan.feasible parts way.accepted answer)
+
+-- and the executive stands for the history of that
+pub IsCutOff-from_way : (first now next : Executive) (all rest : List Offer) (offer : Offer) (e : Evidence) → IsUnderWay first now all (offer ∷ rest) → next.plan ≡ now.plan → ((h : History) → StandsFor now h → StandsFor next (Firm offer.row offer.slots offer.within (NoRoom e) ∷ h)) → IsCutOff first.plan all (record { row = offer.row; evidence = e }) next
+IsCutOff-from_way first now next all rest offer e way same stands =
+    record {
+      before = way.before;
+      offer = offer;
+      rest = rest;
+      parts = way.parts;
+      row = refl;
+      plan_of = same ∙ way.plan;
+      stands = stands (accepted_after started way.before) way.stands;
+    }

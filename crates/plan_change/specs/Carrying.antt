@@ -1,6 +1,6 @@
 -- Which remaining jobs go on at a change of plan, in which order, and as which offers. Times of the
 -- offers count from the change on.
-use Rattle.std.specs.Prelude.{ℕ, ◌+◌, ◌-◌, Bool, false, ◌||◌, not, List, [], ◌∷◌, filter, count_by, min, nat_le, nat_lt, if◌then◌else◌}
+use Rattle.std.specs.Prelude.{◌≡◌, ℕ, ◌+◌, ◌-◌, Bool, false, ◌||◌, not, List, [], ◌∷◌, Contains, filter, count_by, min, nat_lt, if◌then◌else◌}
 use Rattle.std.specs.Ordering.{nat_cmp, is_lt}
 use Rattle.std.specs.Cmp.Lexicographic.{slice_cmp}
 use Rattle.slot_core.specs.declared.jobs.Job.{Job}
@@ -13,11 +13,13 @@ use Rattle.plan_change.specs.declared.keep.Keep.TheVariants.{Drop, Started, Grap
 use Rattle.plan_change.specs.declared.offers.Offer.{Offer}
 
 -- whether an offline job goes on at time c: none does, those that have run a slot, or all of the
--- instances of graphs that have been released
+-- instances of graphs that were released before c. What would be released at c itself is left to
+-- the second plan, which begins there: it releases its own instances from c on, and where it has
+-- the same graph the work would stand there twice
 abbrev pub is_kept : Keep → TaskSet → ℕ → Job → Bool
 is_kept Drop set c job = false
 is_kept Started set c job = nat_lt job.left job.declared
-is_kept Graphs set c job = nat_le (raw_release set job) c
+is_kept Graphs set c job = nat_lt (raw_release set job) c
 
 -- whether a remaining job goes on: each firm and sporadic one does
 abbrev pub goes_on : Keep → TaskSet → ℕ → Job → Bool
@@ -81,3 +83,8 @@ carried_from keep exec = carried_jobs keep exec.plan.tasks exec.scene.time exec.
 abbrev pub offers_from : Keep → Executive → ℕ → ℕ → List Offer
 offers_from keep exec cycle first =
     offers_of exec.scene.time cycle first (carried_from keep exec)
+
+-- no offline job goes on
+abbrev pub NoOfflineJobGoesOn : Keep → Executive → Type 0
+NoOfflineJobGoesOn keep exec =
+    (job : Job) → Contains (carried_from keep exec) job → is_offline job.key ≡ false

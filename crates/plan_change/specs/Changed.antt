@@ -1,6 +1,9 @@
 -- What a change of plan makes of two executives, and what a refusal tells.
-use Rattle.std.specs.Prelude.{◌≡◌, ℕ, ◌+◌, ◌≤◌, ◌<◌, List, [], ◌∷◌, ◌++◌, length}
+use Rattle.std.specs.Prelude.{◌≡◌, ℕ, ◌+◌, ◌*◌, ◌≤◌, ◌<◌, List, [], ◌∷◌, ◌++◌, length}
+use Rattle.slot_core.specs.declared.events.Firm.TheVariants.{NoRoom}
+use Rattle.slot_core.specs.declared.events.What.TheVariants.{Firm}
 use Rattle.slot_core.specs.declared.tasks.TaskSet.{TaskSet}
+use Rattle.slot_core.specs.Sets.Cycles.{cycle_of}
 use Rattle.slot_core.specs.Runs.Traces.{started}
 use Rattle.slot_core.specs.Keeping.Executives.{Executive, StandsFor}
 use Rattle.slot_core.specs.Keeping.Plans.{PlanParts}
@@ -42,8 +45,9 @@ pub record HasNoRoom (set : TaskSet) (offers : List Offer) (refusal : Refusal) :
   pub row : refusal.row ≡ offer.row
   -- those before it fit
   pub fits : CanStartWith set before
-  -- it is due by then
+  -- it is due by then, in the three cycles that are looked at
   pub due : offer.within ≤ refusal.evidence.until
+  pub near : refusal.evidence.until ≤ 3 * cycle_of set
   -- so many slots are needed by then
   pub need :
       refusal.evidence.need
@@ -51,3 +55,23 @@ pub record HasNoRoom (set : TaskSet) (offers : List Offer) (refusal : Refusal) :
   -- which are more than there are
   pub room : refusal.evidence.room ≡ refusal.evidence.until
   pub more : refusal.evidence.room < refusal.evidence.need
+  -- and at no time before it is it so
+  pub least :
+      (x : ℕ) → x < refusal.evidence.until
+      → due_after set 0 (first_jobs (before ++ offer ∷ [])) 3 x ≤ x
+
+-- the change is refused on the way: the executive has this plan, and stands for the history in
+-- which the offers before the one in this row were accepted, and that one found no room
+pub record IsCutOff
+    (plan : PlanParts) (offers : List Offer) (refusal : Refusal) (after : Executive) : Type 0 where
+  pub before : List Offer
+  pub offer : Offer
+  pub rest : List Offer
+  pub parts : offers ≡ before ++ offer ∷ rest
+  pub row : refusal.row ≡ offer.row
+  pub plan_of : after.plan ≡ plan
+  pub stands :
+      StandsFor
+      after
+      (Firm offer.row offer.slots offer.within (NoRoom refusal.evidence)
+      ∷ accepted_after started before)

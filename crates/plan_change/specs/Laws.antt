@@ -1,5 +1,5 @@
 -- The laws of a change of plan that is made by offers.
-use Rattle.std.specs.Prelude.{◌≡◌, ◌↔◌, ℕ, ◌+◌, ◌≤◌, ◌<◌, true, List, ◌++◌, map, Contains, Some, slice_get}
+use Rattle.std.specs.Prelude.{◌≡◌, ◌≢◌, ◌↔◌, ◌⊎◌, ℕ, ◌+◌, ◌%◌, ◌≤◌, ◌<◌, true, List, ◌++◌, length, map, Contains, IsPermutation, Some, slice_get}
 use Rattle.slot_core.specs.declared.jobs.Job.{Job}
 use Rattle.slot_core.specs.declared.jobs.Key.TheVariants.{Firm}
 use Rattle.slot_core.specs.declared.tasks.TaskSet.{TaskSet}
@@ -8,9 +8,10 @@ use Rattle.slot_core.specs.Sets.Cycles.{cycle_of}
 use Rattle.slot_core.specs.Sets.Ranges.{is_sound}
 use Rattle.slot_core.specs.Feasibility.Feasible.{IsFeasible}
 use Rattle.slot_core.specs.Offline.Keys.{is_earlier}
-use Rattle.slot_core.specs.Offline.Windows.{precedes}
+use Rattle.slot_core.specs.Offline.Windows.{precedes, raw_release}
 use Rattle.slot_core.specs.Claims.Futures.{CanBeServed}
 use Rattle.slot_core.specs.Keeping.Executives.{Executive, IsKept, StandsFor}
+use Rattle.slot_core.specs.Keeping.Kept.{AreApart}
 use Rattle.slot_core.specs.Runs.Demand.{work_by}
 use Rattle.slot_core.specs.Runs.Histories.{History, executed, last_row, time_of}
 use Rattle.slot_core.specs.Runs.Matches.{HaveSameItems}
@@ -21,9 +22,9 @@ use Rattle.change_laws.specs.Grants.{CanChange}
 use Rattle.plan_change.specs.declared.keep.Keep.{Keep}
 use Rattle.plan_change.specs.declared.keep.Keep.TheVariants.{Drop}
 use Rattle.plan_change.specs.declared.offers.Offer.{Offer}
-use Rattle.plan_change.specs.Carrying.{carried_from, carried_jobs, offers_from}
+use Rattle.plan_change.specs.Carrying.{carried_from, carried_jobs, goes_first, in_row_order, NoOfflineJobGoesOn, offers_from}
 use Rattle.plan_change.specs.Changed.{CanStartWith}
-use Rattle.plan_change.specs.Offers.{accepted_after, AllAccepted, job_of, MayBeOffered, row_after}
+use Rattle.plan_change.specs.Offers.{accepted_after, AllAccepted, demand_of, job_of, MayBeOffered, row_after}
 
 -- at every legal history offers are accepted all the way, one after the other, exactly where all of
 -- them together can be served
@@ -39,6 +40,17 @@ OffersTogetherAreExact =
     (scene_of set (cycle_of set) h)
     (row_after (last_row h) offers + 1)
     (map (job_of (time_of h)) offers))
+
+-- so their order plays no part: offers that ask for the same, in whatever rows, are accepted all the
+-- way or not alike
+abbrev pub TheOrderOfOffersIsFree : Type 0
+TheOrderOfOffersIsFree =
+    (set : TaskSet) (h : History) (offers others : List Offer)
+    → is_sound set ≡ true → IsFeasible set (cycle_of set) → IsLegal set (cycle_of set) h
+    → MayBeOffered (cycle_of set) (last_row h) offers
+    → MayBeOffered (cycle_of set) (last_row h) others
+    → IsPermutation (map demand_of offers) (map demand_of others)
+    → (AllAccepted set (cycle_of set) h offers ↔ AllAccepted set (cycle_of set) h others)
 
 -- so before the first slot they are exactly where a change with their jobs can be served
 abbrev pub FirstOffersAreExact : Type 0
@@ -73,20 +85,55 @@ CarryingMoreIsHarder =
 -- set's cycle
 abbrev pub AgreesWithTheSwitch : Type 0
 AgreesWithTheSwitch =
-    (exec : Executive) (set : TaskSet) (first : ℕ) (carried : List Job)
+    (exec : Executive) (set : TaskSet) (keep : Keep) (first : ℕ) (carried : List Job)
     → IsKept exec → is_sound set ≡ true → IsFeasible set (cycle_of set)
-    → MayBeOffered (cycle_of set) 0 (offers_from Drop exec (cycle_of set) first)
+    → MayBeOffered (cycle_of set) 0 (offers_from keep exec (cycle_of set) first)
     → HaveSameItems carried (carried_of exec.scene.jobs)
     → ((job : Job) → Contains carried job → job.dl ≤ exec.scene.time + cycle_of set)
-    → (CanStartWith set (offers_from Drop exec (cycle_of set) first)
+    → NoOfflineJobGoesOn keep exec
+    → (CanStartWith set (offers_from keep exec (cycle_of set) first)
     ↔ CanChange set exec.scene.time carried (exec.last_row + 1))
+
+-- none goes on where all are dropped, nor where a cycle ends, whichever are kept
+abbrev pub NoOfflineJobGoesOnWhereACycleEnds : Type 0
+NoOfflineJobGoesOnWhereACycleEnds =
+    (exec : Executive) (h : History) (keep : Keep)
+    → IsKept exec → StandsFor exec h
+    → (keep ≡ Drop) ⊎ (exec.scene.time % exec.plan.cycle ≡ 0)
+    → NoOfflineJobGoesOn keep exec
+
+-- the instance of an offline job that has run a slot was released before: so with `Graphs` all goes
+-- on that goes on with `Started`
+abbrev pub StartedJobsAreReleased : Type 0
+StartedJobsAreReleased =
+    (exec : Executive) (h : History) (job : Job)
+    → IsKept exec → StandsFor exec h → Contains exec.scene.jobs job
+    → job.left < job.declared
+    → raw_release exec.plan.tasks job < exec.scene.time
 
 -- the offers of every executive may be made, in rows from above its last one on
 abbrev pub CarriedJobsMayBeOffered : Type 0
 CarriedJobsMayBeOffered =
     (exec : Executive) (h : History) (keep : Keep) (cycle first : ℕ)
-    → IsKept exec → StandsFor exec h → exec.last_row < first → 1 ≤ cycle
+    → IsKept exec → StandsFor exec h → (keep ≢ Drop → exec.last_row < first) → 1 ≤ cycle
     → MayBeOffered cycle 0 (offers_from keep exec cycle first)
+
+-- no more jobs are carried over than a cycle has slots
+abbrev pub FewJobsAreCarried : Type 0
+FewJobsAreCarried =
+    (exec : Executive) (h : History) (keep : Keep)
+    → IsKept exec → StandsFor exec h
+    → length (carried_from keep exec) ≤ exec.plan.cycle
+
+-- in their order are the jobs themselves, each before those that it goes before
+abbrev pub TheRowOrderRises : Type 0
+TheRowOrderRises =
+    (jobs : List Job) → AreApart jobs
+    → IsPermutation jobs (in_row_order jobs)
+    × ((m n : ℕ) (a b : Job)
+    → m < n → slice_get (in_row_order jobs) m ≡ Some a
+    → slice_get (in_row_order jobs) n ≡ Some b
+    → goes_first a b ≡ true)
 
 -- however its jobs are listed, an executive carries over one list: that of each history for which
 -- it stands
@@ -131,8 +178,7 @@ abbrev pub PredecessorsGoFirst : Type 0
 PredecessorsGoFirst =
     (exec : Executive) (set : TaskSet) (keep : Keep) (first m n : ℕ) (before after : Job)
     (a b : Offer) (later : History)
-    → IsKept exec → exec.last_row < first
-    → is_sound set ≡ true → IsFeasible set (cycle_of set)
+    → IsKept exec → is_sound set ≡ true → IsFeasible set (cycle_of set)
     → let jobs = carried_from keep exec in
     let offers = offers_from keep exec (cycle_of set) first in
     slice_get jobs m ≡ Some before → slice_get jobs n ≡ Some after

@@ -14,6 +14,10 @@ use Rattle.plan_change.specs.declared.offers.Offer.{Offer}
 abbrev pub job_of : ℕ → Offer → Job
 job_of t offer = offered_job offer.row t offer.slots offer.within
 
+-- what an offer asks for, whatever its row: its slots, and the time within which they are due
+abbrev pub demand_of : Offer → ℕ × ℕ
+demand_of offer = (offer.slots, offer.within)
+
 -- the jobs of offers that are accepted before the first slot
 abbrev pub first_jobs : List Offer → List Job
 first_jobs offers = map (job_of 0) offers

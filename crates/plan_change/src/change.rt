@@ -1,6 +1,6 @@
 //! A change of plan in one call.
 
-ghost use Rattle.std.specs.Prelude.{◌≡◌, ◌+◌, ◌<◌, ◌^◌, length, Err, IfOk};
+ghost use Rattle.std.specs.Prelude.{◌≡◌, ◌≢◌, ◌+◌, ◌<◌, ◌^◌, Err, IfOk};
 ghost use Rattle.plan_change.specs.Carrying.{offers_from};
 ghost use Rattle.plan_change.specs.Changed.{CanStartWith, HasNoRoom, IsChanged, IsMoved};
 ghost use Rattle.plan_change.specs.declared.change.ChangeFault.TheVariants.{Memory as MemoryFault};
@@ -20,7 +20,8 @@ use std::alloc::Global;
 pub enum ChangeFault {
     /// Memory ran out.
     Memory,
-    /// What is carried over cannot be served: the first job that has no room, with its evidence.
+    /// The offers of what goes on cannot be served: the first one that has no room, with its
+    /// evidence.
     NoRoom(Refusal),
 }
 
@@ -33,7 +34,7 @@ impl From<Memory> for ChangeFault {
 }
 
 /// Starts an executive of this plan, and carries over to it what another one has left, as `carry`
-/// does. The other one stays as it was.
+/// does. The other one stays as it was. The executive and a list of what is carried take memory.
 pub fn change_plan<T: SpareTable>(
     alloc: Global,
     from: &Exec<T>,
@@ -41,8 +42,8 @@ pub fn change_plan<T: SpareTable>(
     keep: Keep,
     first: u32,
 ) -> Result<(Exec<T>, Moved), ChangeFault>
-    requires above { from.now.last_row < first }
-    requires rows { first + length from.now.scene.jobs < 2 ^ 32 }
+    requires above { keep ≢ Keep.Drop → from.now.last_row < first }
+    requires rows { keep ≢ Keep.Drop → first + from.now.plan.cycle < 2 ^ 32 }
     ensures granted { IfOk result (λ changed. IsChanged
         plan
         (offers_from keep from.now plan.cycle first)
@@ -53,10 +54,9 @@ pub fn change_plan<T: SpareTable>(
     ensures no_room { (r : Refusal) → result ≡ Err (ChangeFault.NoRoom r)
         → HasNoRoom plan.tasks (offers_from keep from.now plan.cycle first) r }
 {
-    let cycle = plan.cycle();
-    let mut list = CarriedList::with_places(alloc, from.job_count() as usize)?;
+    let mut list = CarriedList::with_places(alloc, from.cycle() as usize)?;
     let mut into = Exec::start(alloc, plan)?;
-    match carry(from, &mut into, &mut list, cycle, keep, first) {
+    match carry(from, &mut into, &mut list, keep, first) {
         Ok(moved) => Ok((into, moved)),
         Err(refusal) => Err(ChangeFault::NoRoom(refusal)),
     }

@@ -1,6 +1,6 @@
 //! Which remaining jobs go on at a change of plan.
 
-ghost use Rattle.std.specs.Prelude.{◌≡◌, ◌+◌, ◌*◌, nat_le};
+ghost use Rattle.std.specs.Prelude.{◌≡◌, ◌+◌, ◌*◌, nat_lt};
 ghost use Rattle.slot_core.specs.Offline.Keys.{is_offline};
 ghost use Rattle.slot_core.specs.Offline.OfflineJobs.{release_of};
 ghost use Rattle.slot_core.specs.Offline.Windows.{raw_release};
@@ -15,7 +15,8 @@ pub enum Keep {
     Drop,
     /// Those that have run a slot.
     Started,
-    /// All that remains of each instance of a graph that has been released.
+    /// All that remains of each instance of a graph that was released before this slot. What is
+    /// released in this very slot is left to the second plan.
     Graphs,
 }
 
@@ -44,16 +45,16 @@ fn is_kept(keep: Keep, tasks: &TaskSet, at: u64, job: &Job) -> bool
     }
 }
 
-/// Whether the instance of the job's graph has been released.
+/// Whether the instance of the job's graph was released before this time.
 fn is_released(tasks: &TaskSet, at: u64, job: &Job) -> bool
-    ensures { result ≡ nat_le (raw_release tasks.now job.now) at }
+    ensures { result ≡ nat_lt (raw_release tasks.now job.now) at }
 {
     match job.key {
         Key::Offline(graph, _, instance) => match tasks.graphs.items().get(usize::from(graph)) {
-            Some(graph) => release_of(graph, instance) <= u128::from(at),
-            None => job.est <= at,
+            Some(graph) => release_of(graph, instance) < u128::from(at),
+            None => job.est < at,
         },
-        _ => job.est <= at,
+        _ => job.est < at,
     }
 }
 

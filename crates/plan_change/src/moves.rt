@@ -1,18 +1,20 @@
 //! Jobs of one executive are offered to another, before its first slot.
 
-ghost use Rattle.std.specs.Prelude.{◌≡◌, ◌↔◌, ℕ, ◌+◌, ◌≤◌, ◌<◌, ◌^◌, [], ◌∷◌, ◌++◌, true, filter, length, IfErr, IfOk, None, OnErr, OnOk, Some};
+ghost use Rattle.std.specs.Prelude.{◌≡◌, ◌≢◌, ◌↔◌, ◌+◌, ◌≤◌, ◌<◌, ◌^◌, ◌==◌, ◌&&◌, [], ◌∷◌, ◌++◌, true, Contains, filter, length, IfErr, IfOk, None, OnErr, OnOk, Some};
 ghost use Rattle.slot_core.specs.declared.TheConstants.{OFFER_LIMIT};
 ghost use Rattle.slot_core.specs.declared.events.Firm.TheVariants.{Accepted, NoRoom};
+ghost use Rattle.slot_core.specs.declared.events.What.{What};
 ghost use Rattle.slot_core.specs.declared.jobs.Evidence.{Evidence};
 ghost use Rattle.slot_core.specs.Keeping.Kept.{AreApart};
 ghost use Rattle.slot_core.specs.Keeping.Executives.{StandsFor};
 ghost use Rattle.slot_core.specs.Keeping.Plans.{IsPlan};
+ghost use Rattle.slot_core.specs.Offline.Keys.{is_offline};
 ghost use Rattle.slot_core.specs.Runs.Answers.{firm_answer};
 ghost use Rattle.slot_core.specs.Runs.Histories.{History};
 ghost use Rattle.slot_core.specs.Runs.Scenes.{scene_of};
 ghost use Rattle.slot_core.specs.Runs.Traces.{started};
 ghost use Rattle.plan_change.specs.Carrying.{carried_from, cut_count, goes_on, offers_from, offers_of};
-ghost use Rattle.plan_change.specs.Changed.{CanStartWith, HasNoRoom, IsChanged, IsMoved};
+ghost use Rattle.plan_change.specs.Changed.{CanStartWith, HasNoRoom, IsChanged, IsCutOff, IsMoved};
 ghost use Rattle.plan_change.specs.Offers.{MayBeOffered, MayFollow, accepted_after};
 
 use crate::keep::{Keep, goes_on};
@@ -45,49 +47,64 @@ pub struct Refusal {
 
 /// Whether no slot has passed and nothing has arrived.
 pub fn is_fresh<T: SpareTable>(exec: &Exec<T>) -> bool
-    ensures { (result ≡ true) ↔ StandsFor exec.now started }
+    ensures fresh { (result ≡ true) ↔ StandsFor exec.now started }
+    ensures test { result ≡ (exec.now.scene.time == 0 && exec.now.last_row == 0) }
 {
     exec.now() == 0 && exec.last_row() == 0
 }
 
-/// Carries what an executive has left over to a second one, whose first slot comes next; `cycle` is
-/// that of its plan. Firm and sporadic jobs go on in their rows, as firm ones. Such offline jobs as
-/// `keep` tells get rows from `first` on. A deadline beyond the second plan's cycle is cut to it.
+/// Carries what an executive has left over to a second one, whose first slot comes next. Firm and
+/// sporadic jobs go on in their rows, as firm ones. Such offline jobs as `keep` tells get rows from
+/// `first` on; where it is `Drop` there are none, and `first` says nothing. A deadline beyond the
+/// second plan's cycle is cut to it. Soft work is left behind.
 ///
-/// It is granted exactly where all of them can be served beside the second plan, whatever legal
-/// sporadic arrivals come. Where it is refused the second executive has accepted the jobs before
-/// the one that has no room, and is to be started anew. No memory is taken.
+/// It is granted exactly where the offers of all of them can be served beside the second plan,
+/// whatever legal sporadic arrivals come. Where it is refused the second executive has accepted the
+/// offers before the one that has no room, and is to be started anew. No memory is taken: the list
+/// has as many places as a cycle of the first plan has slots, and more jobs never go on.
 pub fn carry<T: SpareTable>(
     from: &Exec<T>,
     into: &mut Exec<T>,
     list: &mut CarriedList,
-    cycle: u32,
     keep: Keep,
     first: u32,
 ) -> Result<Moved, Refusal>
     requires fresh { StandsFor into.old started }
-    requires cycle { cycle ≡ into.old.plan.cycle }
-    requires above { from.now.last_row < first }
-    requires rows { first + length from.now.scene.jobs < 2 ^ 32 }
-    requires places { length from.now.scene.jobs ≤ list.old.places }
+    requires above { keep ≢ Keep.Drop → from.now.last_row < first }
+    requires rows { keep ≢ Keep.Drop → first + from.now.plan.cycle < 2 ^ 32 }
+    requires places { from.now.plan.cycle ≤ list.old.places }
 
     // A grant: the second executive has accepted all of them.
     ensures granted { OnOk result
-        (IsChanged into.old.plan (offers_from keep from.now cycle first) into.new) }
-    ensures moved { IfOk result (IsMoved keep from.now cycle) }
+        (IsChanged
+        into.old.plan
+        (offers_from keep from.now into.old.plan.cycle first)
+        into.new) }
+    ensures moved { IfOk result (IsMoved keep from.now into.old.plan.cycle) }
 
-    // A refusal: they cannot be served, and the evidence names the first that does not fit.
+    // A refusal: they cannot be served, the evidence names the first that does not fit, and the
+    // second executive has accepted those before it.
     ensures refused { OnErr result
-        (¬ (CanStartWith into.old.plan.tasks (offers_from keep from.now cycle first))) }
+        (¬ (CanStartWith
+        into.old.plan.tasks
+        (offers_from keep from.now into.old.plan.cycle first))) }
     ensures no_room { IfErr result
-        (HasNoRoom into.old.plan.tasks (offers_from keep from.now cycle first)) }
+        (HasNoRoom
+        into.old.plan.tasks
+        (offers_from keep from.now into.old.plan.cycle first)) }
+    ensures cut_off { IfErr result
+        (λ refusal. IsCutOff
+        into.old.plan
+        (offers_from keep from.now into.old.plan.cycle first)
+        refusal
+        into.new) }
 
     // The plan stays; the list has the jobs, and keeps its places.
     ensures plan { into.new.plan ≡ into.old.plan }
     ensures listed { list.new.items ≡ carried_from keep from.now }
     ensures places { list.new.places ≡ list.old.places }
 {
-    carry_counted::<T, Brand>(from, into, list, cycle, keep, first, Blank::new(1))
+    carry_counted::<T, Brand>(from, into, list, keep, first, Blank::new(1))
 }
 
 /// `carry`, with steps that nobody asks for.
@@ -95,7 +112,6 @@ fn carry_counted<T: SpareTable, L: Ledger>(
     from: &Exec<T>,
     into: &mut Exec<T>,
     list: &mut CarriedList,
-    cycle: u32,
     keep: Keep,
     first: u32,
     blank: Blank,
@@ -104,17 +120,29 @@ fn carry_counted<T: SpareTable, L: Ledger>(
     requires parts { blank.parts ≡ L.parts }
     requires some { 0 < L.parts }
     requires fresh { StandsFor into.old started }
-    requires cycle { cycle ≡ into.old.plan.cycle }
-    requires above { from.now.last_row < first }
-    requires rows { first + length from.now.scene.jobs < 2 ^ 32 }
-    requires places { length from.now.scene.jobs ≤ list.old.places }
+    requires above { keep ≢ Keep.Drop → from.now.last_row < first }
+    requires rows { keep ≢ Keep.Drop → first + from.now.plan.cycle < 2 ^ 32 }
+    requires places { from.now.plan.cycle ≤ list.old.places }
     ensures granted { OnOk result
-        (IsChanged into.old.plan (offers_from keep from.now cycle first) into.new) }
-    ensures moved { IfOk result (IsMoved keep from.now cycle) }
+        (IsChanged
+        into.old.plan
+        (offers_from keep from.now into.old.plan.cycle first)
+        into.new) }
+    ensures moved { IfOk result (IsMoved keep from.now into.old.plan.cycle) }
     ensures refused { OnErr result
-        (¬ (CanStartWith into.old.plan.tasks (offers_from keep from.now cycle first))) }
+        (¬ (CanStartWith
+        into.old.plan.tasks
+        (offers_from keep from.now into.old.plan.cycle first))) }
     ensures no_room { IfErr result
-        (HasNoRoom into.old.plan.tasks (offers_from keep from.now cycle first)) }
+        (HasNoRoom
+        into.old.plan.tasks
+        (offers_from keep from.now into.old.plan.cycle first)) }
+    ensures cut_off { IfErr result
+        (λ refusal. IsCutOff
+        into.old.plan
+        (offers_from keep from.now into.old.plan.cycle first)
+        refusal
+        into.new) }
     ensures plan { into.new.plan ≡ into.old.plan }
     ensures listed { list.new.items ≡ carried_from keep from.now }
     ensures places { list.new.places ≡ list.old.places }
@@ -123,6 +151,7 @@ fn carry_counted<T: SpareTable, L: Ledger>(
     let at = from.now();
     list_carried(from, list, at, keep, &mut steps);
     into.now();
+    let cycle = into.cycle();
     offer_all(into, list.jobs(), at, cycle, first, &mut steps)
 }
 
@@ -136,7 +165,8 @@ fn list_carried<T: SpareTable, L: Ledger>(
 )
     requires now { at ≡ from.now.scene.time }
     requires apart { AreApart from.now.scene.jobs }
-    requires places { length from.now.scene.jobs ≤ list.old.places }
+    requires places { length (filter (goes_on keep from.now.plan.tasks at) from.now.scene.jobs)
+        ≤ list.old.places }
     ensures listed { list.new.items ≡ carried_from keep from.now }
     ensures places { list.new.places ≡ list.old.places }
 {
@@ -152,7 +182,8 @@ fn gather<T: SpareTable, L: Ledger>(
     keep: Keep,
     steps: &mut Steps<L>,
 )
-    requires { length from.now.scene.jobs ≤ list.old.places }
+    requires { length (filter (goes_on keep from.now.plan.tasks at) from.now.scene.jobs)
+        ≤ list.old.places }
     ensures listed { list.new.items
         ≡ filter (goes_on keep from.now.plan.tasks at) from.now.scene.jobs }
     ensures places { list.new.places ≡ list.old.places }
@@ -166,7 +197,8 @@ fn gather<T: SpareTable, L: Ledger>(
 
 /// Appends the job, where it goes on.
 fn list_one(list: &mut CarriedList, tasks: &TaskSet, at: u64, keep: Keep, job: &Job)
-    requires { length list.old.items < list.old.places }
+    requires { goes_on keep tasks.now at job.now ≡ true
+        → length list.old.items < list.old.places }
     ensures items { list.new.items
         ≡ list.old.items ++ filter (goes_on keep tasks.now at) (job.now ∷ []) }
     ensures places { list.new.places ≡ list.old.places }
@@ -188,7 +220,9 @@ fn offer_all<T: SpareTable, L: Ledger>(
     requires plan { IsPlan into.old.plan }
     requires fresh { StandsFor into.old started }
     requires cycle { cycle ≡ into.old.plan.cycle }
-    requires rows { first + length jobs.now < 2 ^ 32 }
+    requires few { length jobs.now < 2 ^ 32 }
+    requires rows { (job : Job) → Contains jobs.now job → is_offline job.key ≡ true
+        → first + length jobs.now < 2 ^ 32 }
     requires offers { MayBeOffered cycle 0 (offers_of at cycle first jobs.now) }
     ensures granted { OnOk result
         (IsChanged into.old.plan (offers_of at cycle first jobs.now) into.new) }
@@ -198,6 +232,12 @@ fn offer_all<T: SpareTable, L: Ledger>(
         (¬ (CanStartWith into.old.plan.tasks (offers_of at cycle first jobs.now))) }
     ensures no_room { IfErr result
         (HasNoRoom into.old.plan.tasks (offers_of at cycle first jobs.now)) }
+    ensures cut_off { IfErr result
+        (λ refusal. IsCutOff
+        into.old.plan
+        (offers_of at cycle first jobs.now)
+        refusal
+        into.new) }
     ensures plan { into.new.plan ≡ into.old.plan }
 {
     let mut next = first;
@@ -235,13 +275,14 @@ fn offer_one<T: SpareTable, L: Ledger>(
         ≡ Accepted)
         × StandsFor into.new (accepted_after h (offer ∷ [])) }
     ensures refused { (e : Evidence) → result ≡ Some e → (h : History) → StandsFor into.old h
-        → firm_answer
+        → (firm_answer
         into.old.plan.tasks.sporadics
         into.old.plan.cycle
         (scene_of into.old.plan.tasks into.old.plan.cycle h)
         offer.slots
         offer.within
-        ≡ NoRoom e }
+        ≡ NoRoom e)
+        × StandsFor into.new (What.Firm offer.row offer.slots offer.within (NoRoom e) ∷ h) }
     ensures plan { into.new.plan ≡ into.old.plan }
     ensures row { into.new.last_row ≡ offer.row }
 {

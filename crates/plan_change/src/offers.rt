@@ -1,6 +1,7 @@
 //! The offers of jobs that are carried over.
 
-ghost use Rattle.std.specs.Prelude.{◌≡◌, ◌+◌, ◌-◌, ◌<◌, ◌^◌, nat_lt};
+ghost use Rattle.std.specs.Prelude.{◌≡◌, ◌+◌, ◌-◌, ◌<◌, ◌^◌, true, nat_lt};
+ghost use Rattle.slot_core.specs.Offline.Keys.{is_offline};
 ghost use Rattle.plan_change.specs.Carrying.{next_row, offer_of, row_in};
 
 use crate::keep::is_offline;
@@ -48,7 +49,7 @@ pub(crate) fn row_in(next: u32, job: &Job) -> u32
 
 /// The next one that is free then.
 pub(crate) fn next_row(next: u32, job: &Job) -> u32
-    requires { next + 1 < 2 ^ 32 }
+    requires { is_offline job.now.key ≡ true → next + 1 < 2 ^ 32 }
     ensures { result ≡ next_row next job.now }
 {
     if is_offline(job.key) { next + 1 } else { next }

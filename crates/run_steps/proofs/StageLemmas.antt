@@ -145,6 +145,9 @@ IsFoundFrom-cycles : (cycle slots : ℕ) → IsFoundFrom 14 (whole_cycles cycle 
 IsFoundFrom-cycles cycle slots = IsFoundFrom-turn cycle (slots % cycle == 0)
 
 -- what the steps refuse is found in the bytes
+pub found-set : (bytes : List ℕ) → AllFound (sound_set bytes)
+found-set bytes = (IsFoundFrom-set (reading_of_tasks bytes)).found
+
 pub found-planned : (bytes : List ℕ) → AllFound (planned_plan bytes)
 found-planned bytes = (IsFoundFrom-planned bytes).found
 

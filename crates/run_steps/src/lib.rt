@@ -13,6 +13,7 @@ ghost use Rattle.command_line.specs.Refusals.{same_file};
 ghost use Rattle.faults.specs.VerifyTexts.{names_known, verify_fault_text};
 ghost use Rattle.command_line.specs.Commands.{is_file_of, is_recorded_in, is_second_of, is_verified_in, slots_in, AreInRange, IsCheckInRange, IsLoadNumber};
 ghost use Rattle.run_steps.specs.Readings.{arrivals_from, bytes_of, check_from, feasible_plan, fitting_arrivals, lawful_trace, of_second, plan_from, planned_plan, recorded_arrivals, recorded_trace, row_among, second_from, second_plan, sound_set, spelled_plan, whole_cycles};
+ghost use Rattle.run_steps.specs.Sets.{set_from};
 ghost use Rattle.run_steps.specs.Steps.{IsChecked, IsStep, IsReading};
 
 use arrival_csv::read_arrivals;
@@ -123,6 +124,17 @@ pub fn plan_from<F: Files>(
         }
         Source::Load(n) => generated(alloc, n),
     }
+}
+
+/// The sound set of the task file, before the cycle test.
+pub fn tasks_from<F: Files>(alloc: Global, words: &Words, files: &mut F) -> Result<TaskSet, Refusal>
+    ensures reading { IsReading F.held F.faults F.blamed files.old files.new words.now
+        (same_file File.Tasks) (λ held. set_from held words.now Source.Tasks) result
+        (λ set. set) }
+    ensures sound { IfOk result (λ set. is_sound set ≡ true) }
+{
+    let bytes = read_file(alloc, words, files, File::Tasks)?;
+    set_of(alloc, bytes.as_slice())
 }
 
 /// The refusal of a task file, as one of the second task file.

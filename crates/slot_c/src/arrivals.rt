@@ -37,9 +37,9 @@ pub extern "C" fn ss_soft(
     if !slots.open {
         return CLOSED;
     }
-    let mut exec = slots.take(alloc);
-    let status = slot_port::soft(&mut exec, row, work, told);
-    *slots = Slots::opened(exec);
+    let mut unit = slots.take(alloc);
+    let status = slot_port::soft(&mut unit.exec, row, work, told);
+    *slots = Slots::opened(unit);
     status
 }
 
@@ -69,9 +69,9 @@ pub extern "C" fn ss_firm(
     if !slots.open {
         return CLOSED;
     }
-    let mut exec = slots.take(alloc);
-    let status = slot_port::firm(&mut exec, row, work, within, told);
-    *slots = Slots::opened(exec);
+    let mut unit = slots.take(alloc);
+    let status = slot_port::firm(&mut unit.exec, row, work, within, told);
+    *slots = Slots::opened(unit);
     status
 }
 
@@ -100,9 +100,9 @@ pub extern "C" fn ss_sporadic(
     if !slots.open {
         return CLOSED;
     }
-    let mut exec = slots.take(alloc);
-    let status = slot_port::sporadic(&mut exec, row, index, told);
-    *slots = Slots::opened(exec);
+    let mut unit = slots.take(alloc);
+    let status = slot_port::sporadic(&mut unit.exec, row, index, told);
+    *slots = Slots::opened(unit);
     status
 }
 
@@ -131,9 +131,9 @@ pub extern "C" fn ss_done(
     if !slots.open {
         return CLOSED;
     }
-    let mut exec = slots.take(alloc);
-    let status = slot_port::done(&mut exec, row, *key, told);
-    *slots = Slots::opened(exec);
+    let mut unit = slots.take(alloc);
+    let status = slot_port::done(&mut unit.exec, row, *key, told);
+    *slots = Slots::opened(unit);
     status
 }
 
@@ -162,8 +162,8 @@ pub extern "C" fn ss_withdraw(
     if !slots.open {
         return CLOSED;
     }
-    let mut exec = slots.take(alloc);
-    let status = slot_port::withdraw(&mut exec, row, firm, told);
-    *slots = Slots::opened(exec);
+    let mut unit = slots.take(alloc);
+    let status = slot_port::withdraw(&mut unit.exec, row, firm, told);
+    *slots = Slots::opened(unit);
     status
 }

@@ -7,9 +7,10 @@ ghost use Rattle.slot_core.specs.Output.Texts.{key_text};
 ghost use Rattle.key_texts.specs.KeyTexts.{sporadic_named};
 ghost use Rattle.slot_port.specs.declared.TheConstants.{KEY_TEXT_LIMIT};
 ghost use Rattle.slot_port.specs.declared.status.TheConstants.{CLOSED, OK};
-ghost use Rattle.slot_port.specs.Keys.{key_named};
+ghost use Rattle.slot_port.specs.Calls.{ran_in, StaysAhead};
+ghost use Rattle.slot_port.specs.Keys.{key_named, ran_numbers};
 ghost use Rattle.slot_port.specs.Spans.{spans_in};
-ghost use Rattle.slot_port.specs.Statuses.{name_status, span_status, text_status};
+ghost use Rattle.slot_port.specs.Statuses.{ahead_status, name_status, span_status, text_status};
 
 use crate::handle::Slots;
 use slot_port::{CLOSED, KeyNumbers, OK, SpanNumbers};
@@ -31,9 +32,9 @@ pub extern "C" fn ss_now(slots: &mut Slots, alloc: Global, now: &mut u64) -> u32
     if !slots.open {
         return CLOSED;
     }
-    let exec = slots.take(alloc);
-    *now = exec.now();
-    *slots = Slots::opened(exec);
+    let unit = slots.take(alloc);
+    *now = unit.exec.now();
+    *slots = Slots::opened(unit);
     OK
 }
 
@@ -52,10 +53,39 @@ pub extern "C" fn ss_last_row(slots: &mut Slots, alloc: Global, row: &mut u32) -
     if !slots.open {
         return CLOSED;
     }
-    let exec = slots.take(alloc);
-    *row = exec.last_row();
-    *slots = Slots::opened(exec);
+    let unit = slots.take(alloc);
+    *row = unit.exec.last_row();
+    *slots = Slots::opened(unit);
     OK
+}
+
+/// What runs in the next slot, and for how many slots that stays so.
+#[unsafe(no_mangle)]
+pub extern "C" fn ss_ahead(
+    slots: &mut Slots,
+    alloc: Global,
+    most: u32,
+    ran: &mut KeyNumbers,
+    count: &mut u32,
+) -> u32
+    requires valid { slots.old.open ≡ slots.old.handle.there }
+    ensures valid { slots.new.open ≡ slots.new.handle.there }
+    ensures open { slots.new.open ≡ slots.old.open }
+    ensures closed { slots.old.open ≡ false → result ≡ CLOSED }
+    ensures stays { slots.new.handle.value ≡ slots.old.handle.value }
+    ensures silent { result ≢ OK → ran.new ≡ ran.old }
+    ensures untold { result ≢ OK → count.new ≡ count.old }
+    ensures status { slots.old.open ≡ true → result ≡ ahead_status most }
+    ensures tells { result ≡ OK → ran.new ≡ ran_numbers (ran_in slots.old.handle.value) }
+    ensures ahead { result ≡ OK → StaysAhead slots.old.handle.value most count.new }
+{
+    if !slots.open {
+        return CLOSED;
+    }
+    let unit = slots.take(alloc);
+    let status = slot_port::ahead(&unit.exec, most, ran, count);
+    *slots = Slots::opened(unit);
+    status
 }
 
 /// How many spans there are.
@@ -75,9 +105,9 @@ pub extern "C" fn ss_span_count(slots: &mut Slots, alloc: Global, count: &mut u3
     if !slots.open {
         return CLOSED;
     }
-    let exec = slots.take(alloc);
-    *count = exec.span_count();
-    *slots = Slots::opened(exec);
+    let unit = slots.take(alloc);
+    *count = unit.exec.span_count();
+    *slots = Slots::opened(unit);
     OK
 }
 
@@ -103,9 +133,9 @@ pub extern "C" fn ss_get_span(
     if !slots.open {
         return CLOSED;
     }
-    let exec = slots.take(alloc);
-    let status = slot_port::span(&exec, place, span);
-    *slots = Slots::opened(exec);
+    let unit = slots.take(alloc);
+    let status = slot_port::span(&unit.exec, place, span);
+    *slots = Slots::opened(unit);
     status
 }
 
@@ -137,9 +167,9 @@ pub extern "C" fn ss_key_text(
     if !slots.open {
         return CLOSED;
     }
-    let exec = slots.take(alloc);
-    let status = slot_port::key_text(&exec, *key, text, length);
-    *slots = Slots::opened(exec);
+    let unit = slots.take(alloc);
+    let status = slot_port::key_text(&unit.exec, *key, text, length);
+    *slots = Slots::opened(unit);
     status
 }
 
@@ -167,8 +197,8 @@ pub extern "C" fn ss_sporadic_index(
     if !slots.open {
         return CLOSED;
     }
-    let exec = slots.take(alloc);
-    let status = slot_port::sporadic_index(&exec, name, index);
-    *slots = Slots::opened(exec);
+    let unit = slots.take(alloc);
+    let status = slot_port::sporadic_index(&unit.exec, name, index);
+    *slots = Slots::opened(unit);
     status
 }

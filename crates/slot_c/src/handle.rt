@@ -5,14 +5,13 @@ ghost use Rattle.slot_core.specs.Keeping.Executives.{Executive};
 ghost use Rattle.slot_c.specs.Handles.{owned_where};
 
 use crate::box_parts::BoxParts;
-use interval_row::ChainTable;
-use slot_exec::Exec;
+use crate::unit::Unit;
 use std::alloc::Global;
 use std::marker::Model;
 use std::mem;
 use std::ptr::null_mut;
 
-/// An executive behind a pointer, or none. It owns the executive where one is there.
+/// An executive with its list behind a pointer, or none. It owns them where they are there.
 #[repr(C)]
 #[derive(Drop)]
 pub struct Handle {
@@ -38,7 +37,7 @@ impl Handle {
     }
 
     /// A handle of what is in these parts.
-    fn of_parts(parts: BoxParts<Exec<ChainTable>, Global>) -> Handle
+    fn of_parts(parts: BoxParts<Unit, Global>) -> Handle
         ensures { (result.there ≡ true) × (result.value ≡ parts.value) }
     {
         let BoxParts { at, alloc } = parts;
@@ -49,13 +48,13 @@ impl Handle {
     }
 
     /// The parts of what is there.
-    fn into_parts(self) -> BoxParts<Exec<ChainTable>, Global>
+    fn into_parts(self) -> BoxParts<Unit, Global>
         requires { self.there ≡ true }
         ensures { result.value ≡ self.value }
     {
         let Handle { at, alloc } = self;
         BoxParts {
-            at: at as *mut Exec<ChainTable>,
+            at: at as *mut Unit,
             alloc,
         }
     }
@@ -81,20 +80,20 @@ impl Slots {
         }
     }
 
-    /// This executive.
-    pub(crate) fn opened(exec: Box<Exec<ChainTable>>) -> Slots
+    /// This unit.
+    pub(crate) fn opened(unit: Box<Unit>) -> Slots
         ensures open { result.open ≡ true }
         ensures valid { result.open ≡ result.handle.there }
-        ensures value { result.handle.value ≡ exec.value }
+        ensures value { result.handle.value ≡ unit.value }
     {
         Slots {
             open: true,
-            handle: Handle::of_parts(BoxParts::of(exec)),
+            handle: Handle::of_parts(BoxParts::of(unit)),
         }
     }
 
-    /// The executive, which is taken out.
-    pub(crate) fn take(&mut self, alloc: Global) -> Box<Exec<ChainTable>>
+    /// The unit, which is taken out.
+    pub(crate) fn take(&mut self, alloc: Global) -> Box<Unit>
         requires open { self.old.open ≡ true }
         requires valid { self.old.open ≡ self.old.handle.there }
         ensures value { result.value ≡ self.old.handle.value }

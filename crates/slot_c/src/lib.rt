@@ -8,7 +8,9 @@
 mod arrivals;
 mod asking;
 mod box_parts;
+mod changes;
 pub mod handle;
 mod opening;
 mod passing;
+pub mod unit;
 mod versions;

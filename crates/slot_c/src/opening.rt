@@ -9,6 +9,7 @@ ghost use Rattle.slot_port.specs.declared.status.TheConstants.{CLOSED, MEMORY, O
 ghost use Rattle.slot_port.specs.Faults.{IsRefused};
 
 use crate::handle::Slots;
+use crate::unit::Unit;
 use interval_row::ChainTable;
 use slot_exec::Exec;
 use slot_port::{CLOSED, MEMORY, OK, STILL_OPEN, Told, open};
@@ -38,8 +39,8 @@ pub extern "C" fn ss_open(slots: &mut Slots, alloc: Global, table: &[u8], fault:
         return STILL_OPEN;
     }
     match open_boxed(alloc, table, fault) {
-        Ok(exec) => {
-            *slots = Slots::opened(exec);
+        Ok(unit) => {
+            *slots = Slots::opened(unit);
             OK
         }
         Err(status) => status,
@@ -47,7 +48,7 @@ pub extern "C" fn ss_open(slots: &mut Slots, alloc: Global, table: &[u8], fault:
 }
 
 /// The executive of the plan that the bytes spell, in a box.
-fn open_boxed(alloc: Global, table: &[u8], fault: &mut Told) -> Result<Box<Exec<ChainTable>>, u32>
+fn open_boxed(alloc: Global, table: &[u8], fault: &mut Told) -> Result<Box<Unit>, u32>
     ensures plan { IfOk result (λ exec. IsPlan exec.value.plan) }
     ensures spelled { IfOk result (λ exec. Spells table.now exec.value.plan) }
     ensures started { IfOk result (λ exec. StandsFor exec.value started) }
@@ -62,14 +63,15 @@ fn open_boxed(alloc: Global, table: &[u8], fault: &mut Told) -> Result<Box<Exec<
     }
 }
 
-/// The executive in a box.
-fn boxed(alloc: Global, exec: Exec<ChainTable>) -> Result<Box<Exec<ChainTable>>, u32>
+/// The executive with its list in a box.
+pub(crate) fn boxed(alloc: Global, exec: Exec<ChainTable>) -> Result<Box<Unit>, u32>
     ensures value { IfOk result (λ it. it.value ≡ exec) }
     ensures plan { (plan : PlanParts) → exec.plan ≡ plan
         → MatchResult result (λ it. it.value.plan ≡ plan) (λ status. status ≡ MEMORY) }
     ensures refused { IfErr result (λ status. status ≡ MEMORY) }
 {
-    Box::new(alloc, exec).map_err(|_| MEMORY)
+    let unit = Unit::of(alloc, exec)?;
+    Box::new(alloc, unit).map_err(|_| MEMORY)
 }
 
 /// Gives all memory back.

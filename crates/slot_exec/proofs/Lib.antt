@@ -1,3 +1,8 @@
+pub mod AheadExecutives
+pub mod AheadHistories
+pub mod AheadParts
+pub mod AheadRooms
+pub mod AheadSlots
 pub mod ChangedRooms
 pub mod CycleEnds
 pub mod EarlyEnds

@@ -117,7 +117,7 @@ module _ (exec : Executive) (plan : IsPlan exec.plan) (stands : StandsForSome ex
   left = after_slot (choice_of exec) exec.scene.jobs
 
   -- the jobs of the cycle that comes in bring no work up to the horizon before it
-  work_by-turn : (x : ℕ) → x ≤ horizon cycle t → work_by (after_ran set cycle (choice_of exec) exec.scene).jobs x ≡ work_by left x
+  pub work_by-turn : (x : ℕ) → x ≤ horizon cycle t → work_by (after_ran set cycle (choice_of exec) exec.scene).jobs x ≡ work_by left x
   work_by-turn x within = by_test ((t + 1) % cycle == 0) refl
     where
       n : ℕ
@@ -150,7 +150,7 @@ module _ (exec : Executive) (plan : IsPlan exec.plan) (stands : StandsForSome ex
       by_test false e = refl
 
   -- what has run a slot has a slot less due
-  work_by-ran : (chosen : Chosen) → IsChosen exec chosen → (x : ℕ) → work_by exec.scene.jobs x ≡ work_by left x + ran_due chosen x
+  pub work_by-ran : (chosen : Chosen) → IsChosen exec chosen → (x : ℕ) → work_by exec.scene.jobs x ≡ work_by left x + ran_due chosen x
   work_by-ran Nothing is x =
       omega (arith, ap (λ js. work_by js x) (jobs_after-choice exec plan stands Nothing is))
   work_by-ran (Soft row) is x =

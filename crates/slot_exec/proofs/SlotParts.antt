@@ -60,7 +60,7 @@ module _ {plan : PlanParts} {time : ℕ} {rows : List Span} {jobs : List Job} (r
 
   module _ (chosen : Chosen) (chosen_is : chosen ≡ chosen_of soft (soft_fits rows reserve time) (earliest (ready time jobs))) where
     -- what is chosen is there
-    IsChosen-parts : IsChosen exec chosen
+    pub IsChosen-parts : IsChosen exec chosen
     IsChosen-parts =
         let may = ap (λ xs. soft_fits xs reserve time) is.spans ∙ soft_fits-scene exec reserve is.plan is.stands is.sporadics refl in
         subst (IsChosen exec) (sym chosen_is) (IsChosen-from_parts exec (soft_fits rows reserve time) is.plan is.stands may)

@@ -20,7 +20,7 @@ use Rattle.scene_steps.specs.Scenes.{IsProperScene}
 use Rattle.scene_steps.proofs.Spans.Proper.{last_end-proper, work_until-proper}
 
 -- the reserve of a scene's sporadic tasks has their demand
-reserve-demand : (sporadics : List Sporadic) (scene : Scene) (reserve : Reserved) (r x : ℕ) → reserve.sporadics ≡ map without_name sporadics → reserve.nexts ≡ scene.nexts → sporadic_demand reserve.sporadics reserve.nexts r x ≡ sporadic_demand sporadics scene.nexts r x
+pub reserve-demand : (sporadics : List Sporadic) (scene : Scene) (reserve : Reserved) (r x : ℕ) → reserve.sporadics ≡ map without_name sporadics → reserve.nexts ≡ scene.nexts → sporadic_demand reserve.sporadics reserve.nexts r x ≡ sporadic_demand sporadics scene.nexts r x
 reserve-demand sporadics scene reserve r x tasks nexts =
     ap₂ (λ ss ns. sporadic_demand ss ns r x) tasks nexts ∙ sporadic_demand-without_name sporadics scene.nexts r x
 

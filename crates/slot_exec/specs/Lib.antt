@@ -1,3 +1,4 @@
+pub mod Ahead
 pub mod Parts
 pub mod Changes
 pub mod Offers

@@ -3,12 +3,15 @@
 ghost use Rattle.std.specs.Prelude.{◌≡◌, ◌≢◌, ◌↔◌, ◌⊎◌, ℕ, ◌+◌, ◌*◌, ◌≤◌, ◌<◌, pos, ◌≤ℤ◌, [], Some, IfOk, IsTrue, true, Contains, count_by, length, map, slice_get, slice_index, slice_set};
 ghost use Rattle.slot_core.specs.declared.TheConstants.{OFFER_LIMIT, TIME_LIMIT};
 ghost use Rattle.slot_core.specs.declared.events.Event.{Event};
+ghost use Rattle.slot_core.specs.declared.events.Ran.{Ran};
 ghost use Rattle.slot_core.specs.declared.events.What.{What};
 ghost use Rattle.slot_core.specs.declared.jobs.Job.{Job};
+ghost use Rattle.slot_core.specs.declared.jobs.Key.{Key};
 ghost use Rattle.slot_core.specs.Runs.Answers.{done_answer, firm_answer, soft_answer, sporadic_answer, withdraw_answer};
 ghost use Rattle.slot_core.specs.Runs.Choice.{choice};
 ghost use Rattle.slot_core.specs.declared.jobs.Evidence.{Evidence};
 ghost use Rattle.slot_core.specs.Runs.Demand.{HasRoom};
+ghost use Rattle.slot_exec.specs.Ahead.{TellsAhead, TellsOtherAfter};
 ghost use Rattle.slot_exec.specs.Offers.{ShowsNoRoomForOffer};
 ghost use Rattle.slot_core.specs.Keeping.Executives.{Does, IsKept, Shows, StandsFor, StandsForSome};
 ghost use Rattle.slot_core.specs.Claims.Futures.{OfferIsExact};
@@ -31,6 +34,7 @@ mod test_sets;
 #[cfg(test)]
 mod tests;
 
+use crate::ahead::slots_of;
 use crate::cycles::{first_jobs, pass};
 use crate::ends::end_early;
 use crate::offers::{admit, answer_offer, offered};
@@ -156,6 +160,13 @@ impl<T: SpareTable> Exec<T> {
         ensures plan { IsPlan self.now.plan }
     {
         self.plan.tasks()
+    }
+
+    /// How many slots a cycle of its plan has.
+    pub fn cycle(&self) -> u32
+        ensures { result ≡ self.now.plan.cycle }
+    {
+        self.plan.cycle()
     }
 
     /// How many guaranteed jobs remain. They are the remaining jobs of every history for which the
@@ -437,6 +448,61 @@ impl<T: SpareTable> Exec<T> {
             What::Run(key) => Ran::Key(key),
             _ => Ran::Idle,
         }
+    }
+
+    /// What the next slot runs, and for how many slots, at most `most`, that stays the choice where
+    /// nothing arrives: at least one, and at most a cycle. It is the greatest such number where no
+    /// soft work waits, where the set has no sporadic task, and where soft work runs. Where a
+    /// guaranteed job runs while soft work waits beside sporadic tasks, it may be a smaller one.
+    pub fn ahead<L: Ledger>(&self, most: u32, steps: &mut Steps<L>) -> (Ran, u32)
+        requires { 1 ≤ most }
+        ensures answer { result.0
+            ≡ choice self.now.plan.tasks.sporadics self.now.plan.cycle self.now.scene }
+        ensures same { (h : History) → StandsFor self.now h
+            → TellsAhead
+            self.now.plan.tasks
+            self.now.plan.cycle
+            (told_of_slot result.0)
+            result.1
+            h }
+        ensures longest { (h : History) → StandsFor self.now h
+            → (self.now.scene.soft ≡ []) ⊎ (self.now.plan.tasks.sporadics ≡ [])
+            ⊎ ((row : ℕ) × (result.0 ≡ Ran.Key (Key.Soft row)))
+            → result.1 < most → result.1 < self.now.plan.cycle
+            → TellsOtherAfter
+            self.now.plan.tasks
+            self.now.plan.cycle
+            (told_of_slot result.0)
+            result.1
+            h }
+        ensures some { 1 ≤ result.1 }
+        ensures few { result.1 ≤ most }
+        ensures steps { steps.old ≤ steps.new }
+    {
+        let room = Remembered {
+            free: self.free,
+            tight: self.tight,
+            due: self.due,
+        };
+        let (chosen, room) = choose(
+            &self.table,
+            &self.reserve,
+            &self.queue,
+            &self.soft,
+            room,
+            steps,
+        );
+        let count = slots_of(
+            chosen,
+            &self.table,
+            &self.reserve,
+            &self.queue,
+            &self.soft,
+            room,
+            most.min(self.plan.cycle()),
+            steps,
+        );
+        (chosen.ran(), count)
     }
 
     /// `slot`, but what an entry tells of it is written into these places, without a copy: what

@@ -4,6 +4,7 @@
 //! All times are in slots. All memory that an executive needs is taken when it starts.
 #![tactic(auto)]
 
+mod ahead;
 mod cycles;
 mod ends;
 pub mod exec;

@@ -1,8 +1,9 @@
 //! What an executive remembers of the room for soft work, so that few slots search for it.
 
-ghost use Rattle.std.specs.Prelude.{◌≡◌, ℕ, false, ◌≤◌, ◌<◌, ◌^◌, IsTrue};
+ghost use Rattle.std.specs.Prelude.{◌≡◌, ◌≢◌, ℕ, [], false, ◌≤◌, ◌<◌, ◌^◌, IsTrue};
 ghost use Rattle.interval_row.specs.Tables.{spans_of_pairs};
 ghost use Rattle.guarantee.specs.Offers.{soft_fits};
+ghost use Rattle.slot_exec.specs.Ahead.{IsTightFor};
 ghost use Rattle.slot_exec.specs.Rooms.{due_told, due_with, due_without, free_beside, room_after, MaySearch, RemembersSpans};
 
 use crate::runs::Chosen;
@@ -43,6 +44,12 @@ pub(crate) fn may_run<T: SpareTable, L: Ledger>(
         reserve.now
         (T.time table.now)
         result.1 }
+    ensures tight { result.0 ≡ false → reserve.now.sporadics ≢ [] → IsTightFor
+        (spans_of_pairs (T.pairs table.now))
+        reserve.now
+        (T.time table.now)
+        1
+        result.1 }
     ensures steps { steps.old ≤ steps.new }
 {
     if reserve.is_empty() {
@@ -64,8 +71,14 @@ fn is_short<T: SpareTable>(table: &T, reserve: &Reserve, room: Remembered) -> bo
         reserve.now
         (T.time table.now)
         room }
-    ensures { IsTrue result
+    ensures short { IsTrue result
         → soft_fits (spans_of_pairs (T.pairs table.now)) reserve.now (T.time table.now) ≡ false }
+    ensures tight { IsTrue result → IsTightFor
+        (spans_of_pairs (T.pairs table.now))
+        reserve.now
+        (T.time table.now)
+        1
+        room }
 {
     let now = table.time();
     if room.tight <= now {
@@ -92,6 +105,12 @@ fn search<T: SpareTable, L: Ledger>(
         (spans_of_pairs (T.pairs table.now))
         reserve.now
         (T.time table.now)
+        result.1 }
+    ensures tight { result.0 ≡ false → IsTightFor
+        (spans_of_pairs (T.pairs table.now))
+        reserve.now
+        (T.time table.now)
+        1
         result.1 }
     ensures steps { steps.old ≤ steps.new }
 {

@@ -1,12 +1,13 @@
 //! What a slot runs.
 
-ghost use Rattle.std.specs.Prelude.{◌≡◌, ◌≤◌, true, drop, length, take};
+ghost use Rattle.std.specs.Prelude.{◌≡◌, ◌≢◌, ◌≤◌, [], false, true, drop, length, take};
 ghost use Rattle.slot_core.specs.declared.TheConstants.{SHOWN_LIMIT};
 ghost use Rattle.slot_core.specs.Runs.Choice.{earliest, ready};
 ghost use Rattle.slot_core.specs.Runs.Matches.{HaveSameItems};
 ghost use Rattle.slot_core.specs.Runs.Traces.{told_of_slot};
 ghost use Rattle.interval_row.specs.Tables.{spans_of_pairs};
 ghost use Rattle.guarantee.specs.Offers.{soft_fits};
+ghost use Rattle.slot_exec.specs.Ahead.{IsTightFor};
 ghost use Rattle.slot_exec.specs.Rooms.{MaySearch, RemembersSpans};
 ghost use Rattle.slot_exec.specs.Changes.{chosen_job, chosen_of, front_run, jobs_after, ran_of, soft_after, spans_after, MayRun};
 
@@ -14,7 +15,7 @@ use crate::rooms::{Remembered, may_run};
 use circular_buffer::HeapCircularBuffer;
 use interval_row::SpareTable;
 use job_queue::JobQueue;
-use slot_core::{Job, Key, SoftJob, Steps, What};
+use slot_core::{Job, Key, Ran, SoftJob, Steps, What};
 use sporadic_reserve::Reserve;
 use std::sync::ledger::Ledger;
 
@@ -38,6 +39,17 @@ impl Chosen {
             Chosen::Nothing => What::Idle,
             Chosen::Soft(row) => What::Run(Key::Soft(row)),
             Chosen::Guaranteed(job) => What::Run(job.key),
+        }
+    }
+
+    /// What runs.
+    pub(crate) fn ran(self) -> Ran
+        ensures { result ≡ ran_of self }
+    {
+        match self {
+            Chosen::Nothing => Ran::Idle,
+            Chosen::Soft(row) => Ran::Key(Key::Soft(row)),
+            Chosen::Guaranteed(job) => Ran::Key(job.key),
         }
     }
 }
@@ -66,6 +78,14 @@ pub(crate) fn choose<T: SpareTable, L: Ledger>(
         (spans_of_pairs (T.pairs table.now))
         reserve.now
         (T.time table.now)
+        result.1 }
+    ensures tight { soft.now.items ≢ [] → reserve.now.sporadics ≢ []
+        → soft_fits (spans_of_pairs (T.pairs table.now)) reserve.now (T.time table.now) ≡ false
+        → IsTightFor
+        (spans_of_pairs (T.pairs table.now))
+        reserve.now
+        (T.time table.now)
+        1
         result.1 }
     ensures steps { steps.old ≤ steps.new }
 {

@@ -20,14 +20,15 @@ use Rattle.faults.specs.declared.table_fault.TableFault.{TableFault}
 use Rattle.faults.specs.declared.table_fault.TableFault.TheVariants.{Memory as NoMemory, Short, BadMagic, BadVersion, BadSource, Infeasible, WrongJobCount, WrongJob, WrongSpanCount, WrongSpan, Trailing}
 use Rattle.slot_port.specs.declared.TheConstants.{INDEX_LIMIT, SPORADIC_INDEX_LIMIT, KEY_TEXT_LIMIT}
 use Rattle.slot_port.specs.declared.numbers.TheConstants.{NO_JOB, OFFLINE, SPORADIC, FIRM, SOFT}
-use Rattle.slot_port.specs.declared.status.TheConstants.{OK, MEMORY, BAD_TABLE, BAD_ROW, BAD_NUMBER, AT_END, CLOSED, STILL_OPEN}
+use Rattle.slot_port.specs.declared.status.TheConstants.{OK, MEMORY, BAD_TABLE, BAD_ROW, BAD_NUMBER, AT_END, CLOSED, STILL_OPEN, REFUSED, NOT_FRESH}
 use Rattle.slot_port.specs.Answers.{soft_numbers, firm_numbers, sporadic_numbers, done_numbers, gone_numbers}
 use Rattle.slot_port.specs.Faults.{fault_numbers}
 
 -- how a call ended
 pub statuses :
-    OK ∷ MEMORY ∷ BAD_TABLE ∷ BAD_ROW ∷ BAD_NUMBER ∷ AT_END ∷ CLOSED ∷ STILL_OPEN ∷ []
-    ≡ 0 ∷ 1 ∷ 2 ∷ 3 ∷ 4 ∷ 5 ∷ 6 ∷ 7 ∷ []
+    OK ∷ MEMORY ∷ BAD_TABLE ∷ BAD_ROW ∷ BAD_NUMBER ∷ AT_END ∷ CLOSED ∷ STILL_OPEN ∷ REFUSED
+    ∷ NOT_FRESH ∷ []
+    ≡ 0 ∷ 1 ∷ 2 ∷ 3 ∷ 4 ∷ 5 ∷ 6 ∷ 7 ∷ 8 ∷ 9 ∷ []
 statuses = refl
 
 -- the kinds of keys

@@ -1,2 +1,3 @@
 pub mod FixedKeys
 pub mod FixedNumbers
+pub mod PassedSlots

@@ -4,3 +4,4 @@ pub mod Keys
 pub mod Spans
 pub mod Statuses
 pub mod Calls
+pub mod Changes

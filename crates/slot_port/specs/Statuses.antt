@@ -32,6 +32,14 @@ done_status exec row key = arrival_status exec row (is_some (key_named key))
 abbrev pub slot_status : Executive → ℕ
 slot_status exec = if nat_lt exec.scene.time TIME_LIMIT then OK else AT_END
 
+-- of so many slots ahead: at least one
+abbrev pub ahead_status : ℕ → ℕ
+ahead_status most = range_status (nat_le 1 most)
+
+-- of so many slots that pass: at least one, and the time is below its limit
+abbrev pub pass_status : Executive → ℕ → ℕ
+pass_status exec most = if nat_le 1 most then slot_status exec else BAD_NUMBER
+
 -- of the span at a place: there is one
 abbrev pub span_status : Executive → ℕ → ℕ
 span_status exec place = range_status (nat_lt place (length exec.scene.points))

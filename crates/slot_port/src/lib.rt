@@ -5,6 +5,7 @@
 #![tactic(auto)]
 
 mod arrivals;
+pub mod changes;
 mod keys;
 pub mod numbers;
 mod opening;
@@ -13,11 +14,15 @@ pub mod status;
 mod versions;
 
 pub use arrivals::{done, firm, soft, sporadic, withdraw};
+pub use changes::{DROP, GRAPHS, JobNumbers, STARTED, carry, change, job};
 pub use keys::{key_text, sporadic_index};
 pub use numbers::{KeyNumbers, SpanNumbers, Told};
 pub use opening::open;
-pub use passing::{slot, span};
-pub use status::{AT_END, BAD_NUMBER, BAD_ROW, BAD_TABLE, CLOSED, MEMORY, OK, STILL_OPEN, Status};
+pub use passing::{ahead, pass, slot, span};
+pub use status::{
+    AT_END, BAD_NUMBER, BAD_ROW, BAD_TABLE, CLOSED, MEMORY, NOT_FRESH, OK, REFUSED, STILL_OPEN,
+    Status,
+};
 use trace_text::KEY_LIMIT;
 pub use versions::version;
 

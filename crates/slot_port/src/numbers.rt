@@ -68,7 +68,7 @@ fn one_number(answer: u32, first: u64) -> Told
 }
 
 /// An answer with three numbers.
-fn three_numbers(answer: u32, first: u64, second: u64, third: u64) -> Told
+pub(crate) fn three_numbers(answer: u32, first: u64, second: u64, third: u64) -> Told
     ensures { result ≡ three_numbers answer first second third }
 {
     Told {

@@ -1,6 +1,7 @@
 //! The statuses of the calls.
 
-/// How a call ended. Where it is not `OK`, nothing has changed but the fault that opening tells.
+/// How a call ended. Where it is not `OK`, nothing has changed but the fault that opening tells, and
+/// where a change of plan is `REFUSED`.
 pub type Status = u32;
 
 /// The call did what it says.
@@ -26,3 +27,9 @@ pub const CLOSED: Status = 6;
 
 /// The handle has one already.
 pub const STILL_OPEN: Status = 7;
+
+/// What is carried over cannot be served.
+pub const REFUSED: Status = 8;
+
+/// The second executive has seen a slot or an arrival.
+pub const NOT_FRESH: Status = 9;

@@ -1,8 +1,9 @@
 -- What a slot leaves for a checker, and where a cycle comes in.
 use Rattle.std.proofs.Common.{◌≡◌, ℕ, ◌+◌, ◌*◌, ◌/◌, ◌%◌, ◌-◌, ◌≤◌, Bool, true, false, cond, List, [], ◌∷◌, length, ◌^◌, add-one, div-mul-le_self, sym, ap, ◌∙◌, subst, arith}
-use Rattle.std.specs.Prelude.{nat_lt, All}
+use Rattle.std.specs.Prelude.{nat_lt, sum_by, All}
 use Rattle.std.specs.List.{AllByRecursion}
 use Rattle.std.proofs.lemmas.List.Elements.{All-from_recursion, recursion_from_All}
+use Rattle.std.proofs.lemmas.List.Sums.{sum_by-cons}
 use Rattle.slot_core.specs.declared.TheConstants.{SLOT_LIMIT}
 use Rattle.slot_core.specs.declared.jobs.Key.{Key}
 use Rattle.slot_core.specs.declared.jobs.Job.{Job}
@@ -36,6 +37,26 @@ due-after_run P key (j ∷ jobs) all =
 due-after_slot : (P : ℕ → Type 0) (ran : Ran) (jobs : List Job) → AllByRecursion (λ (j : Job). P j.dl) jobs → AllByRecursion (λ (j : Job). P j.dl) (after_slot ran jobs)
 due-after_slot P RanIdle jobs all = all
 due-after_slot P (RanKey key) jobs all = due-after_run P key jobs all
+
+-- a run leaves no more slots
+left-after_run : (key : Key) (jobs : List Job) → sum_by (λ (j : Job). j.left) (after_run key jobs) ≤ sum_by (λ (j : Job). j.left) jobs
+left-after_run key [] = omega arith
+left-after_run key (j ∷ jobs) = by_tests (same_key j.key key) (left-after_run key jobs)
+  where
+    left : Job → ℕ
+    left o = o.left
+
+    kept : (test : Bool) (o : Job) (rest : List Job) → o.left ≤ j.left → sum_by left rest ≤ sum_by left jobs → sum_by left (cond test (o ∷ rest) rest) ≤ sum_by left (j ∷ jobs)
+    kept true o rest less few = omega (arith, sum_by-cons left o rest, sum_by-cons left j jobs, less, few)
+    kept false o rest less few = omega (arith, sum_by-cons left j jobs, few)
+
+    by_tests : (b : Bool) → sum_by left (after_run key jobs) ≤ sum_by left jobs → let job = cond b (record j { left = j.left - 1 }) j in sum_by left (cond (nat_lt 0 job.left) (job ∷ after_run key jobs) (after_run key jobs)) ≤ sum_by left (j ∷ jobs)
+    by_tests true few = kept (nat_lt 0 (j.left - 1)) (record j { left = j.left - 1 }) (after_run key jobs) (omega arith) few
+    by_tests false few = kept (nat_lt 0 j.left) j (after_run key jobs) (omega arith) few
+
+pub left-after_slot : (ran : Ran) (jobs : List Job) → sum_by (λ (j : Job). j.left) (after_slot ran jobs) ≤ sum_by (λ (j : Job). j.left) jobs
+left-after_slot RanIdle jobs = omega arith
+left-after_slot (RanKey key) jobs = left-after_run key jobs
 
 -- where the next slot starts a cycle, the jobs that a slot leaves are due by the start of the third cycle from there on
 pub due-at_turn : (cycle : ℕ) (ran : Ran) (t : ℕ) (jobs : List Job) → 1 ≤ cycle → All (λ (j : Job). j.dl ≤ horizon cycle t) jobs → (t + 1) % cycle ≡ 0 → All (λ (j : Job). j.dl ≤ ((t + 1) / cycle + 2) * cycle) (after_slot ran jobs)

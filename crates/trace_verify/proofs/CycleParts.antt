@@ -1,10 +1,13 @@
 -- The plan's jobs and span ends of a cycle are the jobs and the points of that cycle.
-use Rattle.std.proofs.Common.{◌≡◌, ℕ, zero, suc, ◌+◌, ◌*◌, ◌/◌, ◌%◌, ◌≤◌, ◌==◌, List, ◌++◌, map, take, sym, ap, ap₂, ◌∙◌, subst, arith}
-use Rattle.std.specs.Prelude.{All}
+use Rattle.std.proofs.Common.{◌≡◌, ℕ, zero, suc, ◌+◌, ◌*◌, ◌/◌, ◌%◌, ◌≤◌, ◌^◌, ◌==◌, List, ◌++◌, length, map, take, sym, ap, ap₂, ◌∙◌, subst, arith}
+use Rattle.std.specs.Prelude.{sum_by, All}
 use Rattle.std.specs.List.{range_with_len, AllByRecursion}
 use Rattle.std.proofs.lemmas.Bool.{cond-true, eq-eqb}
 use Rattle.std.proofs.lemmas.List.Elements.{All-from_recursion, filter_agree, recursion_from_All}
+use Rattle.std.proofs.lemmas.List.{take_all}
 use Rattle.std.proofs.lemmas.List.Sorted.{IsPermutation-sym}
+use Rattle.std.proofs.lemmas.List.Sums.{sum_by-append, sum_by-take-le}
+use Rattle.slot_core.specs.declared.TheConstants.{SLOT_LIMIT}
 use Rattle.slot_core.specs.declared.jobs.Job.{Job}
 use Rattle.slot_core.specs.declared.jobs.Span.{Span}
 use Rattle.slot_core.specs.declared.tasks.TaskSet.{TaskSet}
@@ -18,6 +21,7 @@ use Rattle.slot_facts.proofs.Lists.Maps.{map-map}
 use Rattle.slot_facts.proofs.Lists.Members.{AllByRecursion-append, AllByRecursion-weaker}
 use Rattle.slot_facts.proofs.Lists.Permuted.{Has-permuted}
 use Rattle.slot_facts.proofs.Lists.SameItems.{same-append}
+use Rattle.slot_facts.proofs.Lists.Sums.{sum_by-map}
 use Rattle.slot_facts.proofs.Offline.LaterJobs.{FitsInCycle, all_fit, later-due_after, later-due_by}
 use Rattle.slot_facts.proofs.Plans.CyclePoints.{is_cycle_point}
 use Rattle.slot_facts.proofs.Plans.DeadlineOrder.{AreInDeadlineOrder-append, AreInDeadlineOrder-later}
@@ -25,7 +29,7 @@ use Rattle.slot_facts.proofs.Plans.LaterPoints.{points_of_cycle}
 use Rattle.slot_facts.proofs.Plans.PointsInAnyOrder.{is_point-among}
 use Rattle.slot_facts.proofs.Plans.SetPoints.{planned, planned-within}
 use Rattle.interval_build.specs.FirstJobs.{AreFirstJobs}
-use Rattle.interval_build.proofs.FirstJobFacts.{AreFirstJobs-from_plan}
+use Rattle.interval_build.proofs.FirstJobFacts.{first_small, AreFirstJobs-from_plan}
 use Rattle.interval_build.proofs.PlanSpans.{first_points, plan_spans-first}
 use Rattle.scene_steps.specs.Steps.{points_in_cycle, with_cycle, with_next_cycle}
 use Rattle.scene_steps.proofs.Same.SameScenes.{same_scene-refl}
@@ -52,6 +56,25 @@ pushed-ordered plan n i jobs is_plan ordered earlier =
     (later-due_after plan.tasks plan.cycle n front fit)
     ordered
     (AreInDeadlineOrder-later plan.tasks plan.cycle n front (AreInDeadlineOrder-take i plan.jobs is_plan.ordered))
+
+-- and have few slots
+pub pushed-few : (plan : PlanParts) (n i : ℕ) → IsPlan plan → sum_by (λ (j : Job). j.left) (map (later_job plan.tasks plan.cycle n) (take i plan.jobs)) ≤ SLOT_LIMIT
+pushed-few plan n i is_plan =
+    let left = λ (j : Job). j.left in
+    let same : sum_by left (map (later_job plan.tasks plan.cycle n) (take i plan.jobs)) ≡ sum_by left (take i plan.jobs) = sum_by-map left (later_job plan.tasks plan.cycle n) (take i plan.jobs) in
+    omega (arith, same, sum_by-take-le left plan.jobs i, first_small plan.tasks plan.jobs (AreFirstJobs-from_plan plan is_plan))
+
+-- so do those of the first cycles
+first_cycles-left : (plan : PlanParts) (n : ℕ) → IsPlan plan → sum_by (λ (j : Job). j.left) (first_cycles plan n) ≤ n * SLOT_LIMIT
+first_cycles-left plan zero is_plan = omega arith
+first_cycles-left plan (suc n) is_plan =
+    let left = λ (j : Job). j.left in
+    let whole = take_all (length plan.jobs) plan.jobs (omega arith) in
+    omega (arith, sum_by-append left (first_cycles plan n) (map (later_job plan.tasks plan.cycle n) plan.jobs), ap (λ js. sum_by left (map (later_job plan.tasks plan.cycle n) js)) whole, pushed-few plan n (length plan.jobs) is_plan, first_cycles-left plan n is_plan)
+
+pub first_cycles-few : (plan : PlanParts) (n : ℕ) (jobs : List Job) → IsPlan plan → n ≤ 2 → jobs ≡ first_cycles plan n → sum_by (λ (j : Job). j.left) jobs ≤ 2 ^ 38
+first_cycles-few plan n jobs is_plan low are =
+    omega (arith, ap (sum_by (λ (j : Job). j.left)) are, first_cycles-left plan n is_plan)
 
 -- the jobs of the first n cycles are due by their end
 first_cycles-by : (plan : PlanParts) (n : ℕ) → IsPlan plan → AllByRecursion (λ (j : Job). j.dl ≤ n * plan.cycle) (first_cycles plan n)

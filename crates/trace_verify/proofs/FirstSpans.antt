@@ -1,19 +1,17 @@
 -- The first spans between points need of the later ones only what the jobs due there lack.
-use Rattle.std.proofs.Common.{◌≡◌, ℕ, zero, suc, ◌+◌, ◌-◌, ◌<◌, ◌≤◌, ◌^◌, ◌⊎◌, ℤ, pos, neg_ℤ, ◌+ℤ◌, cond, List, [], ◌∷◌, ◌++◌, length, take, drop, filter, get_or, refl, sym, ap, subst, ◌∙◌, inl, inr, ⊎_elim, arith}
+use Rattle.std.proofs.Common.{◌≡◌, ℕ, zero, suc, ◌+◌, ◌-◌, ◌<◌, ◌≤◌, ◌^◌, ◌⊎◌, ℤ, pos, neg_ℤ, ◌+ℤ◌, List, [], ◌∷◌, ◌++◌, length, take, drop, filter, get_or, refl, sym, ap, subst, ◌∙◌, inl, inr, ⊎_elim, arith}
 use Rattle.std.specs.Prelude.{All, Contains, sum_by}
 use Rattle.std.specs.Int.{int_min}
 use Rattle.std.specs.List.{AllByRecursion}
 use Rattle.std.proofs.lemmas.Bool.{cases_lt, lt-ltb, le-ltb}
 use Rattle.std.proofs.lemmas.Int.{ints, clamps}
 use Rattle.std.proofs.lemmas.List.{length-take, take-append-drop}
-use Rattle.std.proofs.lemmas.List.Sums.{sum_by-le-sum_by}
 use Rattle.std.proofs.lemmas.List.Elements.{recursion_from_All}
 use Rattle.slot_core.specs.declared.jobs.Job.{Job}
 use Rattle.slot_core.specs.declared.jobs.Span.{Span}
 use Rattle.slot_core.specs.Keeping.Plans.{AreInDeadlineOrder}
 use Rattle.slot_core.specs.Runs.Rising.{AreRising, last_point}
 use Rattle.slot_core.specs.Runs.Spans.{slack, span_at, spans_between}
-use Rattle.slot_facts.proofs.Lists.Sums.{sum_by-filter, cond-le}
 use Rattle.slot_facts.proofs.Lists.Members.{Has, Has-from_Contains}
 use Rattle.spare_capacity.specs.Recurrence.{filled, first_spare, room, with_spare, FollowOn, AreConsecutive}
 use Rattle.interval_build.specs.Rows.{rows_between}
@@ -183,13 +181,6 @@ last_point-read s (p ∷ points) =
     let count : length (p ∷ points) - 1 ≡ length points = omega arith in
     ap (λ n. get_or (p ∷ points) n s) count ∙ last_point-at s s (length points) (p ∷ points) refl
 
--- what some of the jobs have left is no more than what all have
-pub left-filter : (e : ℕ) (jobs : List Job) → sum_by (λ (j : Job). j.left) (filter (is_due_after e) jobs) ≤ sum_by (λ (j : Job). j.left) jobs
-left-filter e jobs =
-    let only = sum_by-filter (λ (j : Job). j.left) (is_due_after e) jobs in
-    let less = sum_by-le-sum_by (λ (j : Job). cond (is_due_after e j) j.left 0) (λ (j : Job). j.left) jobs (λ j. cond-le (is_due_after e j) j.left) in
-    omega (arith, only, less)
-
 -- the rows between points and a span that lacks slots behind them follow on
 FollowOn-lacking : (jobs : List Job) (s n : ℕ) (points : List ℕ) → AreRising s points → last_point s points ≤ 2 ^ 40 → sum_by (λ (j : Job). j.left) jobs ≤ 2 ^ 40 → n < 2 ^ 40 → FollowOn s (rows_between jobs s points ++ lacking_span (last_point s points) n ∷ [])
 FollowOn-lacking jobs s n [] rising near small few = (refl, omega arith, omega arith, omega arith, tt)
@@ -202,12 +193,11 @@ AreConsecutive-lacking jobs s n [] rising near small few = FollowOn-lacking jobs
 AreConsecutive-lacking jobs s n (e ∷ points) rising near small few = FollowOn-lacking jobs s n (e ∷ points) rising near small few
 
 -- a span made of what the later jobs lack
-pub with_lacking : (jobs beyond : List Job) (t end n : ℕ) (front : List ℕ) (made : Span) → end ≡ last_point t front → beyond ≡ filter (is_due_after end) jobs → n ≡ lack end beyond → made ≡ lacking_span end n → rows_between jobs t front ++ made ∷ [] ≡ rows_between jobs t front ++ lacking_span (last_point t front) (lack (last_point t front) (filter (is_due_after (last_point t front)) jobs)) ∷ []
-with_lacking jobs beyond t end n front made ends after lacks is =
-    let slots = lacks ∙ ap (lack end) after in
+pub with_lacking : (jobs : List Job) (t end n : ℕ) (front : List ℕ) (made : Span) → end ≡ last_point t front → n ≡ lack end (filter (is_due_after end) jobs) → made ≡ lacking_span end n → rows_between jobs t front ++ made ∷ [] ≡ rows_between jobs t front ++ lacking_span (last_point t front) (lack (last_point t front) (filter (is_due_after (last_point t front)) jobs)) ∷ []
+with_lacking jobs t end n front made ends lacks is =
     ap
     (λ (span : Span). rows_between jobs t front ++ span ∷ [])
-    (is ∙ ap (lacking_span end) slots ∙ ap (λ e. lacking_span e (lack e (filter (is_due_after e) jobs))) ends)
+    (is ∙ ap (lacking_span end) lacks ∙ ap (λ e. lacking_span e (lack e (filter (is_due_after e) jobs))) ends)
 
 -- each job is due by the time or at a point
 AreDueAt-from_all : (jobs : List Job) (s : ℕ) (points : List ℕ) → All (λ (j : Job). (j.dl ≤ s) ⊎ Contains points j.dl) jobs → AreDueAt jobs s points

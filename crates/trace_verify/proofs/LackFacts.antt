@@ -1,9 +1,10 @@
 -- What jobs lack: no work due by a later time is more above the slots up to it, and some is as much.
-use Rattle.std.proofs.Common.{◌≡◌, ℕ, ◌+◌, ◌-◌, ◌<◌, ◌≤◌, ◌⊎◌, ℤ, pos, neg_ℤ, ◌≤ℤ◌, Bool, true, false, ◌&&◌, cond, List, [], ◌∷◌, filter, sum_by, refl, sym, ap, subst, ◌∙◌, inl, inr, ⊎_elim, arith}
-use Rattle.std.specs.Prelude.{max, nat_le}
+use Rattle.std.proofs.Common.{◌≡◌, ℕ, ◌+◌, ◌-◌, ◌<◌, ◌≤◌, ◌⊎◌, ℤ, pos, neg_ℤ, ◌≤ℤ◌, Bool, true, false, ◌&&◌, cond, ltb, leb, List, [], ◌∷◌, filter, sum_by, refl, sym, ap, subst, ◌∙◌, inl, inr, ⊎_elim, arith}
+use Rattle.std.specs.Prelude.{max, nat_le, nat_lt}
 use Rattle.std.specs.Int.{int_min}
 use Rattle.std.specs.List.{AllByRecursion}
-use Rattle.std.proofs.lemmas.Bool.{cases_lt, le-leb, lt-leb}
+use Rattle.std.proofs.lemmas.Bool.{cases_lt, le-leb, le-ltb, lt-leb, lt-ltb}
+use Rattle.std.proofs.lemmas.Bool.Decides.{nat_tests}
 use Rattle.std.proofs.lemmas.Int.{ints, clamps}
 use Rattle.std.proofs.lemmas.List.Sums.{sum_by-cons}
 use Rattle.slot_core.specs.declared.jobs.Job.{Job}
@@ -11,11 +12,14 @@ use Rattle.slot_core.specs.Keeping.Plans.{AreInDeadlineOrder}
 use Rattle.slot_core.specs.Offline.Keys.{is_earlier}
 use Rattle.slot_core.specs.Runs.Demand.{work_between, work_by}
 use Rattle.slot_core.specs.Runs.Spans.{slack}
-use Rattle.slot_facts.proofs.Lists.Sums.{sum_by-filter}
+use Rattle.slot_facts.proofs.Lists.Members.{AllByRecursion-weaker}
+use Rattle.slot_facts.proofs.Lists.Sums.{sum_by-filter, sum_by-plus}
 use Rattle.slot_facts.proofs.Plans.DeadlineOrder.{is_earlier-le}
 use Rattle.interval_build.proofs.Due.{is_due_after}
 use Rattle.interval_build.proofs.Least.{IsLeast}
+use Rattle.trace_verify.specs.Dues.{due_before, left_before, AreDues, IsLackAfter}
 use Rattle.trace_verify.specs.Lacks.{lack, lack_beside}
+use Rattle.trace_verify.proofs.LeftSums.{left_before-le}
 
 -- each of the jobs is due at this time or later
 abbrev pub AreDueFrom : ℕ → List Job → Type 0
@@ -140,3 +144,62 @@ least-lack jobs e next end m after within ordered from by least = both
           | inl none ↦ min-none m n none least_bound
           | inr w ↦ min-reached m n (slack jobs e w.0) least_bound (least.bound w.0 w.1 w.2) (some_slack w.0 (omega (arith, w.1)) w.3)
         ]
+
+-- each of the jobs is due by some time
+all_by : (jobs : List Job) → (end : ℕ) × AreDueBy end jobs
+all_by [] = (0, tt)
+all_by (j ∷ jobs) =
+    let rest = all_by jobs in
+    (max j.dl rest.0, (omega arith, AllByRecursion-weaker (λ (j : Job). j.dl ≤ rest.0) (λ (o : Job). o.dl ≤ max j.dl rest.0) jobs (λ o by. omega (arith, by)) rest.1))
+
+-- jobs due after a time are due at the next time or later
+due_from_next : (e : ℕ) (jobs : List Job) → AreDueFrom (e + 1) (filter (is_due_after e) jobs)
+due_from_next e [] = tt
+due_from_next e (j ∷ jobs) =
+    ⊎_elim
+    (λ after. rw (lt-ltb e j.dl after) (omega arith, due_from_next e jobs))
+    (λ past. rw (le-ltb e j.dl past) (due_from_next e jobs))
+    (cases_lt e j.dl)
+
+in_parts : (left dl e x : ℕ) → e ≤ x → cond (ltb dl (e + 1)) left 0 + cond (ltb e dl) (cond (leb dl x) left 0) 0 ≡ cond (ltb dl (x + 1)) left 0
+in_parts left dl e x le = grind (arith, nat_tests)
+
+-- what is left before a later time is what is left before a time and of the jobs due after it
+after_parts : (e x : ℕ) (jobs : List Job) → e ≤ x → left_before jobs (x + 1) ≡ left_before jobs (e + 1) + work_by (filter (is_due_after e) jobs) x
+after_parts e x jobs le =
+    let rest = sum_by-filter (λ (j : Job). cond (nat_le j.dl x) j.left 0) (is_due_after e) jobs in
+    let both = sum_by-plus (λ (j : Job). cond (nat_lt j.dl (e + 1)) j.left 0) (λ (j : Job). cond (is_due_after e j) (cond (nat_le j.dl x) j.left 0) 0) (λ (j : Job). cond (nat_lt j.dl (x + 1)) j.left 0) jobs (λ j. in_parts j.left j.dl e x le) in
+    omega (arith, rest, both)
+
+-- what the slots due after a time lack is what the jobs due after it lack
+pub lack-of_dues : (due : List ℕ) (jobs : List Job) (e n : ℕ) → AreDues due jobs → AreInDeadlineOrder (filter (is_due_after e) jobs) → IsLackAfter (due_before due) e n → n ≡ lack e (filter (is_due_after e) jobs)
+lack-of_dues due jobs e n are ordered lacks = omega (arith, no_more, no_less)
+  where
+    rest : List Job
+    rest = filter (is_due_after e) jobs
+
+    between : (x : ℕ) → e ≤ x → due_before due (x + 1) ≡ due_before due (e + 1) + work_by rest x
+    between x le = omega (arith, are.same (x + 1), are.same (e + 1), after_parts e x jobs le)
+
+    no_more : n ≤ lack e rest
+    no_more =
+        ⊎_elim
+        (λ none. omega arith)
+        (λ r. omega (arith, r.1, r.2, between r.0 (omega (arith, r.1)), lack_beside-bound e 0 0 r.0 rest ordered (omega arith)))
+        lacks.reached
+
+    no_less : lack e rest ≤ n
+    no_less =
+        let all = all_by rest in
+        ⊎_elim
+        (λ none. omega arith)
+        (λ r. omega (arith, r.1, r.3, between r.0 (omega (arith, r.1)), lacks.bound r.0 (omega (arith, r.1))))
+        (lack_beside-reached e 0 (e + 1) all.0 rest ordered (due_from_next e jobs) all.1)
+
+-- which is no more than they have left
+pub lack-few : (due : List ℕ) (jobs : List Job) (e n : ℕ) → AreDues due jobs → IsLackAfter (due_before due) e n → n ≤ sum_by (λ (j : Job). j.left) jobs
+lack-few due jobs e n are lacks =
+    ⊎_elim
+    (λ none. omega arith)
+    (λ r. omega (arith, r.2, are.same (r.0 + 1), left_before-le jobs (r.0 + 1)))
+    lacks.reached

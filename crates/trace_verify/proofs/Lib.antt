@@ -2,11 +2,14 @@ pub mod CheckedScenes
 pub mod CheckerAnswers
 pub mod CheckerSlots
 pub mod CycleParts
+pub mod DueFacts
 pub mod FirstSpans
 pub mod FittingOccurrences
 pub mod FromVerdict
+pub mod JobDues
 pub mod JobEdits
 pub mod LackFacts
+pub mod LeftSums
 pub mod LineFacts
 pub mod NamedFaults
 pub mod OfferFacts

@@ -22,7 +22,7 @@ use Rattle.slot_core.specs.Sets.Ranges.{is_sound}
 use Rattle.slot_facts.proofs.Lists.SameItems.{same-filter}
 use Rattle.slot_facts.proofs.Lists.Tests.{same_tests}
 use Rattle.key_texts.proofs.NameLemmas.{bytes_eq-same, same-from_bytes_eq}
-use Rattle.scene_steps.specs.Steps.{scene_after, after_ran}
+use Rattle.scene_steps.specs.Steps.{scene_after}
 use Rattle.scene_steps.proofs.Same.SameChoices.{earliest-same}
 use Rattle.scene_steps.proofs.Same.SameSpans.{shown_of-same}
 use Rattle.trace_text.specs.RunLines.{is_known, run_of_line, TellsRun}

@@ -1,6 +1,6 @@
 -- The keys that the faults of a recorded trace name lie in the set.
 use Rattle.std.proofs.Common.{◌≡◌, ℕ, ◌+◌, ◌/◌, Bool, true, false, cond, List, [], ◌∷◌, ◌++◌, Option, Some, None, Ok, Err, refl, sym, ap, ◌∙◌, subst, ◌⊎◌, inl, inr}
-use Rattle.std.specs.Prelude.{length, nat_lt, nat_le, filter, map, flat_map, ◌==◌, ⊤}
+use Rattle.std.specs.Prelude.{length, nat_lt, nat_le, filter, map, ◌==◌, ⊤}
 use Rattle.std.specs.List.{range_with_len}
 use Rattle.std.specs.Option.{option_map_or}
 use Rattle.std.specs.Str.{bytes_eq}
@@ -10,7 +10,6 @@ use Rattle.slot_core.specs.declared.jobs.Job.{Job}
 use Rattle.slot_core.specs.declared.tasks.TaskSet.{TaskSet}
 use Rattle.slot_core.specs.declared.events.Arrival.{Arrival}
 use Rattle.slot_core.specs.declared.events.Entry.{Entry}
-use Rattle.slot_core.specs.declared.events.Event.{Event}
 use Rattle.slot_core.specs.declared.events.Event.TheVariants.{Soft as SoftEvent, Firm as FirmEvent, Sporadic as SporadicEvent, Done as DoneEvent, Withdraw as WithdrawEvent}
 use Rattle.slot_core.specs.declared.events.Ran.{Ran}
 use Rattle.slot_core.specs.declared.events.Ran.TheVariants.{Idle as RanIdle, Key as RanKey}
@@ -23,9 +22,8 @@ use Rattle.slot_core.specs.Keeping.Plans.{PlanParts, IsPlan}
 use Rattle.slot_core.specs.Offline.OfflineJobs.{offline_jobs}
 use Rattle.slot_core.specs.Output.Texts.{entry_line}
 use Rattle.slot_core.specs.Runs.Arrivals.{are_fitting, arrivals_follow, event_may_come, key_in_set, key_in_range}
-use Rattle.slot_core.specs.Runs.Choice.{earliest}
 use Rattle.slot_core.specs.Runs.Histories.{History, time_of, firm_jobs, sporadic_jobs}
-use Rattle.slot_core.specs.Runs.Scenes.{Scene, guaranteed, guaranteed_in, remaining, scene_of}
+use Rattle.slot_core.specs.Runs.Scenes.{Scene, guaranteed, remaining, scene_of}
 use Rattle.slot_core.specs.Runs.Traces.{Occurrence, arrive, slot, end_entry, occurrences_in, occurrences_of, shown_entry, started, told_of_slot}
 use Rattle.slot_core.specs.Sets.Cycles.{cycle_of}
 use Rattle.slot_facts.proofs.Choice.Earliest.{IsEarliest-from_earliest}

@@ -1,5 +1,5 @@
 -- The need of an offer grows at the deadlines of jobs and where sporadic demand rises alone.
-use Rattle.std.proofs.Common.{◌≡◌, ℕ, zero, suc, ◌+◌, ◌-◌, ◌<◌, ◌≤◌, Bool, true, false, cond, ltb, leb, List, filter, get_or, sum_by, Option, Some, None, refl, sym, ap, ◌∙◌, ⊎_elim, arith}
+use Rattle.std.proofs.Common.{◌≡◌, ℕ, zero, suc, ◌+◌, ◌-◌, ◌<◌, ◌≤◌, Bool, true, false, cond, ltb, leb, List, [], filter, get_or, sum_by, Option, Some, None, refl, sym, ap, ◌∙◌, ⊎_elim, arith}
 use Rattle.std.specs.Prelude.{find, nat_le, All}
 use Rattle.std.specs.List.{range_with_len}
 use Rattle.std.specs.Option.{option_map}
@@ -61,6 +61,33 @@ find-first p a (suc n) x from below before passes =
     let here : p a ≡ true = ap p is ∙ passes in
     rw here (ap Some is))
     (cases_lt a x)
+
+-- what fails before a time is passed
+find-later : (p : ℕ → Bool) (a n b : ℕ) → a ≤ b → ((y : ℕ) → a ≤ y → y < b → p y ≡ false) → find p (range_with_len a n) ≡ find p (range_with_len b (a + n - b))
+find-later p a zero b later none =
+    let empty : a + zero - b ≡ 0 = omega arith in
+    sym (ap (λ m. find p (range_with_len b m)) empty)
+find-later p a (suc n) b later none =
+    ⊎_elim
+    (λ (less : a < b).
+    let count : a + 1 + n - b ≡ a + suc n - b = omega arith in
+    rw (none a (omega arith) less) (find-later p (a + 1) n b (omega arith) (λ y low high. none y (omega arith) high) ∙ ap (λ m. find p (range_with_len b m)) count))
+    (λ (same : b ≤ a).
+    let is : a ≡ b = omega arith in
+    let count : suc n ≡ a + suc n - b = omega arith in
+    ap (find p) (ap (λ m. range_with_len a m) count ∙ ap (λ m. range_with_len m (a + suc n - b)) is))
+    (cases_lt a b)
+
+pub find-from : (p : ℕ → Bool) (from end start : ℕ) → from ≤ start → ((y : ℕ) → from ≤ y → y < start → p y ≡ false) → find p (range_with_len from (end + 1 - from)) ≡ find p (range_with_len start (end + 1 - start))
+find-from p from end start later none =
+    let count : from + (end + 1 - from) - start ≡ end + 1 - start = omega arith in
+    find-later p from (end + 1 - from) start later none ∙ ap (λ m. find p (range_with_len start m)) count
+
+-- without sporadic tasks a time is not short where the jobs fit
+pub fits-none : (sporadics : List Sporadic) (nexts : List ℕ) (now slots : ℕ) (jobs : List Job) (y : ℕ) → sporadics ≡ [] → slots + work_by jobs y ≤ y - now → is_overloaded sporadics (offer_scene now jobs nexts) slots now y ≡ false
+fits-none sporadics nexts now slots jobs y none fits =
+    let no_demand : sporadic_demand sporadics nexts now y ≡ 0 = ap (λ ss. sporadic_demand ss nexts now y) none in
+    le-ltb (y - now) (slots + (work_by jobs y + sporadic_demand sporadics nexts now y)) (omega (arith, fits, no_demand))
 
 module _ (sporadics : List Sporadic) (nexts : List ℕ) (now slots : ℕ) (jobs : List Job) where
   -- more is needed by the time than there are slots

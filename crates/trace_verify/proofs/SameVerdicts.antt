@@ -1,11 +1,8 @@
 -- A line is told the same over a lawful history and over a scene that is that of it.
-use Rattle.std.proofs.Common.{◌≡◌, ℕ, Bool, true, false, cond, List, ◌∷◌, Option, Some, None, Ok, Err, refl, sym, ap, ◌∙◌, subst}
-use Rattle.std.specs.Prelude.{filter, nat_le, ⊤}
+use Rattle.std.proofs.Common.{◌≡◌, ℕ, Bool, true, false, cond, List, ◌∷◌, Option, Some, None, Ok, Err, refl, ap, ◌∙◌}
+use Rattle.std.specs.Prelude.{⊤}
 use Rattle.std.specs.Option.{option_map_or}
-use Rattle.slot_core.specs.declared.jobs.Job.{Job}
-use Rattle.slot_core.specs.declared.jobs.Key.{Key}
 use Rattle.slot_core.specs.declared.tasks.TaskSet.{TaskSet}
-use Rattle.slot_core.specs.declared.events.Event.{Event}
 use Rattle.slot_core.specs.declared.events.Ran.{Ran}
 use Rattle.slot_core.specs.declared.events.Ran.TheVariants.{Idle as RanIdle, Key as RanKey}
 use Rattle.slot_core.specs.declared.events.What.{What}
@@ -13,23 +10,18 @@ use Rattle.slot_core.specs.declared.events.What.TheVariants.{Run, Idle}
 use Rattle.slot_core.specs.Calls.Results.{◌>>=◌}
 use Rattle.slot_core.specs.Claims.Lawful.{may_run, IsLawful}
 use Rattle.slot_core.specs.Feasibility.Feasible.{IsFeasible}
-use Rattle.slot_core.specs.Runs.Answers.{answer}
-use Rattle.slot_core.specs.Runs.Choice.{earliest}
 use Rattle.slot_core.specs.Runs.Histories.{History}
 use Rattle.slot_core.specs.Runs.Matches.{IsSameScene}
 use Rattle.slot_core.specs.Runs.Scenes.{Scene, scene_of}
-use Rattle.slot_core.specs.Runs.Spans.{shown_of}
 use Rattle.slot_core.specs.Runs.Traces.{Occurrence, arrive, slot, told_of, MayCome}
 use Rattle.slot_core.specs.Sets.Cycles.{cycle_of}
 use Rattle.slot_core.specs.Sets.Ranges.{is_sound}
-use Rattle.slot_facts.proofs.Lists.SameItems.{same-filter}
 use Rattle.scene_steps.specs.Steps.{scene_after}
-use Rattle.scene_steps.proofs.Same.SameChoices.{earliest-same}
 use Rattle.scene_steps.proofs.Same.SameLawful.{may_run-same, same_scene-ran, answer-lawful, same_scene-answer}
 use Rattle.scene_steps.proofs.Same.SameSpans.{shown_of-same}
 use Rattle.trace_text.specs.RunLines.{run_of_line}
 use Rattle.trace_verify.specs.SceneLines.{line_in}
-use Rattle.trace_verify.specs.Verdicts.{Checking, told_where_ready, told_by, same_line, in_time, entry_in, line_told}
+use Rattle.trace_verify.specs.Verdicts.{Checking, told_where_ready, same_line, in_time, entry_in, line_told}
 use Rattle.trace_verify.proofs.LineFacts.{in_time-same}
 use Rattle.faults.specs.declared.verify_fault.VerifyFault.TheVariants.{NoRun, NotReady}
 

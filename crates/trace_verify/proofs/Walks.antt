@@ -6,8 +6,6 @@ use Rattle.std.proofs.lemmas.Bool.{and_from, eqb-true, eqb-false}
 use Rattle.std.proofs.lemmas.List.Elements.{All-from_recursion}
 use Rattle.slot_core.specs.declared.TheConstants.{ARRIVAL_LIMIT, REPLAY_LIMIT}
 use Rattle.slot_core.specs.declared.jobs.Job.{Job}
-use Rattle.slot_core.specs.declared.jobs.Key.{Key}
-use Rattle.slot_core.specs.declared.jobs.Key.TheVariants.{Offline, Sporadic, Firm, Soft}
 use Rattle.slot_core.specs.declared.tasks.TaskSet.{TaskSet}
 use Rattle.slot_core.specs.declared.events.Arrival.{Arrival}
 use Rattle.slot_core.specs.declared.events.Ran.TheVariants.{Idle as RanIdle}
@@ -17,7 +15,7 @@ use Rattle.slot_core.specs.Runs.ShownSpans.{ShownSpans}
 use Rattle.slot_core.specs.Calls.Results.{◌>>=◌}
 use Rattle.slot_core.specs.Claims.Lawful.{MayTell, IsLawful}
 use Rattle.slot_core.specs.Feasibility.Feasible.{IsFeasible}
-use Rattle.slot_core.specs.Offline.Keys.{is_offline, row_of}
+use Rattle.slot_core.specs.Offline.Keys.{row_of}
 use Rattle.slot_core.specs.Runs.Arrivals.{are_fitting, event_may_come, event_names_known}
 use Rattle.slot_core.specs.Runs.Histories.{History, time_of, last_row}
 use Rattle.slot_core.specs.Runs.Matches.{IsSameScene}

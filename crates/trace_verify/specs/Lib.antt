@@ -1,4 +1,5 @@
 pub mod Checked
+pub mod Dues
 pub mod Lacks
 pub mod Laws
 pub mod Offers

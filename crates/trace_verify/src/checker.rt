@@ -1,6 +1,6 @@
 //! A checker: the scene of the lines so far.
 
-ghost use Rattle.std.specs.Prelude.{◌≡◌, ◌+◌, ◌*◌, ◌≤◌, ◌<◌, ◌^◌, ◌++◌, ◌/◌, ◌%◌, ℕ, map, find, true, length, All, IfOk, OnOk};
+ghost use Rattle.std.specs.Prelude.{◌≡◌, ◌+◌, ◌*◌, ◌≤◌, ◌<◌, ◌^◌, ◌++◌, ◌/◌, ◌%◌, ℕ, map, find, true, length, sum_by, All, IfOk, OnOk};
 ghost use Rattle.std.specs.Option.{option_map};
 ghost use Rattle.slot_core.specs.declared.TheConstants.{CYCLES_LIMIT, SLOT_LIMIT};
 ghost use Rattle.slot_core.specs.declared.jobs.Job.{Job};
@@ -21,9 +21,7 @@ ghost use Rattle.sporadic_reserve.specs.Reserves.{without_name};
 ghost use Rattle.trace_verify.specs.Checked.{IsChecked};
 ghost use Rattle.trace_verify.specs.Verdicts.{first_late};
 
-use crate::jobs::{
-    first_late, insert_job, job_may_run, left_of, remove_job, run_job, started_left,
-};
+use crate::jobs::{JobList, first_late, job_may_run, left_of, started_left};
 use crate::offers::offer_answer;
 use crate::points::{insert_point, pass_point};
 use crate::shown::shown;
@@ -43,7 +41,7 @@ use std::marker::Model;
 pub struct Checker {
     alloc: Global,
     at: u64,
-    jobs: Vec<Job>,
+    jobs: JobList,
     reserve: Reserve,
     soft: Vec<SoftJob>,
     points: Vec<u64>,
@@ -58,7 +56,7 @@ impl Model for Checker {
     ghost view = { λ c. record {
       scene = record {
         time = c.at;
-        jobs = c.jobs.items;
+        jobs = c.jobs;
         nexts = c.reserve.nexts;
         soft = c.soft.items;
         points = c.points.items;
@@ -66,7 +64,7 @@ impl Model for Checker {
       sporadics = c.reserve.sporadics;
     } };
 
-    ghost invariant = { λ c. AreInDeadlineOrder c.jobs.items };
+    ghost invariant = { λ c. AreInDeadlineOrder c.jobs };
 }
 
 impl Checker {
@@ -106,7 +104,7 @@ impl Checker {
         Checker {
             alloc,
             at: 0,
-            jobs: Vec::new(alloc),
+            jobs: JobList::new(alloc),
             reserve: Reserve::new(plan.tasks().sporadics.items()),
             soft: Vec::new(alloc),
             points: Vec::new(alloc),
@@ -116,6 +114,7 @@ impl Checker {
     /// The jobs and the points of a cycle come in after those of the cycles before it.
     fn append_cycle(&mut self, plan: &Plan, n: u64) -> Result<(), Memory>
         requires few { n ≤ CYCLES_LIMIT }
+        requires small { sum_by (λ (j : Job). j.left) self.old.scene.jobs ≤ 2 ^ 38 }
         requires earlier { All (λ (j : Job). j.dl ≤ n * plan.now.cycle) self.old.scene.jobs }
         ensures tasks { self.new.sporadics ≡ self.old.sporadics }
         ensures made { OnOk result (self.new
@@ -155,7 +154,7 @@ impl Checker {
         match ran {
             Ran::Idle => true,
             Ran::Key(key) => {
-                job_may_run(tasks, self.at, &self.jobs, key) || soft_may_run(&self.soft, key)
+                job_may_run(tasks, self.at, self.jobs.items(), key) || soft_may_run(&self.soft, key)
             }
         }
     }
@@ -164,7 +163,7 @@ impl Checker {
     pub fn first_late(&self) -> Option<Job>
         ensures { result ≡ first_late self.now.scene }
     {
-        first_late(&self.jobs, self.at)
+        first_late(self.jobs.items(), self.at)
     }
 
     /// A slot passes, in which this runs.
@@ -202,7 +201,7 @@ impl Checker {
             } }
     {
         if let Ran::Key(key) = ran {
-            run_job(&mut self.jobs, key);
+            self.jobs.run(key);
             run_soft(&mut self.soft, key);
         }
     }
@@ -210,6 +209,7 @@ impl Checker {
     /// Where the time is the start of a cycle, the third cycle from there on comes in.
     fn turn(&mut self, plan: &Plan) -> Result<(), Memory>
         requires early { self.old.scene.time ≤ 2 ^ 32 + 1 }
+        requires small { sum_by (λ (j : Job). j.left) self.old.scene.jobs ≤ 2 ^ 36 }
         requires earlier { self.old.scene.time % plan.now.cycle ≡ 0
             → All
             (λ (j : Job). j.dl ≤ (self.old.scene.time / plan.now.cycle + 2) * plan.now.cycle)
@@ -315,6 +315,7 @@ impl Checker {
     /// A job of the sporadic task of this index arrives in this row.
     fn take_sporadic(&mut self, plan: &Plan, row: u32, index: u8) -> Result<Spo, Memory>
         requires early { self.old.scene.time ≤ 2 ^ 32 }
+        requires small { sum_by (λ (j : Job). j.left) self.old.scene.jobs ≤ 2 ^ 36 }
         requires tasks { self.old.sporadics ≡ map without_name plan.now.tasks.sporadics }
         requires named { index < length plan.now.tasks.sporadics }
         requires fresh { All (λ (j : Job). row_of j.key < row) self.old.scene.jobs }
@@ -347,11 +348,12 @@ impl Checker {
 
     /// The job comes in, and its deadline is a point.
     fn accept(&mut self, job: Job) -> Result<(), Memory>
-        requires { All (λ (j : Job). row_of j.key < row_of job.key) self.old.scene.jobs }
+        requires fresh { All (λ (j : Job). row_of j.key < row_of job.key) self.old.scene.jobs }
+        requires small { sum_by (λ (j : Job). j.left) self.old.scene.jobs ≤ 2 ^ 36 }
         ensures scene { OnOk result (IsSameScene self.new.scene (with_job job self.old.scene)) }
         ensures tasks { self.new.sporadics ≡ self.old.sporadics }
     {
-        insert_job(&mut self.jobs, job)?;
+        self.jobs.insert(job)?;
         insert_point(&mut self.points, job.dl)?;
         Ok(())
     }
@@ -379,7 +381,7 @@ impl Checker {
             (λ (j : PairKey × ℕ). j.1)
             (find (λ (j : PairKey × ℕ). same_key j.0 key) (started_jobs self.now.scene)) }
     {
-        match started_left(&self.jobs, key) {
+        match started_left(self.jobs.items(), key) {
             Some(left) => Some(left),
             None => started_soft_left(&self.soft, key),
         }
@@ -393,7 +395,7 @@ impl Checker {
         ensures stays { result ≡ Gone.NoJob → self.new ≡ self.old }
     {
         let key = Key::Firm(firm);
-        match left_of(&self.jobs, key) {
+        match left_of(self.jobs.items(), key) {
             Some(left) => {
                 self.remove(key);
                 Gone::Freed(left)
@@ -406,19 +408,20 @@ impl Checker {
     fn remove(&mut self, key: Key)
         ensures { self.new ≡ record self.old { scene = without key self.old.scene } }
     {
-        remove_job(&mut self.jobs, key);
+        self.jobs.remove(key);
         remove_soft(&mut self.soft, key);
     }
 }
 
 /// Appends the plan's jobs of a cycle to jobs that are due by its start.
-fn push_jobs(jobs: &mut Vec<Job>, plan: &Plan, n: u64) -> Result<(), Memory>
+fn push_jobs(jobs: &mut JobList, plan: &Plan, n: u64) -> Result<(), Memory>
     requires few { n ≤ CYCLES_LIMIT }
-    requires earlier { All (λ (j : Job). j.dl ≤ n * plan.now.cycle) jobs.old.items }
-    requires ordered { AreInDeadlineOrder jobs.old.items }
-    ensures made { OnOk result (jobs.new.items
-        ≡ jobs.old.items ++ map (later_job plan.now.tasks plan.now.cycle n) plan.now.jobs) }
-    ensures ordered { AreInDeadlineOrder jobs.new.items }
+    requires small { sum_by (λ (j : Job). j.left) jobs.old ≤ 2 ^ 38 }
+    requires earlier { All (λ (j : Job). j.dl ≤ n * plan.now.cycle) jobs.old }
+    requires ordered { AreInDeadlineOrder jobs.old }
+    ensures made { OnOk result (jobs.new
+        ≡ jobs.old ++ map (later_job plan.now.tasks plan.now.cycle n) plan.now.jobs) }
+    ensures ordered { AreInDeadlineOrder jobs.new }
 {
     for i in 0..plan.jobs().len() {
         jobs.push(plan.job_in_cycle(i, n))?;

@@ -1,7 +1,7 @@
 //! Lists of remaining jobs.
 
-ghost use Rattle.std.specs.Prelude.{[], false, true, ◌≡◌, ◌≤◌, ◌&&◌, ◌==◌, not, filter, find, length, nat_le, nat_lt, position, All, OnErr, OnOk};
-ghost use Rattle.std.specs.List.{list_all, list_any, prefix_len};
+ghost use Rattle.std.specs.Prelude.{[], false, true, ◌≡◌, ◌+◌, ◌-◌, ◌≤◌, ◌<◌, ◌^◌, ◌&&◌, ◌++◌, ◌∷◌, ◌==◌, ℕ, not, filter, find, length, nat_le, nat_lt, position, sum_by, All, OnErr, OnOk};
+ghost use Rattle.std.specs.List.{insert, list_all, list_any, prefix_len};
 ghost use Rattle.std.specs.Option.{option_map};
 ghost use Rattle.slot_core.specs.declared.jobs.Job.{Job};
 ghost use Rattle.slot_core.specs.declared.jobs.Key.{Key as PairKey};
@@ -13,8 +13,166 @@ ghost use Rattle.slot_core.specs.Offline.OfflineJobs.{tasks_of};
 ghost use Rattle.slot_core.specs.Offline.Precedence.{after_of, comes_after};
 ghost use Rattle.slot_core.specs.Offline.Windows.{precedes};
 ghost use Rattle.slot_core.specs.Runs.Choice.{earliest};
+ghost use Rattle.slot_core.specs.Runs.Demand.{work_by};
+ghost use Rattle.trace_verify.specs.Dues.{AreDues};
+ghost use Rattle.trace_verify.specs.Lacks.{lack};
 
+use crate::dues::Dues;
 use slot_core::{Job, Key, Memory, Task, TaskSet};
+use std::alloc::Global;
+use std::marker::Model;
+
+/// Remaining jobs, with the slots due at each time, which are those left of the jobs.
+#[derive(Drop)]
+pub(crate) struct JobList {
+    jobs: Vec<Job>,
+    dues: Dues,
+}
+
+impl Model for JobList {
+    ghost use Rattle.std.specs.Prelude.{List};
+    ghost use Rattle.slot_core.specs.declared.jobs.Job.{Job};
+    ghost use Rattle.trace_verify.specs.Dues.{AreDues};
+
+    ghost Value = { List Job };
+
+    ghost view = { λ l. l.jobs.items };
+
+    ghost invariant = { λ l. AreDues l.dues l.jobs.items };
+}
+
+impl JobList {
+    /// No jobs.
+    pub(crate) fn new(alloc: Global) -> JobList
+        ensures { result ≡ [] }
+    {
+        JobList {
+            jobs: Vec::new(alloc),
+            dues: Dues::new(alloc),
+        }
+    }
+
+    /// The jobs.
+    pub(crate) fn items(&self) -> &[Job]
+        ensures { result.now ≡ self.now }
+    {
+        &self.jobs
+    }
+
+    /// Puts a job behind the others.
+    pub(crate) fn push(&mut self, job: Job) -> Result<(), Memory>
+        requires small { sum_by (λ (j : Job). j.left) self.old ≤ 2 ^ 40 }
+        ensures pushed { OnOk result (self.new ≡ self.old ++ job ∷ []) }
+        ensures stays { OnErr result (self.new ≡ self.old) }
+    {
+        let end = self.jobs.len();
+        insert_at(&mut self.jobs, &mut self.dues, end, job)?;
+        Ok(())
+    }
+
+    /// Puts a job at its place among jobs in deadline order.
+    pub(crate) fn insert(&mut self, job: Job) -> Result<(), Memory>
+        requires small { sum_by (λ (j : Job). j.left) self.old ≤ 2 ^ 40 }
+        ensures inserted { OnOk result (self.new ≡ with_job job self.old) }
+        ensures stays { OnErr result (self.new ≡ self.old) }
+    {
+        let place = place_for(&self.jobs, &job);
+        insert_at(&mut self.jobs, &mut self.dues, place, job)?;
+        Ok(())
+    }
+
+    /// One slot of the job of this key has run: it goes where that was its last one.
+    pub(crate) fn run(&mut self, key: Key)
+        requires apart { AreApart self.old }
+        requires some { All (λ (j : Job). 1 ≤ j.left) self.old }
+        ensures { self.new ≡ after_run key self.old }
+    {
+        run_due(&mut self.dues, &self.jobs, key);
+        run_job(&mut self.jobs, key);
+    }
+
+    /// The job of this key goes.
+    pub(crate) fn remove(&mut self, key: Key)
+        ensures { self.new ≡ filter (λ (j : Job). not (same_key j.key key)) self.old }
+    {
+        remove_all(&mut self.jobs, &mut self.dues, key);
+    }
+
+    /// What the jobs that are due after a time lack from it on. Each block of times is looked at
+    /// once.
+    pub(crate) fn lack_after(&self, from: u64) -> u64
+        requires ordered { AreInDeadlineOrder self.now }
+        requires near { from ≤ 2 ^ 41 }
+        ensures lack { result ≡ lack from (filter (λ (j : Job). nat_lt from j.dl) self.now) }
+        ensures few { result ≤ sum_by (λ (j : Job). j.left) self.now }
+    {
+        self.dues.lack_after(from)
+    }
+
+    /// A time from `from` on before which the jobs that are due fit the slots from `now`, with so
+    /// many slots more. Each block of times is looked at once.
+    pub(crate) fn fits_until(&self, now: u64, slots: u32, from: u64) -> u64
+        requires later { now ≤ from }
+        requires near { from ≤ 2 ^ 41 }
+        ensures later { from ≤ result }
+        ensures fits { (x : ℕ) → from ≤ x → x < result → slots + work_by self.now x ≤ x - now }
+    {
+        self.dues.fits_until(now, slots, from)
+    }
+}
+
+/// Puts a job at a place.
+fn insert_at(jobs: &mut Vec<Job>, dues: &mut Dues, place: usize, job: Job) -> Result<(), Memory>
+    requires dues { AreDues dues.old jobs.old.items }
+    requires within { place ≤ length jobs.old.items }
+    requires small { sum_by (λ (j : Job). j.left) jobs.old.items ≤ 2 ^ 40 }
+    ensures dues { AreDues dues.new jobs.new.items }
+    ensures inserted { OnOk result (jobs.new.items ≡ insert jobs.old.items place job) }
+    ensures stays { OnErr result (jobs.new.items ≡ jobs.old.items) }
+{
+    dues.add(job.dl, job.left)?;
+    match put_job(jobs, place, job) {
+        Ok(()) => Ok(()),
+        Err(memory) => {
+            dues.take(job.dl, job.left);
+            Err(memory)
+        }
+    }
+}
+
+/// Puts a job at a place of the list.
+fn put_job(jobs: &mut Vec<Job>, place: usize, job: Job) -> Result<(), Memory>
+    requires { place ≤ length jobs.old.items }
+    ensures inserted { OnOk result (jobs.new.items ≡ insert jobs.old.items place job) }
+    ensures stays { OnErr result (jobs.new.items ≡ jobs.old.items) }
+{
+    jobs.insert(place, job)?;
+    Ok(())
+}
+
+/// One slot less is due of the job of this key.
+fn run_due(dues: &mut Dues, jobs: &[Job], key: Key)
+    requires dues { AreDues dues.old jobs.now }
+    requires apart { AreApart jobs.now }
+    requires some { All (λ (j : Job). 1 ≤ j.left) jobs.now }
+    ensures { AreDues dues.new (after_run key jobs.now) }
+{
+    if let Some(place) = place_of(jobs, key) {
+        dues.take(jobs[place].dl, 1);
+    }
+}
+
+/// The jobs of this key go.
+fn remove_all(jobs: &mut Vec<Job>, dues: &mut Dues, key: Key)
+    requires { AreDues dues.old jobs.old.items }
+    ensures dues { AreDues dues.new jobs.new.items }
+    ensures jobs { jobs.new.items ≡ filter (λ (j : Job). not (same_key j.key key)) jobs.old.items }
+{
+    while let Some(place) = place_of(jobs, key) {
+        let job = jobs.remove(place);
+        dues.take(job.dl, job.left);
+    }
+}
 
 /// Whether the two keys are one.
 pub(crate) fn is_same_key(a: Key, b: Key) -> bool
@@ -32,16 +190,6 @@ fn is_earlier(a: &Job, b: &Job) -> bool
     } else {
         a.dl < b.dl
     }
-}
-
-/// Puts the job at its place among jobs in deadline order.
-pub(crate) fn insert_job(jobs: &mut Vec<Job>, job: Job) -> Result<(), Memory>
-    ensures inserted { OnOk result (jobs.new.items ≡ with_job job jobs.old.items) }
-    ensures stays { OnErr result (jobs.new.items ≡ jobs.old.items) }
-{
-    let place = place_for(jobs, &job);
-    jobs.insert(place, job)?;
-    Ok(())
 }
 
 /// How many jobs at the front go before the job.
@@ -153,7 +301,7 @@ fn afters(tasks: &[Task], task: u16) -> &[u16]
 }
 
 /// One slot of the job of this key has run: it goes where that was its last one.
-pub(crate) fn run_job(jobs: &mut Vec<Job>, key: Key)
+fn run_job(jobs: &mut Vec<Job>, key: Key)
     requires apart { AreApart jobs.old.items }
     requires some { All (λ (j : Job). 1 ≤ j.left) jobs.old.items }
     ensures { jobs.new.items ≡ after_run key jobs.old.items }
@@ -172,13 +320,6 @@ fn place_of(jobs: &[Job], key: Key) -> Option<usize>
     ensures { result ≡ position (λ (j : Job). same_key j.key key) jobs.now }
 {
     jobs.iter().position(|job| is_same_key(job.key, key))
-}
-
-/// The job of this key goes.
-pub(crate) fn remove_job(jobs: &mut Vec<Job>, key: Key)
-    ensures { jobs.new.items ≡ filter (λ (j : Job). not (same_key j.key key)) jobs.old.items }
-{
-    jobs.retain(|job| !is_same_key(job.key, key));
 }
 
 /// The slots left of the job of this key, where it has started.

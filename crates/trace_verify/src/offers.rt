@@ -1,6 +1,6 @@
 //! Answers to firm offers, from the remaining jobs and what sporadic tasks may still ask for.
 
-ghost use Rattle.std.specs.Prelude.{◌≡◌, ◌+◌, ◌-◌, ◌*◌, ◌/◌, ◌≤◌, ◌<◌, ◌^◌, ℕ, find, sum_by, take, drop, filter, nat_le, nat_lt, slice_get, Some, All, length};
+ghost use Rattle.std.specs.Prelude.{◌≡◌, ◌+◌, ◌-◌, ◌*◌, ◌/◌, ◌≤◌, ◌<◌, ◌^◌, ℕ, false, find, sum_by, take, drop, filter, nat_le, nat_lt, slice_get, Some, All, length};
 ghost use Rattle.std.specs.List.{prefix_len, range_with_len};
 ghost use Rattle.std.specs.Option.{option_map};
 ghost use Rattle.slot_core.specs.declared.TheConstants.{OFFER_LIMIT};
@@ -12,13 +12,14 @@ ghost use Rattle.slot_core.specs.Runs.Demand.{is_overloaded, work_by};
 ghost use Rattle.sporadic_reserve.specs.Reserves.{demand_limit};
 ghost use Rattle.trace_verify.specs.Offers.{offer_scene};
 
+use crate::jobs::JobList;
 use interval_build::due_after;
 use slot_core::{Evidence, Firm, Job};
 use sporadic_reserve::Reserve;
 
 /// The answer to an offer of so many slots within so many from now, in a plan of this cycle.
 pub(crate) fn offer_answer(
-    jobs: &[Job],
+    jobs: &JobList,
     reserve: &Reserve,
     now: u64,
     cycle: u32,
@@ -51,9 +52,61 @@ pub(crate) fn offer_answer(
 }
 
 /// The first time from `from` to the end by which an offer of so many slots, the jobs and the
+/// densest sporadic arrivals need more than there are slots.
+fn first_short(
+    jobs: &JobList,
+    reserve: &Reserve,
+    now: u64,
+    end: u64,
+    slots: u32,
+    from: u64,
+) -> Option<Evidence>
+    requires near { end < 2 ^ 40 }
+    requires early { from ≤ 2 ^ 40 }
+    requires later { now ≤ from }
+    requires ordered { AreInDeadlineOrder jobs.now }
+    requires small { sum_by (λ (j : Job). j.left) jobs.now ≤ 2 ^ 40 }
+    ensures { result
+        ≡ option_map
+        (evidence_at reserve.now.sporadics (offer_scene now jobs.now reserve.now.nexts) slots)
+        (find
+        (is_overloaded
+        reserve.now.sporadics
+        (offer_scene now jobs.now reserve.now.nexts)
+        slots
+        now)
+        (range_with_len from (end + 1 - from))) }
+{
+    let start = first_look(jobs, reserve, now, slots, from);
+    short_from(jobs.items(), reserve, now, end, slots, start)
+}
+
+/// A time from `from` on before which nothing is short. It is `from` where sporadic tasks may ask
+/// for slots.
+fn first_look(jobs: &JobList, reserve: &Reserve, now: u64, slots: u32, from: u64) -> u64
+    requires early { from ≤ 2 ^ 40 }
+    requires later { now ≤ from }
+    ensures later { from ≤ result }
+    ensures fits { (y : ℕ) → from ≤ y → y < result
+        → is_overloaded
+        reserve.now.sporadics
+        (offer_scene now jobs.now reserve.now.nexts)
+        slots
+        now
+        y
+        ≡ false }
+{
+    if reserve.is_empty() {
+        jobs.fits_until(now, slots, from)
+    } else {
+        from
+    }
+}
+
+/// The first time from `from` to the end by which an offer of so many slots, the jobs and the
 /// densest sporadic arrivals need more than there are slots. It looks at `from` and the times at
 /// which the need grows alone.
-fn first_short(
+fn short_from(
     jobs: &[Job],
     reserve: &Reserve,
     now: u64,

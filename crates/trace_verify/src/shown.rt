@@ -6,18 +6,23 @@ ghost use Rattle.slot_core.specs.declared.jobs.Job.{Job};
 ghost use Rattle.slot_core.specs.Keeping.Plans.{AreInDeadlineOrder};
 ghost use Rattle.slot_core.specs.Runs.Rising.{AreRising, last_point};
 ghost use Rattle.slot_core.specs.Runs.Spans.{spans_between};
-ghost use Rattle.trace_verify.specs.Lacks.{lack};
 
-use interval_build::{due_after, rows_until};
-use slot_core::{Job, Memory, SHOWN_LIMIT, Shown, Span};
+use crate::jobs::JobList;
+use interval_build::rows_until;
+use slot_core::{Memory, SHOWN_LIMIT, Shown, Span};
 use spare_capacity::fill;
 use std::alloc::Global;
 
 /// The first spans from a time on between rising points, as many as an entry shows or all, each
 /// with the slots that are left of the jobs due in it and its capacity up to the last point, and
 /// the number of the others. The jobs stand in deadline order; one that is past its deadline lies
-/// in no span. Each job is looked at once.
-pub(crate) fn shown(alloc: Global, time: u64, points: &[u64], jobs: &[Job]) -> Result<Shown, Memory>
+/// in no span. The jobs that are due by the last of these spans are looked at once.
+pub(crate) fn shown(
+    alloc: Global,
+    time: u64,
+    points: &[u64],
+    jobs: &JobList,
+) -> Result<Shown, Memory>
     requires rising { AreRising time points.now }
     requires near { last_point time points.now ≤ 2 ^ 40 }
     requires ordered { AreInDeadlineOrder jobs.now }
@@ -57,7 +62,7 @@ fn first_spans(
     time: u64,
     points: &[u64],
     count: usize,
-    jobs: &[Job],
+    jobs: &JobList,
 ) -> Result<Vec<Span>, Memory>
     requires rising { AreRising time points.now }
     requires near { last_point time points.now ≤ 2 ^ 40 }
@@ -74,9 +79,9 @@ fn first_spans(
         (take count points.now)) }
 {
     let front = &points[..count];
-    let mut spans = rows_until(alloc, time, front, jobs)?;
+    let mut spans = rows_until(alloc, time, front, jobs.items())?;
     let end = last_end(time, front);
-    spans.push(lacking(end, lack_from(end, due_after(jobs, end))))?;
+    spans.push(lacking(end, jobs.lack_after(end)))?;
     fill(&mut spans);
     spans.truncate(count);
     Ok(spans)
@@ -102,19 +107,4 @@ fn lacking(start: u64, slots: u64) -> Span
         work: slots + 1,
         spare: 0,
     }
-}
-
-/// What the jobs, which stand in deadline order, lack from a time on.
-fn lack_from(from: u64, jobs: &[Job]) -> u64
-    requires { sum_by (λ (j : Job). j.left) jobs.now ≤ 2 ^ 36 }
-    ensures lack { result ≡ lack from jobs.now }
-    ensures few { result ≤ sum_by (λ (j : Job). j.left) jobs.now }
-{
-    let mut due = 0;
-    let mut most = 0;
-    for job in jobs {
-        due += u64::from(job.left);
-        most = most.max(due.saturating_sub(job.dl.saturating_sub(from)));
-    }
-    most
 }

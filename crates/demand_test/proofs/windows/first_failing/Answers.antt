@@ -1,4 +1,4 @@
-use Rattle.std.proofs.Common.{◌≡◌, ℕ, ◌+◌, ◌-◌, ◌*◌, ◌<◌, ◌≤◌, true, false, List, [], length, take, drop, get_or, Option, Some, None, is_some, sym, ap, ◌∙◌, arith}
+use Rattle.std.proofs.Common.{◌≡◌, ℕ, ◌+◌, ◌-◌, ◌*◌, ◌<◌, ◌≤◌, true, false, List, length, take, drop, Option, Some, None, is_some, sym, ap, ◌∙◌, arith}
 use Rattle.std.specs.Prelude.{All, sum_by}
 use Rattle.std.specs.List.{range_with_len}
 use Rattle.std.proofs.lemmas.Bool.{false≢true}
@@ -7,7 +7,6 @@ use Rattle.std.proofs.lemmas.List.Sums.{sum_by-take-le}
 use Rattle.slot_core.specs.declared.jobs.Job.{Job}
 use Rattle.slot_core.specs.declared.jobs.Window.{Window}
 use Rattle.slot_core.specs.declared.tasks.Sporadic.{Sporadic}
-use Rattle.slot_core.specs.Feasibility.Sporadics.{sporadic_demand}
 use Rattle.slot_core.specs.Feasibility.Feasible.{window_demand, first_some, first_failing_from}
 use Rattle.demand_test.specs.declared.ends.Ends.{Ends}
 use Rattle.demand_test.specs.EndTables.{ending_by, first_end, needed_in, failing_in}
@@ -39,20 +38,16 @@ within_front jobs rest front p n m is at_front all = λ k d low.
     let due = All-same (λ (j : Job). j.dl ≤ m) front (take n rest) at_front (All-take (λ (j : Job). j.dl ≤ m) n rest (All-same (λ (j : Job). j.dl ≤ m) rest (drop p jobs) is (All-drop (λ (j : Job). j.dl ≤ m) p jobs all))) k d low in
     omega arith
 
--- the table is read as a list
-needs_in : (f : ℕ → ℕ) (table items : List ℕ) (last : ℕ) → items ≡ table → ((x : ℕ) → x ≤ last → get_or table x 0 ≡ f x) → (x : ℕ) → x ≤ last → get_or items x 0 ≡ f x
-needs_in f table items last same values x low = ap (λ xs. get_or xs x 0) same ∙ values x low
-
 pub loop-from-init : goal.loop-from-init
 loop-from-init c =
     record {
-      tables = AreTables-first c.args.jobs.now c.args.sporadics.now c.args.cycle c.in_ok-ends.ends c.items-arrivals.result.now c.in_ok-ends.ensures (needs_in (sporadic_demand c.args.sporadics.now [] 0) c.in_ok-needed.needed c.items-arrivals.result.now (2 * c.args.cycle) c.items-arrivals.ensures c.in_ok-needed.ensures.values);
+      tables = AreTables-first c.args.jobs.now c.args.sporadics.now c.args.cycle c.in_ok-ends.ends c.args.arrivals.now c.in_ok-ends.ensures c.requires.needed;
       known = c.nothing_known-bounds.ensures (window_demand c.args.jobs.now c.args.sporadics.now c.args.cycle 0) 0;
     }
 
 pub renewed-bounds-requires-clause-readable : goal.renewed-bounds-requires-clause-readable
 renewed-bounds-requires-clause-readable c =
-    AreReadable-from_AreTables c.args.jobs.now c.loop-from.rest.now c.args.sporadics.now c.args.cycle c.loop-from.from c.loop-from.ends c.items-arrivals.result.now c.loop-from.invariant.tables c.requires.cycle c.requires.few
+    AreReadable-from_AreTables c.args.jobs.now c.loop-from.rest.now c.args.sporadics.now c.args.cycle c.loop-from.from c.loop-from.ends c.args.arrivals.now c.loop-from.invariant.tables c.requires.cycle c.requires.few
 
 pub renewed-bounds-requires-clause-rising : goal.renewed-bounds-requires-clause-rising
 renewed-bounds-requires-clause-rising c =
@@ -62,7 +57,7 @@ renewed-bounds-requires-clause-rising c =
     let cycle = c.args.cycle in
     let a = c.loop-from.from in
     let tables = c.loop-from.invariant.tables in
-    let needs = needed_in-AreTables jobs rest ss cycle a c.loop-from.ends c.items-arrivals.result.now tables c.loop-from-test.true in
+    let needs = needed_in-AreTables jobs rest ss cycle a c.loop-from.ends c.args.arrivals.now tables c.loop-from-test.true in
     λ b d low later high.
     omega (
       arith,
@@ -77,8 +72,8 @@ renewed-bounds-requires-clause-known c =
     let ss = c.args.sporadics.now in
     let cycle = c.args.cycle in
     let a = c.loop-from.from in
-    let needs = needed_in-AreTables jobs c.loop-from.rest.now ss cycle a c.loop-from.ends c.items-arrivals.result.now c.loop-from.invariant.tables c.loop-from-test.true in
-    AreKnown-same (window_demand jobs ss cycle a) (needed_in c.loop-from.ends c.items-arrivals.result.now a) a (2 * cycle) c.loop-from.bounds needs c.loop-from.invariant.known
+    let needs = needed_in-AreTables jobs c.loop-from.rest.now ss cycle a c.loop-from.ends c.args.arrivals.now c.loop-from.invariant.tables c.loop-from-test.true in
+    AreKnown-same (window_demand jobs ss cycle a) (needed_in c.loop-from.ends c.args.arrivals.now a) a (2 * cycle) c.loop-from.bounds needs c.loop-from.invariant.known
 
 pub failing_from-failing-requires-clause-last : goal.failing_from-failing-requires-clause-last
 failing_from-failing-requires-clause-last c =
@@ -88,7 +83,7 @@ failing_from-failing-requires-clause-last c =
 
 pub failing_from-failing-requires-clause-readable : goal.failing_from-failing-requires-clause-readable
 failing_from-failing-requires-clause-readable c =
-    AreReadable-from_AreTables c.args.jobs.now c.loop-from.rest.now c.args.sporadics.now c.args.cycle c.loop-from.from c.loop-from.ends c.items-arrivals.result.now c.loop-from.invariant.tables c.requires.cycle c.requires.few
+    AreReadable-from_AreTables c.args.jobs.now c.loop-from.rest.now c.args.sporadics.now c.args.cycle c.loop-from.from c.loop-from.ends c.args.arrivals.now c.loop-from.invariant.tables c.requires.cycle c.requires.few
 
 pub failing_from-failing-requires-clause-rising : goal.failing_from-failing-requires-clause-rising
 failing_from-failing-requires-clause-rising c =
@@ -98,7 +93,7 @@ failing_from-failing-requires-clause-rising c =
     let cycle = c.args.cycle in
     let a = c.loop-from.from in
     let tables = c.loop-from.invariant.tables in
-    let needs = needed_in-AreTables jobs rest ss cycle a c.loop-from.ends c.items-arrivals.result.now tables c.loop-from-test.true in
+    let needs = needed_in-AreTables jobs rest ss cycle a c.loop-from.ends c.args.arrivals.now tables c.loop-from-test.true in
     let within = failing_from-failing-requires-clause-last c in
     λ b d low later high.
     omega (
@@ -122,7 +117,7 @@ returns-then-is_some c =
     let a = c.loop-from.from in
     let o = c.failing_from-failing.result in
     let tables = c.loop-from.invariant.tables in
-    let is = found-is jobs c.loop-from.rest.now ss cycle a c.loop-from.ends c.items-arrivals.result.now o tables c.loop-from-test.true c.failing_from-failing.ensures in
+    let is = found-is jobs c.loop-from.rest.now ss cycle a c.loop-from.ends c.args.arrivals.now o tables c.loop-from-test.true c.failing_from-failing.ensures in
     first_found (first_failing_from jobs ss cycle) cycle a o c.loop-from-test.true tables.none is (sym c.is_some.ensures ∙ c.if-is_some.true)
 
 pub pass_all-requires-clause-within : goal.pass_all-requires-clause-within
@@ -180,14 +175,14 @@ loop-from-preserved c =
     let tables = c.loop-from.invariant.tables in
     let start = tables.start in
     let o = c.failing_from-failing.result in
-    let is = found-is jobs rest ss cycle a c.loop-from.ends c.items-arrivals.result.now o tables c.loop-from-test.true c.failing_from-failing.ensures in
-    let needs = needed_in-AreTables jobs rest ss cycle a c.loop-from.ends c.items-arrivals.result.now tables c.loop-from-test.true in
+    let is = found-is jobs rest ss cycle a c.loop-from.ends c.args.arrivals.now o tables c.loop-from-test.true c.failing_from-failing.ensures in
+    let needs = needed_in-AreTables jobs rest ss cycle a c.loop-from.ends c.args.arrivals.now tables c.loop-from-test.true in
     let none : first_failing_from jobs ss cycle a ≡ None = sym is ∙ none_there o (sym c.is_some.ensures ∙ c.if-is_some.false) in
     let next_start = IsStart-next jobs rest others a tables.started n c.requires.ordered start c.count_started.ensures.count c.split_at.ensures.back in
-    let next : AreTables jobs others ss cycle (a + 1) c.pass_all.new.self c.items-arrivals.result.now = AreTables-next jobs rest front others ss cycle a n c.loop-from.ends c.pass_all.new.self c.items-arrivals.result.now c.requires.ordered tables c.count_started.ensures.count c.split_at.ensures.front c.split_at.ensures.back c.pass_all.ensures none in
+    let next : AreTables jobs others ss cycle (a + 1) c.pass_all.new.self c.args.arrivals.now = AreTables-next jobs rest front others ss cycle a n c.loop-from.ends c.pass_all.new.self c.args.arrivals.now c.requires.ordered tables c.count_started.ensures.count c.split_at.ensures.front c.split_at.ensures.back c.pass_all.ensures none in
     record {
       tables = next;
-      known = c.next_bounds-bounds.ensures (window_demand jobs ss cycle a) (window_demand jobs ss cycle (a + 1)) (AreKnown-same (needed_in c.loop-from.ends c.items-arrivals.result.now a) (window_demand jobs ss cycle a) a (2 * cycle) c.renewed-bounds.result (λ b low high. sym (needs b low high)) c.renewed-bounds.ensures) (λ b low high. fits-from_first_failing jobs ss cycle a none b low high) (λ b low high. omega (
+      known = c.next_bounds-bounds.ensures (window_demand jobs ss cycle a) (window_demand jobs ss cycle (a + 1)) (AreKnown-same (needed_in c.loop-from.ends c.args.arrivals.now a) (window_demand jobs ss cycle a) a (2 * cycle) c.renewed-bounds.result (λ b low high. sym (needs b low high)) c.renewed-bounds.ensures) (λ b low high. fits-from_first_failing jobs ss cycle a none b low high) (λ b low high. omega (
         arith,
         window_demand-next jobs rest others ss cycle a tables.started n b start next_start c.split_at.ensures.back c.loop-from-test.true,
         ap (λ xs. ending_by first_end xs b) c.split_at.ensures.front,

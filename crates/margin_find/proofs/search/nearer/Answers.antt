@@ -6,7 +6,7 @@ use Rattle.margin_find.proofs.search.nearer.Goals as goal
 
 pub returns-in-None-clause-bounds : goal.returns-in-None-clause-bounds
 returns-in-None-clause-bounds c =
-    let longer = grown c.args.tasks.now c.args.at c.args.growth in
+    let longer = grown c.args.plan.now.tasks c.args.at c.args.growth in
     record {
       above = omega arith;
       holds = IsFeasible-from_none longer (cycle_of longer) (sym c.in_ok-refusal.ensures ∙ c.in-None.is);

@@ -1,49 +1,76 @@
 -- The offers of the carried jobs may be made, and what is told of them is told of what the executive carries over.
-use Rattle.std.proofs.Common.{◌≡◌, ℕ, List, ap, length, subst, sym, ◌∙◌, arith}
-use Rattle.std.specs.Prelude.{IfErr, IfOk, OnErr, OnOk}
+use Rattle.std.proofs.Common.{◌≡◌, ℕ, ◌≤◌, List, ap, filter, length, refl, subst, sym, ◌∙◌, arith}
+use Rattle.std.specs.Prelude.{Contains, IfErr, IfOk, OnErr, OnOk}
 use Rattle.slot_core.specs.declared.jobs.Job.{Job}
+use Rattle.slot_facts.proofs.Lists.Members.{Has, Has-from_Contains}
 use Rattle.slot_facts.proofs.Plans.Items.{plan_cycle-bounds}
 use Rattle.plan_change.specs.declared.moves.Moved.{Moved}
+use Rattle.plan_change.specs.declared.moves.Refusal.{Refusal}
 use Rattle.plan_change.specs.declared.offers.Offer.{Offer}
-use Rattle.plan_change.specs.Carrying.{carried_from, cut_count}
-use Rattle.plan_change.specs.Changed.{CanStartWith, HasNoRoom, IsChanged}
+use Rattle.plan_change.specs.Carrying.{carried_from, cut_count, goes_on}
+use Rattle.plan_change.specs.Changed.{CanStartWith, HasNoRoom, IsChanged, IsCutOff}
 use Rattle.plan_change.specs.Offers.{MayBeOffered}
-use Rattle.plan_change.proofs.CarriedRows.{carried-few, carried-may, offers-same}
+use Rattle.plan_change.proofs.CarriedRows.{carried-may, offers-same}
+use Rattle.plan_change.proofs.Released.{carried-few, going-few, rows-fit}
 use Rattle.plan_change.proofs.moves.carry_counted.Goals as goal
 
-pub offer_all-requires-clause-rows : goal.offer_all-requires-clause-rows
-offer_all-requires-clause-rows g c =
+pub list_carried-requires-clause-places : goal.list_carried-requires-clause-places
+list_carried-requires-clause-places g c =
+    let from = c.args.from.now in
+    let (h, stands) = c.now-at.ensures.stands in
+    let same = ap (λ (t : ℕ). length (filter (goes_on c.args.keep from.plan.tasks t) from.scene.jobs)) c.now-at.ensures.time in
+    omega (arith, same, going-few from c.now-at.ensures.kept h stands c.args.keep, c.requires.places)
+
+pub offer_all-requires-clause-few : goal.offer_all-requires-clause-few
+offer_all-requires-clause-few g c =
+    let from = c.args.from.now in
+    let (h, stands) = c.now-at.ensures.stands in
     omega (
       arith,
       ap (λ (js : List Job). length js) (c.jobs.ensures ∙ c.list_carried.ensures.listed),
-      carried-few c.args.keep c.args.from.now,
-      c.requires.rows,
+      carried-few from c.now-at.ensures.kept h stands c.args.keep,
+      plan_cycle-bounds from.plan c.now-at.ensures.kept.plan,
     )
+
+pub offer_all-requires-clause-rows : goal.offer_all-requires-clause-rows
+offer_all-requires-clause-rows g c = λ job at offline.
+    let from = c.args.from.now in
+    let (h, stands) = c.now-at.ensures.stands in
+    let listed = c.jobs.ensures ∙ c.list_carried.ensures.listed in
+    let here = subst (λ (js : List Job). Has js job) listed (Has-from_Contains c.jobs.result.now job at) in
+    let few : length c.jobs.result.now ≤ from.plan.cycle = omega (arith, ap (λ (js : List Job). length js) listed, carried-few from c.now-at.ensures.kept h stands c.args.keep) in
+    rows-fit c.args.keep from c.args.first (length c.jobs.result.now) job c.now-at.ensures.kept c.requires.rows few here offline
 
 pub offer_all-requires-clause-offers : goal.offer_all-requires-clause-offers
 offer_all-requires-clause-offers g c =
     let (h, stands) = c.now-at.ensures.stands in
     let some = (plan_cycle-bounds c.args.into.now.plan c.now.ensures.kept.plan).0 in
-    let same = offers-same c.args.keep c.args.from.now c.args.cycle c.args.first c.now-at.result c.jobs.result.now c.now-at.ensures.time (c.jobs.ensures ∙ c.list_carried.ensures.listed) in
-    subst (MayBeOffered c.args.cycle 0) (sym same) (carried-may c.args.from.now c.now-at.ensures.kept h stands c.args.keep c.args.cycle c.args.first c.requires.above (omega (arith, some, c.requires.cycle)))
+    let same = offers-same c.args.keep c.args.from.now c.cycle-cycle.result c.args.first c.now-at.result c.cycle-cycle.result c.jobs.result.now c.now-at.ensures.time refl (c.jobs.ensures ∙ c.list_carried.ensures.listed) in
+    subst (MayBeOffered c.cycle-cycle.result 0) (sym same) (carried-may c.args.from.now c.now-at.ensures.kept h stands c.args.keep c.cycle-cycle.result c.args.first c.requires.above (omega (arith, some, c.cycle-cycle.ensures)))
 
 pub returns-clause-granted : goal.returns-clause-granted
 returns-clause-granted g c =
-    let same = offers-same c.args.keep c.args.from.now c.args.cycle c.args.first c.now-at.result c.jobs.result.now c.now-at.ensures.time (c.jobs.ensures ∙ c.list_carried.ensures.listed) in
+    let same = offers-same c.args.keep c.args.from.now c.args.into.now.plan.cycle c.args.first c.now-at.result c.cycle-cycle.result c.jobs.result.now c.now-at.ensures.time c.cycle-cycle.ensures (c.jobs.ensures ∙ c.list_carried.ensures.listed) in
     subst (λ (offers : List Offer). OnOk c.offer_all.result (IsChanged c.args.into.now.plan offers c.offer_all.new.into)) same c.offer_all.ensures.granted
 
 pub returns-clause-moved : goal.returns-clause-moved
 returns-clause-moved g c =
-    let Told : ℕ → List Job → Type 0 = λ t js. IfOk c.offer_all.result (λ (m : Moved). (m.carried ≡ length js) × (m.cut ≡ cut_count t c.args.cycle js)) in
-    subst (λ (t : ℕ). Told t (carried_from c.args.keep c.args.from.now)) c.now-at.ensures.time
-    (subst (λ (js : List Job). Told c.now-at.result js) (c.jobs.ensures ∙ c.list_carried.ensures.listed) c.offer_all.ensures.moved)
+    let Told : ℕ → ℕ → List Job → Type 0 = λ t n js. IfOk c.offer_all.result (λ (m : Moved). (m.carried ≡ length js) × (m.cut ≡ cut_count t n js)) in
+    subst (λ (n : ℕ). Told c.args.from.now.scene.time n (carried_from c.args.keep c.args.from.now)) c.cycle-cycle.ensures
+    (subst (λ (t : ℕ). Told t c.cycle-cycle.result (carried_from c.args.keep c.args.from.now)) c.now-at.ensures.time
+    (subst (λ (js : List Job). Told c.now-at.result c.cycle-cycle.result js) (c.jobs.ensures ∙ c.list_carried.ensures.listed) c.offer_all.ensures.moved))
 
 pub returns-clause-refused : goal.returns-clause-refused
 returns-clause-refused g c =
-    let same = offers-same c.args.keep c.args.from.now c.args.cycle c.args.first c.now-at.result c.jobs.result.now c.now-at.ensures.time (c.jobs.ensures ∙ c.list_carried.ensures.listed) in
+    let same = offers-same c.args.keep c.args.from.now c.args.into.now.plan.cycle c.args.first c.now-at.result c.cycle-cycle.result c.jobs.result.now c.now-at.ensures.time c.cycle-cycle.ensures (c.jobs.ensures ∙ c.list_carried.ensures.listed) in
     subst (λ (offers : List Offer). OnErr c.offer_all.result (¬ (CanStartWith c.args.into.now.plan.tasks offers))) same c.offer_all.ensures.refused
 
 pub returns-clause-no_room : goal.returns-clause-no_room
 returns-clause-no_room g c =
-    let same = offers-same c.args.keep c.args.from.now c.args.cycle c.args.first c.now-at.result c.jobs.result.now c.now-at.ensures.time (c.jobs.ensures ∙ c.list_carried.ensures.listed) in
+    let same = offers-same c.args.keep c.args.from.now c.args.into.now.plan.cycle c.args.first c.now-at.result c.cycle-cycle.result c.jobs.result.now c.now-at.ensures.time c.cycle-cycle.ensures (c.jobs.ensures ∙ c.list_carried.ensures.listed) in
     subst (λ (offers : List Offer). IfErr c.offer_all.result (HasNoRoom c.args.into.now.plan.tasks offers)) same c.offer_all.ensures.no_room
+
+pub returns-clause-cut_off : goal.returns-clause-cut_off
+returns-clause-cut_off g c =
+    let same = offers-same c.args.keep c.args.from.now c.args.into.now.plan.cycle c.args.first c.now-at.result c.cycle-cycle.result c.jobs.result.now c.now-at.ensures.time c.cycle-cycle.ensures (c.jobs.ensures ∙ c.list_carried.ensures.listed) in
+    subst (λ (offers : List Offer). IfErr c.offer_all.result (λ (r : Refusal). IsCutOff c.args.into.now.plan offers r c.offer_all.new.into)) same c.offer_all.ensures.cut_off

@@ -1,22 +1,22 @@
 -- One more job is listed or not.
 use Rattle.std.proofs.Common.{◌++◌, ◌∷◌, [], filter, length, List, sym, take, ap, ◌∙◌, arith}
-use Rattle.std.proofs.lemmas.Option.{slice_get_within}
 use Rattle.slot_core.specs.declared.jobs.Job.{Job}
 use Rattle.slot_core.specs.declared.tasks.TaskSet.{TaskSet}
 use Rattle.plan_change.specs.Carrying.{goes_on}
-use Rattle.plan_change.proofs.OneMore.{filter-all, filter-few, filter-more}
+use Rattle.plan_change.proofs.OneMore.{filter-all, filter-more, filter-room}
 use Rattle.plan_change.proofs.moves.gather.Goals as goal
 
 pub list_one-requires : goal.list_one-requires
-list_one-requires g c =
+list_one-requires g c = λ goes.
     let jobs = c.args.from.now.scene.jobs in
+    let test = goes_on c.args.keep c.args.from.now.plan.tasks c.args.at in
+    let passes = ap (λ (s : TaskSet). goes_on c.args.keep s c.args.at c.job-job.result) (sym c.tasks.ensures.tasks) ∙ goes in
     omega (
       arith,
       ap (λ (js : List Job). length js) c.loop-i.invariant.listed,
-      filter-few (goes_on c.args.keep c.args.from.now.plan.tasks c.args.at) jobs c.loop-i.i,
+      filter-room test jobs c.loop-i.i c.job-job.result c.job-job.ensures.job passes,
       c.loop-i.invariant.places,
       c.requires,
-      slice_get_within jobs c.loop-i.i c.job-job.result c.job-job.ensures.job,
     )
 
 pub loop-i-preserved : goal.loop-i-preserved

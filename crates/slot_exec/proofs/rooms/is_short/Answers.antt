@@ -5,8 +5,8 @@ use Rattle.interval_row.specs.Tables.{spans_of_pairs}
 use Rattle.slot_exec.proofs.RememberedRoom.{soft_fits-tight}
 use Rattle.slot_exec.proofs.rooms.is_short.Goals as goal
 
-pub returns : goal.returns
-returns g c short =
+pub returns-clause-short : goal.returns-clause-short
+returns-clause-short g c short =
     let t = g.T.SpareTable.time c.args.table.now in
     let reserve = c.args.reserve.now in
     let tight = c.args.room.tight in
@@ -15,3 +15,19 @@ returns g c short =
     let demand : c.demand.result ≡ sporadic_demand reserve.sporadics reserve.nexts (t + 1) tight = c.demand.ensures.demand ∙ ap (λ n. sporadic_demand reserve.sporadics reserve.nexts (n + 1) tight) c.time-now.ensures in
     let low = leb-true c.saturating_sub.result c.demand.result short in
     soft_fits-tight (spans_of_pairs (g.T.SpareTable.pairs c.args.table.now)) reserve t tight later within (omega (arith, low, due, demand, c.saturating_sub.ensures, c.time-now.ensures))
+
+pub returns-clause-tight : goal.returns-clause-tight
+returns-clause-tight g c short =
+    let t = g.T.SpareTable.time c.args.table.now in
+    let reserve = c.args.reserve.now in
+    let tight = c.args.room.tight in
+    let later : t < tight = omega (arith, c.if-room-now.false, c.time-now.ensures) in
+    let (within, due) = c.requires.room.due later in
+    let demand : c.demand.result ≡ sporadic_demand reserve.sporadics reserve.nexts (t + 1) tight = c.demand.ensures.demand ∙ ap (λ n. sporadic_demand reserve.sporadics reserve.nexts (n + 1) tight) c.time-now.ensures in
+    let low = leb-true c.saturating_sub.result c.demand.result short in
+    record {
+      after = later;
+      within = within;
+      due = due;
+      short = omega (arith, low, demand, c.saturating_sub.ensures, c.time-now.ensures);
+    }

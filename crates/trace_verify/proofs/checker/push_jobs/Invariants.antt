@@ -5,4 +5,4 @@ use Rattle.trace_verify.proofs.checker.push_jobs.Given as goal
 -- the plan's first jobs stand behind those that were there
 abbrev pub invariant-loop-i : goal.invariant-loop-i
 invariant-loop-i l =
-    l.jobs.items ≡ l.initial.jobs.items ++ map (later_job l.plan.tasks l.plan.cycle l.n) (take l.i l.plan.jobs)
+    l.jobs ≡ l.initial.jobs ++ map (later_job l.plan.tasks l.plan.cycle l.n) (take l.i l.plan.jobs)

@@ -7,4 +7,4 @@ use Rattle.trace_verify.proofs.checker.Checker.remove.Goals as goal
 
 pub invariant_of-self : goal.invariant_of-self
 invariant_of-self c =
-    subst AreInDeadlineOrder (sym c.remove_job.ensures) (AreInDeadlineOrder-filter (λ (j : Job). not (same_key j.key c.args.key)) c.self.inside.jobs.items c.self.invariant)
+    subst AreInDeadlineOrder (sym c.remove.ensures) (AreInDeadlineOrder-filter (λ (j : Job). not (same_key j.key c.args.key)) c.self.inside.jobs c.self.invariant)

@@ -5,10 +5,10 @@ use Rattle.trace_verify.specs.Checked.{Checked}
 use Rattle.trace_verify.proofs.OrderEdits.{AreInDeadlineOrder-after_run}
 use Rattle.trace_verify.proofs.checker.Checker.run.Goals as goal
 
-pub run_job-requires-clause-apart : goal.run_job-requires-clause-apart
-run_job-requires-clause-apart c =
+pub run-requires-clause-apart : goal.run-requires-clause-apart
+run-requires-clause-apart c =
     subst (λ (k : Checked). AreApart k.scene.jobs) (sym c.self.view_is) c.requires.apart
 
 pub invariant_of-self : goal.invariant_of-self
 invariant_of-self c =
-    subst AreInDeadlineOrder (sym c.run_job.ensures) (AreInDeadlineOrder-after_run c.in-Key.key c.self.inside.jobs.items c.self.invariant)
+    subst AreInDeadlineOrder (sym c.run.ensures) (AreInDeadlineOrder-after_run c.in-Key.key c.self.inside.jobs c.self.invariant)

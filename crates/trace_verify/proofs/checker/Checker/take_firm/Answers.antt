@@ -9,13 +9,13 @@ offer_answer-answer-requires-clause-cycle c =
 
 pub returns-in_ok-accept-clause-told : goal.returns-in_ok-accept-clause-told
 returns-in_ok-accept-clause-told c =
-    offer-told c.args.plan.now.tasks.sporadics c.args.self.now _ c.deref.result.now c.cycle.result c.args.plan.now.cycle c.args.slots c.args.within c.offer_answer-answer.result (sym c.self.view_is) c.deref.ensures.value c.cycle.ensures.cycle c.requires.tasks c.offer_answer-answer.ensures
+    offer-told c.args.plan.now.tasks.sporadics c.args.self.now _ c.self.inside.jobs c.cycle.result c.args.plan.now.cycle c.args.slots c.args.within c.offer_answer-answer.result (sym c.self.view_is) refl c.cycle.ensures.cycle c.requires.tasks c.offer_answer-answer.ensures
 
 pub returns-in_default : goal.returns-in_default
 returns-in_default c =
     let plan = c.args.plan.now in
     record {
-      told = offer-told plan.tasks.sporadics c.args.self.now _ c.deref.result.now c.cycle.result plan.cycle c.args.slots c.args.within c.offer_answer-answer.result (sym c.self.view_is) c.deref.ensures.value c.cycle.ensures.cycle c.requires.tasks c.offer_answer-answer.ensures;
+      told = offer-told plan.tasks.sporadics c.args.self.now _ c.self.inside.jobs c.cycle.result plan.cycle c.args.slots c.args.within c.offer_answer-answer.result (sym c.self.view_is) refl c.cycle.ensures.cycle c.requires.tasks c.offer_answer-answer.ensures;
       scene = firm-stays plan.tasks plan.cycle c.args.row c.args.slots c.args.within c.offer_answer-answer.result c.args.self.now.scene c.in_default.not-Accepted;
       tasks = refl;
     }

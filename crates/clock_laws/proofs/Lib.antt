@@ -1,0 +1,9 @@
+pub mod Arrivals
+pub mod Graphs
+pub mod Handed
+pub mod Nanos
+pub mod Order
+pub mod Parts
+pub mod Roundings
+pub mod Sparing
+pub mod Taken

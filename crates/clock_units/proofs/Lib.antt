@@ -1,0 +1,5 @@
+pub mod EachLoop
+pub mod Examples
+pub mod Parts
+pub mod Ranges
+pub mod Roundings

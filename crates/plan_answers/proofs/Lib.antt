@@ -1,0 +1,6 @@
+pub mod Adding
+pub mod Arrays
+pub mod Insides
+pub mod Least
+pub mod Starts
+pub mod Sums

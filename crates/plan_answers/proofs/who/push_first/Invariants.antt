@@ -1,0 +1,8 @@
+-- The lines of the jobs so far are appended.
+use Rattle.std.proofs.Common.{◌≡◌, ◌+◌, ◌*◌, ◌++◌, take}
+use Rattle.std.specs.Prelude.{flat_map}
+use Rattle.plan_answers.specs.Who.{inside_line}
+use Rattle.plan_answers.proofs.who.push_first.Given as goal
+
+abbrev pub invariant-loop-job : goal.invariant-loop-job
+invariant-loop-job l = l.text.items ≡ l.initial.text.items ++ flat_map (inside_line l.tasks l.window) (take l.job-index l.jobs)

@@ -1,0 +1,5 @@
+pub mod Headers
+pub mod Laws
+pub mod Loads
+pub mod Tightest
+pub mod Who

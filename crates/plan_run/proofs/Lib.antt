@@ -1,0 +1,2 @@
+pub mod HelpNumbers
+pub mod Refused

@@ -1,0 +1,16 @@
+use Rattle.std.proofs.Common.{◌-◌, ◌≤◌}
+use Rattle.interval_row.specs.Tables.{spans_of_pairs}
+use Rattle.slot_exec.specs.Ahead.{IsTightFor}
+use Rattle.slot_exec.proofs.ahead.slots_tight.Given as goal
+
+-- for the lower number of slots the time is tight
+abbrev pub invariant-loop-low : goal.invariant-loop-low
+invariant-loop-low g l = record {
+  some : 1 ≤ l.low;
+  between : l.low ≤ l.high;
+  few : l.high ≤ l.most;
+  tight : IsTightFor (spans_of_pairs (g.T.SpareTable.pairs l.table)) l.reserve (g.T.SpareTable.time l.table) l.low l.room;
+}
+
+abbrev pub decreases-loop-low : goal.decreases-loop-low
+decreases-loop-low g l = l.high - l.low

@@ -1,0 +1,6 @@
+mod Examples
+mod Found
+mod Least
+mod OfPlan
+mod ReadBetween
+mod Tables

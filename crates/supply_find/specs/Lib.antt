@@ -1,0 +1,4 @@
+pub mod Due
+pub mod Found
+pub mod Keys
+pub mod Stairs

@@ -1,0 +1,4 @@
+pub mod Windows
+pub mod Requests
+pub mod Spare
+pub mod Laws

@@ -1,0 +1,4 @@
+pub mod Examples
+pub mod Readings
+pub mod Values
+pub mod Writings

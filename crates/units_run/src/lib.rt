@@ -1,0 +1,178 @@
+//! What slotunits does, over any files and sinks: a file of units to a task file in slots.
+#![tactic(auto)]
+
+ghost use Rattle.std.specs.Prelude.{◌≡◌, ◌≢◌, ◌↔◌, ◌⊎◌, ℕ, List, None, Some, codes, option_map};
+ghost use Rattle.command_line.specs.Pages.{IsPageTold, page_of, page_text};
+ghost use Rattle.command_line.specs.Reports.{IsTold};
+ghost use Rattle.command_line.specs.declared.pages.Page.{Page};
+ghost use Rattle.units_run.specs.Lines.{refusal_line, units_help, units_usage};
+ghost use Rattle.units_run.specs.Runs.{IsRefused, IsWritten, file_of, refusal_status};
+ghost use Rattle.units_run.specs.declared.refusal.UnitsRefusal.{UnitsRefusal};
+
+pub mod host;
+mod pages;
+pub mod refusal;
+mod work;
+
+use command_line::{Status, page_of};
+pub use host::run_on_host;
+use pages::tell_units_page;
+pub use refusal::UnitsRefusal;
+use refusal::refusal_line;
+use slot_core::{Memory, Words};
+use slot_io::{Files, Sink};
+use std::alloc::Global;
+use work::work;
+
+/// The usage line.
+const USAGE: &[u8] = b"usage: slotunits tasks U\n";
+
+/// Does what the words ask for: tells the help or the version; or reads the file of units, and
+/// writes the task file of its set in slots in one put. It puts one line on `err` where it ends
+/// otherwise than Done.
+pub fn run<F: Files, K: Sink, E: Sink>(
+    alloc: Global,
+    words: &Words,
+    files: &mut F,
+    out: &mut K,
+    err: &mut E,
+) -> Status
+    ensures usage { (result ≡ Status.Usage)
+        ↔ ((page_of words.now ≡ None) × (file_of words.now ≡ None)) }
+    ensures page { (page : Page) → page_of words.now ≡ Some page
+        → IsPageTold (page_text (codes "slotunits") units_help page)
+        (K.written out.old) (K.written out.new) (K.faults out.old) (K.faults out.new)
+        (E.written err.old) (E.written err.new) (E.faults err.old) (E.faults err.new) result }
+
+    // For other words, where it is done, the file writes a set in physical time, its set in slots
+    // is sound, and what was written is read as that set.
+    ensures done { page_of words.now ≡ None → result ≡ Status.Done
+        → (name : List ℕ) × (file_of words.now ≡ Some name)
+        × IsWritten (F.held files.old) name (K.written out.old) (K.written out.new) }
+    ensures done_says_nothing { result ≡ Status.Done → err.new ≡ err.old }
+
+    // Where they are refused, the refusal has its cause, and its line is told.
+    ensures refused { page_of words.now ≡ None → result ≢ Status.Done → result ≢ Status.Usage
+        → (name : List ℕ) × (file_of words.now ≡ Some name)
+        × ((e : UnitsRefusal) × (result ≡ refusal_status e)
+        × IsRefused (F.held files.old) name (F.blamed files.new)
+        (F.faults files.old, F.faults files.new) (K.faults out.old, K.faults out.new) e
+        × IsTold (refusal_line name e)
+        (E.written err.old) (E.written err.new) (E.faults err.old) (E.faults err.new)) }
+    ensures refusal_writes_nothing { result ≢ Status.Done → result ≢ Status.WriteFault
+        → out.new ≡ out.old }
+{
+    match page_of(words) {
+        Some(page) => tell_units_page(page, out, err),
+        None => run_file_of(alloc, words, files, out, err),
+    }
+}
+
+/// Writes the task file that the words ask for.
+fn run_file_of<F: Files, K: Sink, E: Sink>(
+    alloc: Global,
+    words: &Words,
+    files: &mut F,
+    out: &mut K,
+    err: &mut E,
+) -> Status
+    ensures usage { (result ≡ Status.Usage) ↔ (file_of words.now ≡ None) }
+    ensures done { result ≡ Status.Done → (name : List ℕ) × (file_of words.now ≡ Some name)
+        × IsWritten (F.held files.old) name (K.written out.old) (K.written out.new) }
+    ensures done_says_nothing { result ≡ Status.Done → err.new ≡ err.old }
+    ensures refused { result ≢ Status.Done → result ≢ Status.Usage
+        → (name : List ℕ) × (file_of words.now ≡ Some name)
+        × ((e : UnitsRefusal) × (result ≡ refusal_status e)
+        × IsRefused (F.held files.old) name (F.blamed files.new)
+        (F.faults files.old, F.faults files.new) (K.faults out.old, K.faults out.new) e
+        × IsTold (refusal_line name e)
+        (E.written err.old) (E.written err.new) (E.faults err.old) (E.faults err.new)) }
+    ensures refusal_writes_nothing { result ≢ Status.Done → result ≢ Status.WriteFault
+        → out.new ≡ out.old }
+{
+    match file_of(words) {
+        Some(name) => run_file(alloc, name, files, out, err),
+        None => refuse(err, USAGE, Status::Usage),
+    }
+}
+
+/// The name of the file of units that the words ask for.
+fn file_of(words: &Words) -> Option<&str>
+    ensures { option_map (λ name. name.now) result ≡ file_of words.now }
+{
+    if words.len() == 2 && words.word(0) == "tasks" {
+        Some(words.word(1))
+    } else {
+        None
+    }
+}
+
+/// Writes the task file of the file of units of this name.
+fn run_file<F: Files, K: Sink, E: Sink>(
+    alloc: Global,
+    name: &str,
+    files: &mut F,
+    out: &mut K,
+    err: &mut E,
+) -> Status
+    ensures known { result ≢ Status.Usage }
+    ensures done { result ≡ Status.Done
+        → IsWritten (F.held files.old) name.now (K.written out.old) (K.written out.new) }
+    ensures done_says_nothing { result ≡ Status.Done → err.new ≡ err.old }
+    ensures refused { result ≢ Status.Done → (e : UnitsRefusal) × (result ≡ refusal_status e)
+        × IsRefused (F.held files.old) name.now (F.blamed files.new)
+        (F.faults files.old, F.faults files.new) (K.faults out.old, K.faults out.new) e
+        × IsTold (refusal_line name.now e)
+        (E.written err.old) (E.written err.new) (E.faults err.old) (E.faults err.new) }
+    ensures refusal_writes_nothing { result ≢ Status.Done → result ≢ Status.WriteFault
+        → out.new ≡ out.old }
+{
+    match work(alloc, name, files, out) {
+        Ok(()) => Status::Done,
+        Err(refusal) => report(alloc, name, refusal, err).status(),
+    }
+}
+
+/// Puts the line of the refusal, and answers why the run is refused: as it was, or for want of
+/// memory where there is none for the line.
+fn report<E: Sink>(alloc: Global, name: &str, refusal: UnitsRefusal, err: &mut E) -> UnitsRefusal
+    ensures kept { (result ≡ refusal) ⊎ ((result ≡ UnitsRefusal.Memory)
+        × (refusal ≢ UnitsRefusal.WriteFault)) }
+    ensures told { IsTold (refusal_line name.now result)
+        (E.written err.old) (E.written err.new) (E.faults err.old) (E.faults err.new) }
+{
+    if let UnitsRefusal::WriteFault = refusal {
+        put_line(err, b"cannot write\n");
+        return refusal;
+    }
+    match refusal_line(alloc, name, refusal) {
+        Ok(line) => {
+            put_line(err, line.as_slice());
+            refusal
+        }
+        Err(Memory) => {
+            put_line(err, b"out of memory\n");
+            UnitsRefusal::Memory
+        }
+    }
+}
+
+/// Puts the line. A failure is left to the sink's count of faults.
+fn put_line<E: Sink>(err: &mut E, line: &[u8])
+    ensures { IsTold line.now
+        (E.written err.old) (E.written err.new) (E.faults err.old) (E.faults err.new) }
+{
+    match err.put(line) {
+        Ok(()) | Err(_) => {}
+    }
+}
+
+/// Puts the line, and answers the status.
+fn refuse<E: Sink>(err: &mut E, line: &[u8], status: Status) -> Status
+    ensures status { result ≡ status }
+    ensures told { IsTold line.now
+        (E.written err.old) (E.written err.new) (E.faults err.old) (E.faults err.new) }
+{
+    put_line(err, line);
+    status
+}

@@ -1,0 +1,43 @@
+//! What slotunits tells of itself.
+
+ghost use Rattle.std.specs.Prelude.{◌≡◌, codes};
+ghost use Rattle.command_line.specs.Pages.{IsPageTold, page_text};
+ghost use Rattle.command_line.specs.declared.status.Status.{Status};
+ghost use Rattle.units_run.specs.Lines.{units_help};
+
+use command_line::{Page, Status, tell_page};
+use slot_io::Sink;
+
+/// Tells the page, and gives the status.
+pub(crate) fn tell_units_page<K: Sink, E: Sink>(page: Page, out: &mut K, err: &mut E) -> Status
+    ensures told { IsPageTold (page_text (codes "slotunits") units_help page)
+        (K.written out.old) (K.written out.new) (K.faults out.old) (K.faults out.new)
+        (E.written err.old) (E.written err.new) (E.faults err.old) (E.faults err.new) result }
+    ensures done_says_nothing { result ≡ Status.Done → err.new ≡ err.old }
+{
+    tell_page(page, b"slotunits", help(), out, err)
+}
+
+/// The help.
+fn help() -> &'static [u8]
+    ensures { result.now ≡ units_help }
+{
+    b"usage: slotunits tasks U
+       slotunits --help
+       slotunits --version
+
+Reads times, and writes the task file in slots that stands for them. Worst
+cases round up, separations down, and windows inwards.
+
+  U   a file of units (TOML), at most 1048576 bytes
+
+statuses:
+  0   done
+  1   the words are none of these forms
+  2   U cannot be read
+  3   U has too many bytes
+  4   U has a fault, or its set in slots has
+  7   standard output takes no more
+  8   memory ran out
+"
+}

@@ -1,0 +1,142 @@
+//! The work of a run: what is read, and what is written of it.
+
+ghost use Rattle.std.specs.Prelude.{◌≡◌, ◌≢◌, true, Ok, Err, IfOk, IfErr, OnOk};
+ghost use Rattle.slot_core.specs.declared.tasks.TaskSet.{TaskSet};
+ghost use Rattle.slot_core.specs.Sets.Ranges.{is_in_range, is_sound};
+ghost use Rattle.clock_units.specs.Derived.{derived_set, is_shaped};
+ghost use Rattle.task_toml.specs.Reading.{reading_of_tasks};
+ghost use Rattle.unit_toml.specs.Reading.{reading_of_units};
+ghost use Rattle.units_run.specs.Runs.{IsFileRefusal, IsRead, IsRefused, IsSetRefusal, IsText, IsTextRefusal, IsUnitsRefusal, IsWritten};
+ghost use Rattle.units_run.specs.declared.refusal.UnitsRefusal.TheVariants.{WriteFault as WriteRefusal};
+ghost use Rattle.units_run.specs.declared.refusal.UnitsRefusal.{UnitsRefusal};
+
+use crate::refusal::UnitsRefusal;
+use clock_units::{PhysicalSet, UnitFault, slots_of};
+use slot_core::{Failed, TASK_FILE_LIMIT, TaskFault, TaskSet};
+use slot_io::{Files, ReadFault, Sink};
+use source_check::check;
+use std::alloc::Global;
+use task_text::{TextFault, text_of};
+use unit_toml::{UnitsFault, read_units};
+
+/// Reads the file of units of this name, and writes the task file of its set in slots.
+pub(crate) fn work<F: Files, K: Sink>(
+    alloc: Global,
+    name: &str,
+    files: &mut F,
+    out: &mut K,
+) -> Result<(), UnitsRefusal>
+    ensures written { OnOk result
+        (IsWritten (F.held files.old) name.now (K.written out.old) (K.written out.new)) }
+    ensures reads_well { OnOk result (F.faults files.new ≡ F.faults files.old) }
+    ensures refused { IfErr result (IsRefused (F.held files.old) name.now (F.blamed files.new)
+        (F.faults files.old, F.faults files.new) (K.faults out.old, K.faults out.new)) }
+    ensures untouched { (e : UnitsRefusal) → result ≡ Err e → e ≢ WriteRefusal
+        → out.new ≡ out.old }
+{
+    let bytes = read_file(alloc, name, files)?;
+    let text = text_from(alloc, bytes.as_slice())?;
+    match out.put(text.as_slice()) {
+        Ok(()) => Ok(()),
+        Err(Failed) => Err(UnitsRefusal::WriteFault),
+    }
+}
+
+/// The bytes of the file, where they are within the limit.
+fn read_file<F: Files>(alloc: Global, name: &str, files: &mut F) -> Result<Vec<u8>, UnitsRefusal>
+    ensures read { IfOk result (λ bytes. IsRead (F.held files.old) name.now bytes.items) }
+    ensures reads_well { OnOk result (F.faults files.new ≡ F.faults files.old) }
+    ensures refused { IfErr result (IsFileRefusal (F.held files.old) name.now (F.blamed files.new)
+        (F.faults files.old) (F.faults files.new)) }
+{
+    match files.read(alloc, name, TASK_FILE_LIMIT) {
+        Ok(bytes) => {
+            if bytes.len() > TASK_FILE_LIMIT {
+                return Err(UnitsRefusal::TooLarge);
+            }
+            Ok(bytes)
+        }
+        Err(ReadFault::Memory) => Err(UnitsRefusal::Memory),
+        Err(ReadFault::Failed) => Err(UnitsRefusal::Unreadable),
+    }
+}
+
+/// The task file of the bytes of a file of units.
+fn text_from(alloc: Global, bytes: &[u8]) -> Result<Vec<u8>, UnitsRefusal>
+    ensures text { IfOk result (λ text. IsText bytes.now text.items) }
+    ensures refused { IfErr result (IsTextRefusal bytes.now) }
+{
+    let physical = units_of(alloc, bytes)?;
+    text_of_units(alloc, &physical)
+}
+
+/// The set in physical time that the bytes write.
+fn units_of(alloc: Global, bytes: &[u8]) -> Result<PhysicalSet, UnitsRefusal>
+    ensures units { IfOk result (λ physical. reading_of_units bytes.now ≡ Ok physical) }
+    ensures shaped { IfOk result (λ physical. is_shaped physical ≡ true) }
+    ensures refused { IfErr result (IsTextRefusal bytes.now) }
+{
+    match read_units(alloc, bytes) {
+        Ok(physical) => Ok(physical),
+        Err(UnitsFault::Memory) => Err(UnitsRefusal::Memory),
+        Err(fault) => Err(UnitsRefusal::BadUnits(fault)),
+    }
+}
+
+/// The task file of the set in physical time.
+fn text_of_units(alloc: Global, physical: &PhysicalSet) -> Result<Vec<u8>, UnitsRefusal>
+    requires { is_shaped physical.now ≡ true }
+    ensures text { IfOk result (λ text. (set : TaskSet)
+        × (derived_set physical.now ≡ Ok set)
+        × (is_sound set ≡ true)
+        × (reading_of_tasks text.items ≡ Ok set)) }
+    ensures refused { IfErr result (IsUnitsRefusal physical.now) }
+{
+    let set = set_of(alloc, physical)?;
+    text_of_set(alloc, physical, &set)
+}
+
+/// The set in slots of the set in physical time.
+fn set_of(alloc: Global, physical: &PhysicalSet) -> Result<TaskSet, UnitsRefusal>
+    requires { is_shaped physical.now ≡ true }
+    ensures slots { IfOk result (λ set. derived_set physical.now ≡ Ok set) }
+    ensures range { IfOk result (λ set. is_in_range set ≡ true) }
+    ensures refused { IfErr result (IsUnitsRefusal physical.now) }
+{
+    match slots_of(alloc, physical) {
+        Ok(set) => Ok(set),
+        Err(UnitFault::Memory) => Err(UnitsRefusal::Memory),
+        Err(fault) => Err(UnitsRefusal::NoSlots(fault)),
+    }
+}
+
+/// The task file of the set in slots.
+fn text_of_set(
+    alloc: Global,
+    physical: &PhysicalSet,
+    set: &TaskSet,
+) -> Result<Vec<u8>, UnitsRefusal>
+    requires { is_in_range set.now ≡ true }
+    ensures sound { IfOk result (λ _. is_sound set.now ≡ true) }
+    ensures text { IfOk result (λ text. reading_of_tasks text.items ≡ Ok set.now) }
+    ensures refused { IfErr result (IsSetRefusal set.now) }
+{
+    check_set(alloc, set)?;
+    match text_of(alloc, physical, set) {
+        Ok(text) => Ok(text),
+        Err(TextFault::Memory) => Err(UnitsRefusal::Memory),
+        Err(TextFault::ReadsOtherwise) => Err(UnitsRefusal::ReadsOtherwise),
+    }
+}
+
+/// Refuses a set in slots that has a fault.
+fn check_set(alloc: Global, set: &TaskSet) -> Result<(), UnitsRefusal>
+    requires { is_in_range set.now ≡ true }
+    ensures refused { IfErr result (IsSetRefusal set.now) }
+{
+    match check(alloc, set) {
+        Ok(()) => Ok(()),
+        Err(TaskFault::Memory) => Err(UnitsRefusal::Memory),
+        Err(fault) => Err(UnitsRefusal::BadTasks(fault)),
+    }
+}
