@@ -21,7 +21,7 @@ use Rattle.slot_core.specs.Runs.Scenes.{has_ended, with_left, unended, remaining
 use Rattle.slot_core.specs.Runs.Demand.{work_from}
 use Rattle.slot_core.specs.Runs.Choice.{ready, earliest}
 use Rattle.slot_facts.proofs.Bounds.CycleDemand.{FitsCycle-from_Has}
-use Rattle.supply_laws.proofs.Fewer.{sporadic_demand-fewer}
+use Rattle.slot_facts.proofs.Bounds.SafeStart.{sporadic_demand-fewer}
 use Rattle.slot_facts.proofs.Bounds.TakenArrival.{sporadic_demand-taken}
 use Rattle.slot_facts.proofs.Choice.Earliest.{IsEarliest-from_earliest, least_due}
 use Rattle.slot_facts.proofs.Demand.OneSlot.{sporadic_demand-later, none_is_ready}

@@ -1,5 +1,4 @@
 mod Exact
-mod Fewer
 pub mod FewWindows
 mod Guaranteed
 mod Kept

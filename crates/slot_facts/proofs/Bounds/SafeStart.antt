@@ -167,7 +167,7 @@ task_demand-fewer s next r x =
     let fewer : arrivals_due s next r x ≤ arrivals_due s 0 r x = omega (arith, arrivals_due-from s next r x, arrivals_due-later s 0 r (max r next) x (omega arith)) in
     mul-le-mul_left s.wcet fewer
 
-sporadic_demand-fewer : (ss : List Sporadic) (nexts : List ℕ) (r x : ℕ) → sporadic_demand ss nexts r x ≤ sporadic_demand ss [] r x
+pub sporadic_demand-fewer : (ss : List Sporadic) (nexts : List ℕ) (r x : ℕ) → sporadic_demand ss nexts r x ≤ sporadic_demand ss [] r x
 sporadic_demand-fewer [] nexts r x = omega arith
 sporadic_demand-fewer (s ∷ ss) [] r x = omega arith
 sporadic_demand-fewer (s ∷ ss) (n ∷ ns) r x =
