@@ -38,7 +38,7 @@ use std::marker::Brand;
 use std::sync::ledger::{Blank, Ledger};
 use trace_text::{TextTaker, entry_line};
 
-/// Drives an executive that has just started through so many slots with these arrivals, and hands
+/// Drives an executive that has just started through this many slots with these arrivals, and hands
 /// the taker each entry of the trace: the start, for each slot its arrivals in order and what ran,
 /// and the end. It ends at the first entry that is not taken, and takes no memory.
 pub fn drive<T: SpareTable, W: Taker>(

@@ -13,7 +13,7 @@ pub fn windows_round_inwards()
     ensures { WindowsRoundInwards }
 {}
 
-/// Times that are a separation apart are handed over so many slots apart, whenever they come,
+/// Times that are a separation apart are handed over this many slots apart, whenever they come,
 /// exactly where these are no more than the separation rounded down.
 pub fn separations_round_down()
     ensures { SeparationsRoundDown }

@@ -41,7 +41,7 @@ pub enum Source {
 pub enum Arrivals {
     /// There are none, and no slot is run.
     Absent,
-    /// The arrivals file, which has those of so many slots.
+    /// The arrivals file, which has those of this many slots.
     Recorded(u32),
     /// The load of this number.
     Generated(u32),
@@ -221,7 +221,7 @@ fn of_plan(source: Source, output: PlanOutput) -> Command
     }
 }
 
-/// The command that runs so many slots with recorded arrivals, where the number is one.
+/// The command that runs this many slots with recorded arrivals, where the number is one.
 fn over_slots(source: Source, output: RunOutput, number: Option<u32>) -> Option<Command>
     ensures { result ≡ over_slots source output number }
 {
@@ -235,7 +235,7 @@ fn over_slots(source: Source, output: RunOutput, number: Option<u32>) -> Option<
     })
 }
 
-/// The command that verifies a recorded trace of so many slots, where the number is one.
+/// The command that verifies a recorded trace of this many slots, where the number is one.
 fn of_trace(number: Option<u32>) -> Option<Command>
     ensures { result ≡ of_trace number }
 {
@@ -249,7 +249,7 @@ fn of_trace(number: Option<u32>) -> Option<Command>
     })
 }
 
-/// The command that explains a row of the arrivals of so many slots, where both numbers are ones.
+/// The command that explains a row of the arrivals of this many slots, where both numbers are ones.
 fn of_row(number: Option<u32>, row: Option<u32>) -> Option<Command>
     ensures { result ≡ of_row number row }
 {
@@ -264,7 +264,7 @@ fn of_row(number: Option<u32>, row: Option<u32>) -> Option<Command>
     })
 }
 
-/// The command that changes to the second plan after so many slots and runs on up to this time,
+/// The command that changes to the second plan after this many slots and runs on up to this time,
 /// where both are numbers and the time is later.
 fn of_change(number: Option<u32>, slots: Option<u32>) -> Option<Command>
     ensures { result ≡ of_change number slots }

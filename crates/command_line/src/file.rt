@@ -50,7 +50,7 @@ impl File {
     }
 }
 
-/// The place of the arrivals file among so many words, counted from 0.
+/// The place of the arrivals file among this many words, counted from 0.
 fn arrivals_place(words: usize) -> usize
     ensures { result ≡ arrivals_place words }
 {

@@ -33,7 +33,7 @@ pub enum Refusal {
     SecondInfeasible(Window),
     /// The arrivals file has fewer rows than this.
     NoRow(u32),
-    /// The plan is to be changed where no cycle of so many slots ends.
+    /// The plan is to be changed where no cycle of this many slots ends.
     NotCycleEnd(u32),
     /// The second plan has no room for the jobs that are carried over.
     NoChange(Evidence),

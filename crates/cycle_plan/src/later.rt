@@ -10,7 +10,7 @@ ghost use Rattle.cycle_plan.specs.NearJobs.{IsNear, instance_of};
 
 use slot_core::{Job, Key, TaskSet};
 
-/// The job of the same task so many cycles later.
+/// The job of the same task this many cycles later.
 pub(crate) fn later_job(tasks: &TaskSet, cycle: u32, cycles: u64, job: Job) -> Job
     requires sound { is_sound tasks.now ≡ true }
     requires cycle { cycle ≤ SLOT_LIMIT }
@@ -28,7 +28,7 @@ pub(crate) fn later_job(tasks: &TaskSet, cycle: u32, cycles: u64, job: Job) -> J
     }
 }
 
-/// The key of the same task so many cycles later.
+/// The key of the same task this many cycles later.
 fn later_key(tasks: &TaskSet, cycle: u32, cycles: u64, key: Key) -> Key
     requires sound { is_sound tasks.now ≡ true }
     requires cycle { cycle ≤ SLOT_LIMIT }

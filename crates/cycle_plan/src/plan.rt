@@ -248,7 +248,7 @@ impl Plan {
         self.tasks.sporadics.items()
     }
 
-    /// A job of the first cycle, as it stands so many cycles later.
+    /// A job of the first cycle, as it stands this many cycles later.
     pub fn later_job(&self, job: Job, cycles: u64) -> Job
         requires near { IsNear job }
         requires few { cycles ≤ CYCLES_LIMIT }
@@ -257,7 +257,7 @@ impl Plan {
         later_job(&self.tasks, self.cycle, cycles, job)
     }
 
-    /// The job at this place of the first cycle, as it stands so many cycles later.
+    /// The job at this place of the first cycle, as it stands this many cycles later.
     pub fn job_in_cycle(&self, i: usize, cycles: u64) -> Job
         requires place { i < length self.now.jobs }
         requires near { cycles ≤ CYCLES_LIMIT }

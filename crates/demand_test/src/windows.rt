@@ -42,7 +42,7 @@ fn count_started(jobs: &[Job], from: u32) -> usize
         .count()
 }
 
-/// The slots that the arrivals need in a window of so many slots: an empty table is one of zeros.
+/// The slots that the arrivals need in a window of this many slots: an empty table is one of zeros.
 fn arriving_in(arrivals: &[u64], slots: usize) -> u64
     requires small { All (λ n. n < 2 ^ 63) arrivals.now }
     ensures value { result ≡ slice_index arrivals.now slots }
@@ -64,7 +64,7 @@ fn need_of(ends: &Ends, arrivals: &[u64], from: usize, until: usize) -> u64
 }
 
 /// Whether no window from `from` that ends by `last` fails. A longer window needs no less, so where
-/// the need of one fits it, each shorter one that has so many slots fits too: the next to look at
+/// the need of one fits it, each shorter one that has this many slots fits too: the next to look at
 /// is the longest that has fewer.
 fn fits_by(ends: &Ends, arrivals: &[u64], from: usize, last: usize) -> bool
     requires last { last < length ends.now.sums.items }

@@ -16,7 +16,7 @@ use std::fmt;
 pub enum TableFault {
     /// Memory ran out.
     Memory,
-    /// The bytes, of which there are so many, end before a field that is due, or inside it.
+    /// The bytes, this many of them, end before a field that is due, or inside it.
     Short(u64),
     /// The first four bytes are not `SLOT`.
     BadMagic,
@@ -34,7 +34,7 @@ pub enum TableFault {
     WrongSpanCount(u32, u32),
     /// A span, by its place.
     WrongSpan(u32, Span, Span),
-    /// Bytes follow the table, which has so many.
+    /// Bytes follow the table, which has this many.
     Trailing(u64),
 }
 

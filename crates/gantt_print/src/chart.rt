@@ -185,7 +185,7 @@ fn push_sporadics(
     Ok(())
 }
 
-/// Writes the lines of a chart over so many slots, with these rows.
+/// Writes the lines of a chart over this many slots, with these rows.
 fn put_chart<K: Sink>(
     slots: u32,
     tracks: &[Track],
@@ -206,7 +206,7 @@ fn put_chart<K: Sink>(
     put_rows(tracks, width, tasks, out)
 }
 
-/// Writes the first line of a chart over so many slots.
+/// Writes the first line of a chart over this many slots.
 fn put_head<K: Sink>(slots: u32, out: &mut K) -> Result<(), Failed>
     ensures ok { OnOk result
         (Appends (K.written out.old) (K.written out.new) (head_line slots)) }

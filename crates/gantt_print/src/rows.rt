@@ -53,7 +53,7 @@ impl Model for Track {
 }
 
 impl Track {
-    /// The row over so many slots, in none of which a job of it has run.
+    /// The row over this many slots, in none of which a job of it has run.
     pub(crate) fn new(alloc: Global, row: Row, slots: u32) -> Result<Track, Memory>
         ensures { IfOk result (λ track. track ≡ unmarked slots (row_of row)) }
     {

@@ -130,7 +130,7 @@ fn halve<S: Store, L: Ledger>(store: &mut S, place: FoundSpan, at: u64, steps: &
     store.set(place.index + 1, second, steps);
 }
 
-/// Appends the spans, so many slots later. Two steps each.
+/// Appends the spans, this many slots later. Two steps each.
 pub(crate) fn append<S: Store, L: Ledger>(
     store: &mut S,
     spans: &[Span],

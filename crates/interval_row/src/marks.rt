@@ -130,7 +130,7 @@ pub(crate) fn change_span<S: Store>(store: &mut S, end: u64, change: Change)
     store.set_mark(index, after);
 }
 
-/// The mark with so many slots of work more or fewer.
+/// The mark with this many slots of work more or fewer.
 fn changed(mark: Mark, change: Change) -> Mark
     requires { mark.works ≤ 2 ^ 60 }
     ensures { result ≡ with_change change mark }

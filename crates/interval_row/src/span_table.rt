@@ -190,7 +190,7 @@ impl<S: Store> SpareTable for Table<S> {
     }
 }
 
-/// A table of so many copies of a plan's spans. Its steps are counted and thrown away.
+/// A table of this many copies of a plan's spans. Its steps are counted and thrown away.
 fn filled_table<S: Store, L: Ledger>(
     alloc: Global,
     spans: &[Span],

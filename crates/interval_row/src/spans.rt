@@ -11,7 +11,7 @@ ghost use Rattle.interval_row.specs.Works.{changed_by, spare_by, MayChangeBy};
 use slot_core::Span;
 use spare_capacity::with_spare;
 
-/// How the work of a span changes: by so many slots.
+/// How the work of a span changes: by this many slots.
 #[derive(Clone, Copy)]
 pub enum Change {
     More(u32),
@@ -37,7 +37,7 @@ pub(crate) fn refilled(span: Span, after: Span) -> Span
     with_spare(span, after.spare)
 }
 
-/// The span with so many slots less to spare.
+/// The span with this many slots less to spare.
 pub(crate) fn lowered(span: Span, slots: u64) -> Span
     requires low { neg_ℤ (pos (2 ^ 60)) ≤ℤ span.spare }
     requires few { slots ≤ 2 ^ 40 }
@@ -49,7 +49,7 @@ pub(crate) fn lowered(span: Span, slots: u64) -> Span
     }
 }
 
-/// The span with so many slots more to spare.
+/// The span with this many slots more to spare.
 fn raised(span: Span, slots: u64) -> Span
     requires high { span.spare ≤ℤ pos (2 ^ 60) }
     requires few { slots ≤ 2 ^ 40 }
@@ -126,7 +126,7 @@ pub(crate) fn part_from(span: Span, at: u64) -> Span
     Span { start: at, ..span }
 }
 
-/// The span, so many slots later.
+/// The span, this many slots later.
 pub(crate) fn shifted(span: Span, by: u64) -> Span
     requires start { span.start + by < 2 ^ 64 }
     requires end { span.end + by < 2 ^ 64 }

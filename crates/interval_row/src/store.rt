@@ -37,7 +37,7 @@ pub trait Store: Drop {
     /// Whether a table over it promises a bound on the steps of each call.
     ghost counted: { Bool };
 
-    /// No spans, room for so many, and marks without numbers.
+    /// No spans, room for this many, and marks without numbers.
     fn with_room(alloc: Global, places: u32) -> Result<Self, Memory>
         requires some { 1 ≤ places }
         requires few { places ≤ 2 ^ 20 }
@@ -49,7 +49,7 @@ pub trait Store: Drop {
     fn len(&self) -> u32
         ensures { result ≡ length (spans self.now) };
 
-    /// The span with so many before it. One step.
+    /// The span with this many before it. One step.
     fn at<L: Ledger>(&self, index: u32, steps: &mut Steps<L>) -> Span
         requires { index < length (spans self.now) }
         ensures span { slice_get (spans self.now) index ≡ Some result }

@@ -53,7 +53,7 @@ pub trait SpareTable: Drop {
     /// Whether it promises a bound on the steps of each call.
     ghost counted: { Bool };
 
-    /// A table at time 0 of so many copies of a plan's spans, one after the other, with room for
+    /// A table at time 0 of this many copies of a plan's spans, one after the other, with room for
     /// `room` spans, and 18 KB of marks and lifts.
     fn with_room(alloc: Global, spans: &[Span], copies: u32, room: u32) -> Result<Self, Memory>
         requires plan { ArePlanSpans spans.now }
@@ -89,7 +89,7 @@ pub trait SpareTable: Drop {
         ensures { (i : ℕ) → spot_at (pairs self.now) i ≡ Some at
             → result ≡ spot_at (pairs self.now) (i + 1) };
 
-    /// The spot of the span with so many before it.
+    /// The spot of the span with this many before it.
     fn spot(&self, index: u32) -> Spot
         requires { index < length (pairs self.now) }
         ensures { spot_at (pairs self.now) index ≡ Some result };

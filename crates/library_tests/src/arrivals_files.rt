@@ -254,7 +254,7 @@ fn rows(alloc: Global, count: u32, last: &[u8]) -> Result<Vec<u8>, Fail> {
     Ok(bytes)
 }
 
-/// What comes of so many rows and the last one: the number of arrivals, or their fault.
+/// What comes of this many rows and the last one: the number of arrivals, or their fault.
 fn counted(alloc: Global, rows_before: u32, last: &[u8], tasks: &TaskSet) -> Result<String, Fail>
     requires { is_sound tasks.now ≡ true }
 {

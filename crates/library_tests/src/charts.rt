@@ -16,7 +16,7 @@ use std::alloc::Global;
 use std::process::Abort;
 use std::test::Fail;
 
-/// The chart of a set over so many slots that took these entries.
+/// The chart of a set over this many slots that took these entries.
 fn taken(alloc: Global, tasks: &TaskSet, slots: u32, entries: &[(u64, What)]) -> Result<Chart, Fail>
     requires { is_sound tasks.now ≡ true }
     ensures { IfOk result (λ chart. IsChartOf tasks.now chart) }
@@ -61,7 +61,7 @@ fn set_of(alloc: Global, set: Set) -> Result<TaskSet, Memory>
     }
 }
 
-/// A chart of a set over so many slots: the entries that it takes, and its lines.
+/// A chart of a set over this many slots: the entries that it takes, and its lines.
 #[derive(Clone, Copy)]
 struct Case {
     set: Set,

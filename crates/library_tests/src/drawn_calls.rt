@@ -232,7 +232,7 @@ fn plain_pass(list: &mut Vec<Span>) {
     }
 }
 
-/// Appends the cycle, so many slots later.
+/// Appends the cycle, this many slots later.
 fn append(list: &mut Vec<Span>, by: u64) -> Result<(), Memory> {
     list.push(span(by, by.saturating_add(16), 4, 0))?;
     list.push(span(by.saturating_add(16), by.saturating_add(40), 32, 0))?;

@@ -12,7 +12,7 @@ use std::rt;
 pub enum Turn {
     /// A read gives these bytes.
     Gives(&'static [u8]),
-    /// A write takes so many bytes.
+    /// A write takes this many bytes.
     Takes(usize),
     /// The call fails.
     Fails(ErrorKind),

@@ -156,7 +156,7 @@ fn expect_room<R: Abort>(rt: &R, from: u64, front: Front, asked: u64, list: &[Sp
     }
 }
 
-/// The works of so many spans.
+/// The works of this many spans.
 fn works_of(list: &[Span], count: u32) -> u64 {
     let mut works: u64 = 0;
     for row in list.iter().take(count as usize) {

@@ -21,7 +21,7 @@ fn span(start: u64, end: u64, spare: i64) -> Span {
     }
 }
 
-/// These spans, and so many that are not shown.
+/// These spans, and this many that are not shown.
 fn shown(spans: &[Span], more: u32) -> Result<Shown, Fail> {
     let mut shown = Shown::new(more);
     for span in spans {

@@ -28,7 +28,7 @@ fn are_margins(alloc: Global, plan: &Plan) -> Result<bool, Memory>
     Ok(is_margin(&task, 4, (0, 8, 9)) && is_margin(&alarm, 1, (0, 2, 3)))
 }
 
-/// Whether a task may grow by so many slots, and with one more this window fails.
+/// Whether a task may grow by this many slots, and with one more this window fails.
 fn is_margin(margin: &Margin, growth: u32, (from, until, demand): (u64, u64, u64)) -> bool {
     let window = Window {
         from,

@@ -105,7 +105,7 @@ fn with_a_rise<R: Abort, L: Ledger>(rt: &R, alloc: Global, blank: Blank) -> Resu
     Ok(())
 }
 
-/// A task of so many slots, every 8 within this deadline.
+/// A task of this many slots, every 8 within this deadline.
 fn reserve_of(wcet: u32, deadline: u32) -> Option<Reserve>
     requires some { 1 ≤ wcet }
     requires fits { wcet ≤ deadline }
@@ -120,7 +120,7 @@ fn reserve_of(wcet: u32, deadline: u32) -> Option<Reserve>
     Some(Reserve::new(&[task]))
 }
 
-/// The offers of so many slots by these times have these answers.
+/// The offers of this many slots by these times have these answers.
 fn expect_offers<R: Abort, T: SpareTable, L: Ledger>(
     rt: &R,
     table: &T,

@@ -111,7 +111,7 @@ fn make_calls<R: Abort, L: Ledger>(rt: &R, alloc: Global, blank: Blank) -> Resul
     Ok(())
 }
 
-/// Each call answers so, and leaves so many jobs.
+/// Each call answers so, and leaves this many jobs.
 fn expect_answers<R: Abort, L: Ledger>(
     rt: &R,
     queue: &mut JobQueue,

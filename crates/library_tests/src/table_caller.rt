@@ -34,7 +34,7 @@ pub fn diagnose<L: Ledger>(exec: &mut Exec<ChainTable>, row: u32, steps: &mut St
     exec.firm(row, 9, 20, steps)
 }
 
-/// Lets so many slots pass.
+/// Lets this many slots pass.
 pub fn pass<L: Ledger>(exec: &mut Exec<ChainTable>, count: u32, steps: &mut Steps<L>)
     requires { exec.old.scene.time + count ≤ TIME_LIMIT }
     ensures { exec.new.scene.time ≡ exec.old.scene.time + count }

@@ -115,7 +115,7 @@ fn tells_lists_past_their_limits(rt: HostRuntime) -> Result<(), Fail> {
     Ok(())
 }
 
-/// The fault of a file with an item so many times, between a front and a back.
+/// The fault of a file with an item this many times, between a front and a back.
 fn fault_of_repeated(
     alloc: Global,
     front: &str,
@@ -132,7 +132,7 @@ fn fault_of(alloc: Global, bytes: &[u8]) -> Option<TaskFault> {
     read_tasks(alloc, bytes).err()
 }
 
-/// The item so many times, between a front and a back.
+/// The item this many times, between a front and a back.
 fn repeated(
     alloc: Global,
     front: &str,

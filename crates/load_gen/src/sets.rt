@@ -13,7 +13,7 @@ use slot_core::{Afters, Graph, Graphs, Memory, Name, Sporadic, Sporadics, Task, 
 use std::alloc::Global;
 use trace_text::Line;
 
-/// The task set of load `n`, from 1 to `LOAD_LIMIT`: so many graphs of three tasks in a row, with
+/// The task set of load `n`, from 1 to `LOAD_LIMIT`: this many graphs of three tasks in a row, with
 /// periods of 64, 128 and 256 slots in turn, and a sporadic task. It is sound and feasible.
 pub fn tasks_of(alloc: Global, n: u32) -> Result<TaskSet, Memory>
     requires some { 1 ≤ n }

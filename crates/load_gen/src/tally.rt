@@ -61,7 +61,7 @@ impl Tally {
         }
     }
 
-    /// The line of the tally of load `n` over so many slots, with its line feed.
+    /// The line of the tally of load `n` over this many slots, with its line feed.
     pub fn line(&self, n: u32, slots: u32) -> Line
         ensures line { result ≡ tally_line n slots (count_of self.now) }
 

@@ -76,7 +76,7 @@ fn copy_sporadics(alloc: Global, sporadics: &[Sporadic]) -> Result<Sporadics, Me
     Ok(copies)
 }
 
-/// Gives the task at this place so many slots more.
+/// Gives the task at this place this many slots more.
 fn lengthen_task(tasks: &mut Tasks, task: usize, by: u32)
     requires of { task < length tasks.old }
     requires few { wcet_of tasks.old task + by < 2 ^ 32 }
@@ -85,7 +85,7 @@ fn lengthen_task(tasks: &mut Tasks, task: usize, by: u32)
     tasks.item_mut(task).wcet += by;
 }
 
-/// Gives the sporadic task at this place so many slots more.
+/// Gives the sporadic task at this place this many slots more.
 fn lengthen_sporadic(sporadics: &mut Sporadics, index: usize, by: u32)
     requires of { index < length sporadics.old }
     requires few { sporadic_wcet sporadics.old index + by < 2 ^ 32 }
@@ -94,7 +94,7 @@ fn lengthen_sporadic(sporadics: &mut Sporadics, index: usize, by: u32)
     sporadics.item_mut(index).wcet += by;
 }
 
-/// Copies of the sporadic tasks, the one at this place with so many slots more.
+/// Copies of the sporadic tasks, the one at this place with this many slots more.
 pub(crate) fn longer_sporadics(
     alloc: Global,
     sporadics: &[Sporadic],
@@ -111,7 +111,7 @@ pub(crate) fn longer_sporadics(
     Ok(longer)
 }
 
-/// A copy of the graph, its task at this place with so many slots more.
+/// A copy of the graph, its task at this place with this many slots more.
 fn longer_graph(alloc: Global, graph: &Graph, task: usize, by: u32) -> Result<Graph, Memory>
     requires of { task < length graph.now.tasks }
     requires few { wcet_of graph.now.tasks task + by < 2 ^ 32 }
@@ -136,7 +136,7 @@ fn once_a_cycle(alloc: Global, name: &Name, cycle: u32) -> Result<Sporadics, Mem
     Ok(sporadics)
 }
 
-/// The set that has this graph alone, its task at this place with so many slots more.
+/// The set that has this graph alone, its task at this place with this many slots more.
 pub(crate) fn longer_alone(
     alloc: Global,
     soft_limit: u32,

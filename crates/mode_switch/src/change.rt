@@ -89,7 +89,7 @@ pub struct Change {
     passed: u64,
     /// So many of the carried jobs have ended.
     ended: usize,
-    /// The next one has run so many slots since the change.
+    /// The next one has run this many slots since the change.
     ran: u32,
     own: JobQueue,
 }

@@ -31,7 +31,7 @@ pub(crate) fn cycles_of(carried: &[Job], at: u64, cycle: u32) -> u64
     cycles
 }
 
-/// How many cycles it takes that a deadline so many slots away lies in those before the last.
+/// How many cycles it takes that a deadline this many slots away lies in those before the last.
 fn cycles_to(within: u64, cycle: u64) -> u64
     requires some { 1 ≤ cycle }
     requires short { cycle < 2 ^ 32 }
@@ -66,7 +66,7 @@ fn insert_first<L: Ledger>(alloc: Global, plan: &Plan, blank: Blank) -> Result<J
     Ok(queue)
 }
 
-/// Time goes on to so many slots after the change. At the end of a cycle, which leaves no job,
+/// Time goes on to this many slots after the change. At the end of a cycle, which leaves no job,
 /// those of the next one come in.
 pub(crate) fn pass<L: Ledger>(plan: &Plan, passed: u64, queue: &mut JobQueue, steps: &mut Steps<L>)
     requires few { passed ≤ 2 ^ 32 }

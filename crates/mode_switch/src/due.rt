@@ -24,7 +24,7 @@ fn zeros(alloc: Global, count: usize) -> Result<Vec<u64>, Memory>
     Ok(vec![in alloc; 0u64; count]?)
 }
 
-/// Counts so many slots at the time at which they are due, where the table reaches it.
+/// Counts this many slots at the time at which they are due, where the table reaches it.
 fn count(due: &mut Vec<u64>, time: u64, slots: u32)
     requires { sum due.old.items < 2 ^ 63 }
     ensures len { length due.new.items ≡ length due.old.items }
@@ -67,7 +67,7 @@ fn count_cycle(due: &mut Vec<u64>, plan: &Plan, n: u64)
     }
 }
 
-/// Counts the jobs of so many cycles of the plan.
+/// Counts the jobs of this many cycles of the plan.
 fn count_cycles(due: &mut Vec<u64>, plan: &Plan, cycles: u64)
     requires few { cycles ≤ 2 ^ 14 }
     requires small { sum due.old.items < 2 ^ 60 }
@@ -81,8 +81,8 @@ fn count_cycles(due: &mut Vec<u64>, plan: &Plan, cycles: u64)
     }
 }
 
-/// For each time up to the end of so many cycles, counted from the change on, the slots left of the
-/// jobs due then.
+/// For each time up to the end of this many cycles, counted from the change on, the slots left of
+/// the jobs due then.
 fn due_table(
     alloc: Global,
     plan: &Plan,

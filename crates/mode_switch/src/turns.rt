@@ -40,8 +40,8 @@ pub(crate) fn turn_between(carried: Option<Job>, own: Option<Job>) -> Turn
     }
 }
 
-/// The carried job that is next, where so many have ended and it has run so many slots; with its
-/// times counted from the change on.
+/// The carried job that is next, where this many have ended and it has run this many slots; with
+/// its times counted from the change on.
 pub(crate) fn next_carried(carried: &[Job], at: u64, ended: usize, ran: u32) -> Option<Job>
     requires { All (λ (j : Job). 1 ≤ j.left) (carried_left at carried.now ended ran) }
     ensures { result ≡ slice_get (carried_left at carried.now ended ran) 0 }
@@ -56,8 +56,8 @@ pub(crate) fn next_carried(carried: &[Job], at: u64, ended: usize, ran: u32) -> 
     })
 }
 
-/// The carried job that is next has run one slot: so many have ended then, and the next one has run
-/// so many.
+/// The carried job that is next has run one slot: this many have ended then, and the next one has
+/// run this many.
 fn run_carried(carried: &[Job], ended: usize, ran: u32) -> (usize, u32)
     requires some { 1 ≤ length (carried_left 0 carried.now ended ran) }
     requires left { All (λ (j : Job). 1 ≤ j.left) (carried_left 0 carried.now ended ran) }

@@ -54,7 +54,7 @@ impl Model for Block {
 }
 
 impl Block {
-    /// A block of so many unused nodes, each with the place after it.
+    /// A block of this many unused nodes, each with the place after it.
     pub(crate) fn new(alloc: Global, count: u32) -> Result<Block, Memory>
         requires { count ≤ 2 ^ 20 + 1 }
         ensures { IfOk result (λ made. made ≡ unused count) }
@@ -132,7 +132,7 @@ fn links_word(next: u32, prev: u32) -> u64
     next as u64 + prev as u64 * LINK_COUNT
 }
 
-/// Where the span of a place begins, behind the links of so many nodes.
+/// Where the span of a place begins, behind the links of this many nodes.
 fn span_place(count: u32, place: u32) -> usize
     ensures { result ≡ span_place count place }
 {

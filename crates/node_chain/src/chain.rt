@@ -107,7 +107,7 @@ impl Chain {
         self.block.count() - 1
     }
 
-    /// The id of the span with so many before it.
+    /// The id of the span with this many before it.
     pub fn at(&self, index: u32) -> NodeId
         requires { index < length self.now.pairs }
         ensures { id_at self.now.pairs index ≡ Some result }
@@ -293,7 +293,7 @@ impl Chain {
         self.insert_at(index as u32, span, steps)
     }
 
-    /// Inserts a span before the one with so many before it, and returns its id, which no span in
+    /// Inserts a span before the one with this many before it, and returns its id, which no span in
     /// the chain had. Three steps.
     pub fn insert_at<L: Ledger>(&mut self, index: u32, span: Span, steps: &mut Steps<L>) -> NodeId
         requires within { index < length self.old.pairs }

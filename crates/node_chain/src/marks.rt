@@ -22,7 +22,7 @@ pub struct Mark {
     pub count: u32,
     /// How many slots are due at their ends.
     pub works: u64,
-    /// At least so many slots each time in the pages, from the table's time on, is above what is
+    /// At least this many slots each time in the pages, from the table's time on, is above what is
     /// due in its page by then. 0 says nothing.
     pub low: u64,
 }

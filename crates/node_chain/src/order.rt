@@ -28,7 +28,7 @@ impl<T> Model for Order<T> {
 }
 
 impl<T: Copy + Drop> Order<T> {
-    /// No items, and places for so many.
+    /// No items, and places for this many.
     pub fn with_capacity(alloc: Global, places: u32) -> Result<Order<T>, Memory>
         ensures empty { IfOk result (λ made. made.items ≡ []) }
         ensures places { IfOk result (λ made. places ≤ made.places) }

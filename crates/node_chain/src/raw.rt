@@ -55,7 +55,7 @@ impl<T, A: Allocator> Model for Permit<T, A> {
     ghost also_shares = { λ _ _ _. ftrue };
 }
 
-/// Takes a block of so many empty places.
+/// Takes a block of this many empty places.
 pub(crate) fn make_block<T, A: Allocator>(
     alloc: &A,
     count: usize,

@@ -30,7 +30,7 @@ use slot_io::Sink;
 use std::alloc::Global;
 use trace_text::{Line, job_line, span_line};
 
-/// Writes this of the plan, and of these arrivals over so many slots.
+/// Writes this of the plan, and of these arrivals over this many slots.
 pub fn write_plan<K: Sink>(
     alloc: Global,
     output: PlanOutput,
@@ -180,7 +180,7 @@ fn show_spans<K: Sink>(spans: &[Span], out: &mut K) -> Result<(), Failed>
     Ok(())
 }
 
-/// Writes how many lines the trace of so many slots and these arrivals has, in one put.
+/// Writes how many lines the trace of this many slots and these arrivals has, in one put.
 fn put_lines<K: Sink>(slots: u32, arrivals: &[Arrival], out: &mut K) -> Result<(), Refusal>
     requires slots { slots ≤ REPLAY_LIMIT }
     requires arrivals { length arrivals.now ≤ ARRIVAL_LIMIT }

@@ -180,7 +180,7 @@ const UNLAWFUL: [(Line, &str, &str, &str); 6] = [
     (VERIFY_2, UNIT, LATE_2, "trace late 3 u.w#0\n"),
 ];
 
-/// Files of so many equal bytes, the status, and the line on standard error.
+/// Files of this many equal bytes, the status, and the line on standard error.
 const LARGE: [(Line, u8, usize, Status, &str); 7] = [
     (
         CHECK,
@@ -363,7 +363,7 @@ fn done<'t>(words: Line, first: &'t str, arrivals: &'t str, out: &'t str) -> Cas
     }
 }
 
-/// A run of these words that is refused after so many reads.
+/// A run of these words that is refused after this many reads.
 fn refused<'t>(words: Line, first: &'t str, status: Status, reads: u32, err: &'t str) -> Case<'t> {
     Case {
         status,
@@ -447,7 +447,7 @@ fn status_of(
     Ok(run(alloc, &list, files, out, err))
 }
 
-/// Whether so many reads were made: the read of the next number comes next.
+/// Whether this many reads were made: the read of the next number comes next.
 fn are_made(alloc: Global, reads: u32, files: &mut MemoryFiles) -> Result<bool, Memory> {
     files.fail_read(reads.saturating_add(1))?;
     let next = files.read(alloc, "a.toml", 0);
@@ -704,7 +704,7 @@ fn refuses_large_files(rt: HostRuntime) {
     }
 }
 
-/// Whether this is told of a last file of so many of these bytes.
+/// Whether this is told of a last file of this many of these bytes.
 fn is_large_told(
     alloc: Global,
     words: Line,

@@ -9,7 +9,7 @@ use slot_core::Failed;
 use slot_io::{MemorySink, Sink};
 use std::alloc::Global;
 
-/// A record in memory, once it is made, with room for so many bytes.
+/// A record in memory, once it is made, with room for this many bytes.
 #[derive(Drop)]
 pub struct MemoryRecord {
     alloc: Global,

@@ -226,7 +226,7 @@ fn tells_what_fails(rt: HostRuntime) -> Result<(), Fail> {
     Ok(())
 }
 
-/// The trace of so many idle slots.
+/// The trace of this many idle slots.
 fn idle_trace(alloc: Global, slots: u32) -> Result<String, Fail> {
     let mut text = String::from_str(alloc, "0 start | 0-8:6\n")?;
     for slot in 0..slots {

@@ -180,7 +180,7 @@ pub fn second_from<F: Files>(
     }
 }
 
-/// The arrivals that the bytes of the arrivals file write, for so many slots of the set.
+/// The arrivals that the bytes of the arrivals file write, for this many slots of the set.
 fn fitting(
     alloc: Global,
     bytes: &[u8],
@@ -218,7 +218,7 @@ fn recorded<F: Files>(
     fitting(alloc, bytes.as_slice(), slots, tasks)
 }
 
-/// The arrivals of the load of this number over so many slots.
+/// The arrivals of the load of this number over this many slots.
 fn generated_arrivals(alloc: Global, n: u32, slots: u32) -> Result<Vec<Arrival>, Refusal>
     requires load_some { 1 ≤ n }
     requires load_few { n ≤ LOAD_LIMIT }
@@ -256,7 +256,8 @@ pub fn arrivals_from<F: Files>(
     }
 }
 
-/// Whether the bytes are the text of a lawful trace of the plan, these arrivals and so many slots.
+/// Whether the bytes are the text of a lawful trace of the plan, these arrivals and this many
+/// slots.
 fn lawful(
     alloc: Global,
     bytes: &[u8],
@@ -313,7 +314,7 @@ fn row_among(row: u32, arrivals: &[Arrival]) -> Result<(), Refusal>
     Ok(())
 }
 
-/// Whether so many slots are whole cycles of the plan.
+/// Whether this many slots are whole cycles of the plan.
 fn whole_cycles(plan: &Plan, slots: u32) -> Result<(), Refusal>
     ensures due { IsStep (whole_cycles plan.now.cycle slots) result (λ _. tt) }
     ensures turn { IfOk result (λ _. slots % plan.now.cycle ≡ 0) }
@@ -326,7 +327,7 @@ fn whole_cycles(plan: &Plan, slots: u32) -> Result<(), Refusal>
     }
 }
 
-/// What is asked of the arrivals of so many slots, before anything is written.
+/// What is asked of the arrivals of this many slots, before anything is written.
 pub fn check_arrivals<F: Files>(
     alloc: Global,
     words: &Words,

@@ -23,7 +23,7 @@ use std::alloc::Global;
 pub(crate) struct RefusedOffer {
     /// Its slots.
     pub slots: u32,
-    /// It was due within so many slots.
+    /// It was due within this many slots.
     pub within: u32,
     /// The least time up to which there is too little room.
     pub until: u64,

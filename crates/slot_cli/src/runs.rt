@@ -18,7 +18,7 @@ use slot_exec::Exec;
 use slot_io::Sink;
 use std::alloc::Global;
 
-/// Writes this of the run of the plan with these arrivals over so many slots. The executive takes
+/// Writes this of the run of the plan with these arrivals over this many slots. The executive takes
 /// all its memory when it starts, and each part of the text takes its own before its first put.
 pub(crate) fn write_run<K: Sink>(
     alloc: Global,

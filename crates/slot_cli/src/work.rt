@@ -54,7 +54,7 @@ fn carry_out<F: Files, K: Sink>(
     write(alloc, command.output, slots, plan, second, rows, out)
 }
 
-/// Writes this of the plans and the arrivals, over so many slots. All memory of a part is taken
+/// Writes this of the plans and the arrivals, over this many slots. All memory of a part is taken
 /// before its first put.
 fn write<K: Sink>(
     alloc: Global,

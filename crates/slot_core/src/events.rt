@@ -6,7 +6,7 @@ use crate::shown::Shown;
 /// What arrives.
 #[derive(Clone, Copy, PartialEq, Eq)]
 pub enum Event {
-    /// Soft work of so many slots.
+    /// Soft work of this many slots.
     Soft(u32),
     /// A firm task: slots, and within how many slots from now.
     Firm(u32, u32),
@@ -62,7 +62,7 @@ pub enum Spo {
 /// The answer to an early end.
 #[derive(Clone, Copy, PartialEq, Eq)]
 pub enum Done {
-    /// The job ends, and so many slots are free.
+    /// The job ends, and this many slots are free.
     Freed(u32),
     /// No unfinished job of that key has run.
     NotRunning,
@@ -71,7 +71,7 @@ pub enum Done {
 /// The answer to a withdrawal.
 #[derive(Clone, Copy, PartialEq, Eq)]
 pub enum Gone {
-    /// The job ends, and so many slots are free.
+    /// The job ends, and this many slots are free.
     Freed(u32),
     /// No remaining firm job has that row.
     NoJob,

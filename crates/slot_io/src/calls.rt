@@ -10,14 +10,14 @@ pub(crate) fn one_more(count: u64) -> u64
     count.saturating_add(1)
 }
 
-/// Whether the call after so many calls is one of those that fail.
+/// Whether the call after this many calls is one of those that fail.
 pub(crate) fn is_next_call(failing: &[u32], calls: u64) -> bool
     ensures { result ≡ is_next_call failing.now calls }
 {
     failing.iter().any(|call| is_next(*call, calls))
 }
 
-/// Whether the call of this number comes after so many calls.
+/// Whether the call of this number comes after this many calls.
 fn is_next(call: u32, calls: u64) -> bool
     ensures { result ≡ (call == calls + 1) }
 {

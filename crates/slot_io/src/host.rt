@@ -57,7 +57,7 @@ impl<R: rt::Files> Files for HostFiles<R> {
     }
 }
 
-/// The first bytes of a file, at most so many.
+/// The first bytes of a file, at most this many.
 fn read_file<R: rt::Files>(
     rt: &R,
     alloc: Global,
@@ -72,7 +72,7 @@ fn read_file<R: rt::Files>(
     }
 }
 
-/// The first bytes of a reader, at most so many. As the standard library's own loop does, it goes
+/// The first bytes of a reader, at most this many. As the standard library's own loop does, it goes
 /// on after a short read, and tries again where a signal interrupts one.
 fn read_front<F: Read + Drop>(reader: F, alloc: Global, most: usize) -> Result<Vec<u8>, ReadFault>
     ensures short { IfOk result (λ bytes. vec_len bytes ≤ most) }

@@ -12,7 +12,7 @@ use slot_core::{Failed, Memory};
 use std::alloc::Global;
 use std::marker::Model;
 
-/// A sink in memory, with room for so many bytes. Puts can be made to fail.
+/// A sink in memory, with room for this many bytes. Puts can be made to fail.
 #[derive(Drop)]
 pub struct MemorySink {
     written: Vec<u8>,
@@ -40,7 +40,7 @@ impl Model for MemorySink {
 }
 
 impl MemorySink {
-    /// A sink with room for so many bytes, with nothing written and no put that fails.
+    /// A sink with room for this many bytes, with nothing written and no put that fails.
     pub fn with_room(alloc: Global, room: usize) -> Result<MemorySink, Memory>
         ensures { IfOk result (λ sink. sink
             ≡ record { written = []; room = room; failing = []; calls = 0; faults = 0 }) }
@@ -71,7 +71,7 @@ impl MemorySink {
         self.written.as_slice()
     }
 
-    /// How many of so many bytes the next put takes.
+    /// How many of this many bytes the next put takes.
     fn taken(&self, count: usize) -> usize
         ensures taken { result ≡ (if is_next_call self.now.failing self.now.calls then 0
             else min count (self.now.room - length self.now.written)) }

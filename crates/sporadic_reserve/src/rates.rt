@@ -25,7 +25,7 @@ pub struct Rate {
     pub next: u64,
 }
 
-/// How many whole separations there are in so many slots. A multiplication serves where there are
+/// How many whole separations there are in this many slots. A multiplication serves where there are
 /// fewer than `INVERSE_REACH`.
 fn separations_in(rate: Rate, slots: u64) -> u64
     requires { IsRate rate }
@@ -71,7 +71,7 @@ fn arrivals_due(rate: Rate, r: u64, x: u64) -> u64
     separations_in(rate, x - first) + 1
 }
 
-/// The deadline of the first of them that is due after `x`, where so many are due by then.
+/// The deadline of the first of them that is due after `x`, where this many are due by then.
 fn due_after(rate: Rate, r: u64, x: u64, count: u64) -> u64
     requires rate { IsRate rate }
     requires near { r < HORIZON_LIMIT }

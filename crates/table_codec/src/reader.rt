@@ -40,7 +40,7 @@ impl<'a> Input<'a> {
         }
     }
 
-    /// The next bytes, so many.
+    /// The next bytes, this many.
     pub(crate) fn bytes(&mut self, count: usize) -> Result<&'a [u8], TableFault>
         ensures reading { ReadsAs (λ bytes. bytes.now) (bytes_at count) result self.old self.new }
         ensures count { IfOk result (λ bytes. length bytes.now ≡ count) }

@@ -45,7 +45,7 @@ fn read_task(
     Ok(Task { name, wcet, after })
 }
 
-/// The tasks of a graph, so many.
+/// The tasks of a graph, this many.
 fn read_tasks(
     alloc: Global,
     input: &mut Input,
@@ -88,7 +88,7 @@ fn read_graph(
     })
 }
 
-/// The graphs of a set, so many.
+/// The graphs of a set, this many.
 fn read_graphs(
     alloc: Global,
     input: &mut Input,
@@ -122,7 +122,7 @@ fn read_sporadic(input: &mut Input, layout: Layout, sporadic: u8) -> Result<Spor
     })
 }
 
-/// The sporadic tasks of a set, so many.
+/// The sporadic tasks of a set, this many.
 fn read_sporadics(
     alloc: Global,
     input: &mut Input,

@@ -33,12 +33,12 @@ fn push_head(text: &mut Vec<u8>, physical: &PhysicalSet) -> Result<(), Memory> {
     push(text, " are overhead\n")
 }
 
-/// What so many slots have more than a time.
+/// What this many slots have more than a time.
 fn more(slots: u32, size: u64, time: u64) -> Change {
     Change::More(u64::from(slots).saturating_mul(size).saturating_sub(time))
 }
 
-/// What so many slots have less than a time.
+/// What this many slots have less than a time.
 fn less(slots: u32, size: u64, time: u64) -> Change {
     Change::Less(time.saturating_sub(u64::from(slots).saturating_mul(size)))
 }

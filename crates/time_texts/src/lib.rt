@@ -16,5 +16,5 @@ pub use writing::push_time;
 /// Most digits of a time before its point.
 pub const WHOLE_LIMIT: usize = 10;
 
-/// A text writes no time of so many nanoseconds or more: some 317 years.
+/// A text writes no time of this many nanoseconds or more: some 317 years.
 pub const NANOS_LIMIT: u64 = 10_000_000_000_000_000_000;

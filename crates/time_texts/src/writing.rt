@@ -38,7 +38,7 @@ fn places_of_time(time: u64) -> u32
     }
 }
 
-/// The unit of so many decimal places.
+/// The unit of this many decimal places.
 fn unit_of_places(places: u32) -> &'static [u8]
     ensures { result.now ≡ unit_of_places places }
 {
@@ -59,7 +59,7 @@ fn push_number(text: &mut Vec<u8>, number: u64) -> Result<(), Memory>
     Ok(())
 }
 
-/// Appends a fraction in so many places, with its point, where it is not 0.
+/// Appends a fraction in this many places, with its point, where it is not 0.
 fn push_fraction(text: &mut Vec<u8>, places: u32, fraction: u64) -> Result<(), Memory>
     requires few { places ≤ PLACES_LIMIT }
     requires below { fraction < 10 ^ places }
@@ -73,7 +73,7 @@ fn push_fraction(text: &mut Vec<u8>, places: u32, fraction: u64) -> Result<(), M
     push_digits(text, places, fraction)
 }
 
-/// Appends the digits of a fraction in so many places, up to its last one that is not 0.
+/// Appends the digits of a fraction in this many places, up to its last one that is not 0.
 fn push_digits(text: &mut Vec<u8>, places: u32, fraction: u64) -> Result<(), Memory>
     requires few { places ≤ PLACES_LIMIT }
     requires below { fraction < 10 ^ places }

@@ -377,7 +377,7 @@ impl SpanWriter for Cells {
         self.spares[spare_place(span.spare)].push_spare(line, span.spare);
     }
 
-    /// A number of spans has the text of so many slots, which may be kept.
+    /// A number of spans has the text of this many slots, which may be kept.
     #[inline]
     fn push_more(&mut self, line: &mut Line, more: u32) {
         let spare = i64::from(more);
