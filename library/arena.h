@@ -16,7 +16,7 @@
     (24576u + 372u * (cycle) + 320u * (jobs) + 128u * (spans) + 12u * (soft) + 512u * (tasks))
 
 /* How many bytes of the array were ever in use at one time, with what lay free between them. An
- * array of so many bytes serves for the same tables: open each once on a bench, as
+ * array of that size serves for the same tables: open each once on a bench, as
  * tests/arena_fit.c does, and take the most. With a smaller one ss_open answers SS_MEMORY. The
  * flight controller of examples/ needs 44,864 bytes, and the engine 1,899,872. */
 size_t slotexec_arena_most(void);

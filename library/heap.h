@@ -11,11 +11,11 @@ struct slotexec_block {
     void *at;
 };
 
-/* A block of so many bytes at a multiple of the alignment, which divides 16. No two blocks overlap,
+/* A block of `bytes` bytes at a multiple of the alignment, which divides 16. No two blocks overlap,
  * and one of no bytes has a place too. */
 struct slotexec_block rattle_alloc(size_t bytes, size_t alignment);
 
-/* A block of so many bytes, which begins with the first `kept` bytes of the one at `at`. That one
+/* A block of `bytes` bytes, which begins with the first `kept` bytes of the one at `at`. That one
  * is gone then; where there is none, it stays as it was. */
 struct slotexec_block rattle_realloc(void *at, size_t kept, size_t bytes, size_t alignment);
 
