@@ -22,6 +22,8 @@ CASES = [
     ("slotview ''", "waves", "margin"),
     ("slotview jobs examples/", "examples/loop.toml", "examples/first.bin"),
     ("slotview jobs --table examples/", "examples/first.bin", "examples/loop.toml"),
+    ("slotunits ''", "tasks", "load"),
+    ("slotunits tasks examples/", "examples/loop.toml", "examples/loop.csv"),
     ("slotlint -", "--json", "--record"),
     ("slotlint examples/", "examples/loop.toml", "examples/loop.csv"),
     ("slotlint --tasks examples/loop.toml examples/", "examples/loop.csv", "examples/loop.toml"),

@@ -1,5 +1,5 @@
-# Completion of the words of slotshift, slotlive, slotview, slotplan and slotlint for bash: put
-# `source PATH/completions/slotshift.bash` into ~/.bashrc.
+# Completion of the words of slotshift, slotlive, slotview, slotplan, slotunits and slotlint for bash:
+# put `source PATH/completions/slotshift.bash` into ~/.bashrc.
 
 # Offers the files with this ending, or all where there is none, and folders; in /dev the devices that serve as one,
 # which are these two where no third word names another.
@@ -89,8 +89,21 @@ _slotplan() {
     esac
 }
 
+_slotunits() {
+    local current=${COMP_WORDS[COMP_CWORD]}
+    COMPREPLY=()
+    case ${COMP_WORDS[1]}:$COMP_CWORD in
+    *:1)
+        local questions='tasks'
+        COMPREPLY=($(compgen -W "$questions --help --version" -- "$current"))
+        ;;
+    tasks:2) _slotshift_files toml "$current" ;;
+    esac
+}
+
 complete -F _slotshift slotshift
 complete -F _slotlive slotlive
 complete -F _slotview slotview
 complete -F _slotlint slotlint
 complete -F _slotplan slotplan
+complete -F _slotunits slotunits
