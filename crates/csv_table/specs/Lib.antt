@@ -1,4 +1,5 @@
 pub mod Cells
+pub mod Examples
 pub mod FaultTexts
 pub mod Tables
 pub mod Writers

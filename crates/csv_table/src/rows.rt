@@ -5,7 +5,7 @@ ghost use Rattle.std.specs.Io.KnownBytes.{Appends};
 ghost use Rattle.csv.specs.Writing.{field_text, fields_written, has_written, next_sep, text_written, writer_setup};
 ghost use Rattle.slot_core.specs.Calls.Counts.{Rose};
 ghost use Rattle.slot_io.specs.Sinks.{AppendsPart};
-ghost use Rattle.csv_table.specs.Tables.{rfc_4180, row_line};
+ghost use Rattle.csv_table.specs.Tables.{comma_separated, row_line};
 ghost use Rattle.csv_table.specs.Writers.{IsAtRow};
 
 use crate::cells::Cell;
@@ -99,7 +99,7 @@ fn writer_of(alloc: Global) -> Writer<Vec<u8>>
     ensures empty { text_written (λ v. Some v.items) result ≡ Some [] }
 {
     WriterBuilder::new()
-        .terminator(Terminator::CRLF)
+        .terminator(Terminator::Any(b'\n'))
         .flexible(true)
         .from_writer(Vec::new(alloc))
 }
@@ -123,16 +123,16 @@ fn push_row<W: Write + Drop>(writer: &mut Writer<W>, cells: &[Cell<'_>]) -> Resu
 
 /// Writes one field more of a row.
 fn push_field<W: Write + Drop>(writer: &mut Writer<W>, field: &[u8]) -> Result<(), Memory>
-    requires { writer_setup writer.old ≡ rfc_4180 }
+    requires { writer_setup writer.old ≡ comma_separated }
     ensures text { OnOk result (Appends
         (text_written W.contents writer.old)
         (text_written W.contents writer.new)
-        (next_sep rfc_4180 (fields_written writer.old) ++ field_text rfc_4180 field.now)) }
-    ensures setup { OnOk result (writer_setup writer.new ≡ rfc_4180) }
+        (next_sep comma_separated (fields_written writer.old) ++ field_text comma_separated field.now)) }
+    ensures setup { OnOk result (writer_setup writer.new ≡ comma_separated) }
     ensures count { OnOk result
         (fields_written writer.new ≡ min (fields_written writer.old + 1) (2 ^ 64 - 1)) }
     ensures wrote { OnOk result (has_written writer.old ≡ false
-        → has_written writer.new ≡ not (length (field_text rfc_4180 field.now) == 0)) }
+        → has_written writer.new ≡ not (length (field_text comma_separated field.now) == 0)) }
     ensures stays { OnOk result (has_written writer.old ≡ true → has_written writer.new ≡ true) }
 {
     writer.write_field(field).or(Err(Memory))

@@ -1,9 +1,8 @@
 -- One more field is written, and what tells a blank row is known of those so far.
-use Rattle.std.proofs.Common.{◌≡◌, ◌==◌, ◌||◌, ◌&&◌, ◌+◌, ◌≤◌, ◌-◌, ◌^◌, ◌<◌, List, ℕ, [], ◌∷◌, length, take, get_or, not, min, refl, sym, subst, ap, ◌∙◌, arith, rules}
-use Rattle.std.specs.Io.KnownBytes.{Appends}
-use Rattle.csv.specs.Writing.{has_written, is_blank, row_body, text_written}
-use Rattle.csv.proofs.WriteFacts.{appends-more, appends-none, blank-step, row-final, row-step}
-use Rattle.csv_table.specs.Tables.{rfc_4180}
+use Rattle.std.proofs.Common.{◌≡◌, ◌+◌, ◌≤◌, ◌-◌, ◌^◌, List, ℕ, [], get_or, refl, sym, ◌∙◌, arith, rules}
+use Rattle.csv.specs.Writing.{has_written, is_blank}
+use Rattle.csv.proofs.WriteFacts.{appends-more, appends-none, blank-step, row-step}
+use Rattle.csv_table.specs.Tables.{comma_separated}
 use Rattle.std.proofs.lemmas.List.{get_or_default}
 use Rattle.csv_table.proofs.rows.push_row.Goals as goal
 
@@ -28,10 +27,10 @@ loop-cell-preserved g c =
     record {
       setup = e.setup;
       text =
-          rw (row-step rfc_4180 cells i c.loop-cell-test.true, at)
+          rw (row-step comma_separated cells i c.loop-cell-test.true, at)
           (appends-more _ _ _ _ _ inv.text (rw inv.fields at e.text));
       fields = e.count ∙ rw inv.fields (omega (arith, few));
       blank =
-          blank-step rfc_4180 cells i (has_written c.loop-cell.writer) (has_written c.push_field.new.writer) c.loop-cell-test.true inv.blank
+          blank-step comma_separated cells i (has_written c.loop-cell.writer) (has_written c.push_field.new.writer) c.loop-cell-test.true inv.blank
           (λ w. rw at (e.wrote w)) e.stays;
     }
