@@ -1,10 +1,8 @@
 -- The answers to arrivals are read exactly from their texts, which are of bytes of words.
-use Rattle.std.proofs.Common.{◌≡◌, ℕ, true, ◌&&◌, List, ◌∷◌, ◌++◌, Option, Some, None, refl, sym, ap, ◌∙◌, append_assoc}
+use Rattle.std.proofs.Common.{◌≡◌, ℕ, true, ◌&&◌, List, ◌∷◌, ◌++◌, Some, refl, sym, ap, ◌∙◌, append_assoc}
 use Rattle.std.specs.Prelude.{codes, decimal, option_map}
-use Rattle.std.specs.Str.{bytes_eq}
 use Rattle.std.specs.List.{list_all}
-use Rattle.std.proofs.lemmas.Bool.{and_parts, leb-true}
-use Rattle.slot_core.specs.declared.TheConstants.{NUMBER_LIMIT}
+use Rattle.std.proofs.lemmas.Bool.{and_parts}
 use Rattle.slot_core.specs.declared.jobs.Evidence.{Evidence}
 use Rattle.slot_core.specs.declared.events.Soft.{Soft as SoftAnswer}
 use Rattle.slot_core.specs.declared.events.Soft.TheVariants.{Taken as SoftTaken, Full}
@@ -20,11 +18,11 @@ use Rattle.slot_core.specs.Output.Texts.{worded, soft_text, firm_text, sporadic_
 use Rattle.key_texts.specs.KeyTexts.{cut_at}
 use Rattle.key_texts.specs.Numbers.{number_of}
 use Rattle.key_texts.proofs.CutLemmas.{cut_at-Some, cut_at-append}
-use Rattle.key_texts.proofs.KeyLemmas.{step, digits_lack}
+use Rattle.key_texts.proofs.KeyLemmas.{step}
 use Rattle.key_texts.proofs.PlaceLemmas.{Some_same}
 use Rattle.trace_lines.specs.Ranges.{number_fits, soft_fits, firm_fits, sporadic_fits, done_fits, gone_fits}
 use Rattle.trace_lines.specs.Readings.{soft_answer, no_room, firm_answer, sporadic_answer, done_answer, gone_answer, number_after}
-use Rattle.trace_lines.proofs.ByteLemmas.{all-append, decimal-keys, is_word_byte, keys-words}
+use Rattle.trace_lines.proofs.ByteLemmas.{all-append, is_word_byte}
 use Rattle.trace_lines.proofs.Choices.{all_three, by_map, by_word}
 use Rattle.trace_lines.proofs.NumberReads.{IsExact, numbers, numbers_after, number-lacks, number-words}
 

@@ -1,17 +1,15 @@
 -- A key is read exactly from its text.
-use Rattle.std.proofs.Common.{◌≡◌, ℕ, true, false, ◌&&◌, List, [], ◌∷◌, ◌++◌, Option, Some, None, refl, sym, ap, ◌∙◌, arith}
+use Rattle.std.proofs.Common.{◌≡◌, ℕ, true, ◌&&◌, List, ◌∷◌, ◌++◌, Some, refl, ◌∙◌, arith}
 use Rattle.std.specs.Prelude.{codes, decimal}
-use Rattle.std.specs.Char.{is_ascii_digit}
 use Rattle.std.specs.List.{list_all}
 use Rattle.std.proofs.lemmas.Bool.{and_parts, and_from, leb-true}
 use Rattle.slot_core.specs.declared.TheConstants.{ARRIVAL_LIMIT, NUMBER_LIMIT}
 use Rattle.slot_core.specs.Sets.Names.{is_name}
-use Rattle.slot_core.specs.Sets.Ranges.{is_between}
 use Rattle.slot_facts.proofs.Sets.Ranges.{bounds}
 use Rattle.key_texts.specs.KeyTexts.{cut_at}
 use Rattle.key_texts.specs.Numbers.{number_of, row_number}
 use Rattle.key_texts.proofs.CutLemmas.{Lacks, Lacks-from_all, cut_at-Some, cut_at-append, cut_at-lacks}
-use Rattle.key_texts.proofs.KeyLemmas.{step, digits_lack, name_lacks, row_lacks, Lacks-append}
+use Rattle.key_texts.proofs.KeyLemmas.{step, name_lacks, row_lacks, Lacks-append}
 use Rattle.key_texts.proofs.PlaceLemmas.{Some_same}
 use Rattle.trace_lines.specs.declared.line.KeyName.{KeyName}
 use Rattle.trace_lines.specs.declared.line.KeyName.TheVariants.{Offline, Sporadic as SporadicKey, Firm as FirmKey, Soft as SoftKey}

@@ -7,5 +7,7 @@ pub mod WordReads
 pub mod SpanReads
 pub mod LineReads
 pub mod TraceReads
+pub mod PartReads
+pub mod PartRuns
 pub mod NamedLines
 pub mod LineMoves

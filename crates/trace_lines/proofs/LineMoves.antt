@@ -8,7 +8,7 @@ use Rattle.trace_lines.specs.declared.line.Words.{Words}
 use Rattle.trace_lines.specs.declared.line.Words.TheVariants.{Start, Soft, Firm, Sporadic, Done, Withdraw, Run, Idle, End}
 use Rattle.trace_lines.specs.declared.line.TraceLine.{TraceLine}
 use Rattle.trace_lines.specs.declared.trace.Reached.{Reached}
-use Rattle.trace_lines.specs.declared.trace.Reached.TheVariants.{Nothing, Slot as AtSlot, End as AtEnd}
+use Rattle.trace_lines.specs.declared.trace.Reached.TheVariants.{Slot as AtSlot, End as AtEnd}
 use Rattle.trace_lines.specs.Traces.{AreTrace, Leads, reached_after, reached_by, reached_by_start, run_at, runs_of, time_of_last}
 
 -- a line runs a job, and then its slot is over; or it runs none, and time does not go back

@@ -1,11 +1,10 @@
 -- A line is read exactly from its text.
-use Rattle.std.proofs.Common.{◌≡◌, ◌≢◌, ℕ, zero, suc, ◌+◌, ◌-◌, ◌≤◌, ◌<◌, ◌==◌, Bool, true, false, ◌&&◌, nat_le, nat_lt, List, [], ◌∷◌, ◌++◌, length, Option, Some, None, refl, sym, ap, subst, ◌∙◌, inl, inr, arith, append_assoc}
-use Rattle.std.specs.Prelude.{codes, decimal, option_map, if◌then◌else◌, ⊤}
+use Rattle.std.proofs.Common.{◌≡◌, ◌≢◌, ℕ, zero, suc, ◌==◌, true, ◌&&◌, nat_lt, List, [], ◌∷◌, ◌++◌, length, Option, Some, None, refl, sym, ap, subst, ◌∙◌, inl, inr, arith}
+use Rattle.std.specs.Prelude.{codes, decimal, option_map, if◌then◌else◌}
 use Rattle.std.specs.Borrow.{Bor}
-use Rattle.std.specs.List.{list_all, list_any}
+use Rattle.std.specs.List.{list_all}
 use Rattle.std.specs.Option.{MatchOption}
-use Rattle.std.specs.Str.{bytes_eq}
-use Rattle.std.proofs.lemmas.Bool.{and_parts, and_from, cases_Bool, cases_lt, eqb-true, eq-eqb, leb-true, le-leb, lt-ltb, ltb-true}
+use Rattle.std.proofs.lemmas.Bool.{and_parts, and_from, cases_Bool, eqb-true, leb-true, le-leb, lt-ltb, ltb-true}
 use Rattle.std.proofs.lemmas.Bool.Decides.{nat_tests}
 use Rattle.slot_core.specs.declared.TheConstants.{NUMBER_LIMIT, SHOWN_LIMIT}
 use Rattle.slot_core.specs.Sets.Ranges.{is_between}
@@ -21,12 +20,12 @@ use Rattle.trace_lines.specs.declared.line.TraceLine.{TraceLine}
 use Rattle.trace_lines.specs.declared.line.Words.{Words}
 use Rattle.trace_lines.specs.declared.line.Words.TheVariants.{Start, Soft, Firm, Sporadic, Done, Withdraw, Run, Idle, End}
 use Rattle.trace_lines.specs.Ranges.{number_fits, line_fits, span_fits, spans_fit, words_fit}
-use Rattle.trace_lines.specs.Readings.{after_space, before_space, end_line, line_at, line_of, more_of, shown_and_more, shown_line, spans_within, told_and_shown, words_of}
+use Rattle.trace_lines.specs.Readings.{after_space, before_space, line_at, line_of, more_of, shown_and_more, shown_line, spans_within, told_and_shown, words_of}
 use Rattle.trace_lines.specs.Texts.{line_text, shown_text, spaced, spans_text, told_text, words_text}
 use Rattle.trace_lines.proofs.ByteLemmas.{is_word_byte}
 use Rattle.trace_lines.proofs.Choices.{by_map, by_word}
 use Rattle.trace_lines.proofs.NumberReads.{numbers, number-lacks}
-use Rattle.trace_lines.proofs.SpanReads.{AreFew, spans_text-bytes, spans_within-from, spans_within-to}
+use Rattle.trace_lines.proofs.SpanReads.{spans_text-bytes, spans_within-from, spans_within-to}
 use Rattle.trace_lines.proofs.WordReads.{IsNoEnd, words_of-from, words_of-to, words_text-bytes}
 
 -- what stands before a space at the end

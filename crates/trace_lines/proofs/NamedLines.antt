@@ -1,5 +1,5 @@
 -- The line of an entry is the text of the line with the names put in.
-use Rattle.std.proofs.Common.{◌≡◌, ◌≢◌, ℕ, true, false, nat_lt, List, [], ◌∷◌, ◌++◌, refl, sym, ap, ◌∙◌, inl, inr, append_assoc}
+use Rattle.std.proofs.Common.{◌≡◌, ◌≢◌, ℕ, nat_lt, List, [], ◌∷◌, ◌++◌, refl, sym, ap, ◌∙◌, inl, inr, append_assoc}
 use Rattle.std.proofs.lemmas.List.{append-nil}
 use Rattle.std.specs.Prelude.{◌⊎◌, codes, decimal, flat_map, map, if◌then◌else◌}
 use Rattle.std.specs.Fmt.{signed_decimal}
@@ -7,17 +7,14 @@ use Rattle.std.proofs.lemmas.Bool.{cases_Bool}
 use Rattle.slot_core.specs.declared.jobs.Key.{Key}
 use Rattle.slot_core.specs.declared.jobs.Key.TheVariants.{Offline, Sporadic as SporadicKey, Firm as FirmKey, Soft as SoftKey}
 use Rattle.slot_core.specs.declared.jobs.Span.{Span}
-use Rattle.slot_core.specs.declared.events.Entry.{Entry}
 use Rattle.slot_core.specs.declared.events.What.{What}
 use Rattle.slot_core.specs.declared.events.What.TheVariants.{Start, Soft, Firm, Sporadic as SporadicEntry, Done, Withdraw, Run, Idle, End}
 use Rattle.slot_core.specs.declared.tasks.TaskSet.{TaskSet}
-use Rattle.slot_core.specs.Runs.ShownSpans.{ShownSpans}
-use Rattle.slot_core.specs.Output.Texts.{entry_line, graph_name, task_name, sporadic_name, key_text as core_key_text, what_text, span_text as core_span_text, shown_text as core_shown_text, spans_text as tail_text, worded, soft_text, firm_text, sporadic_text, done_text, gone_text}
+use Rattle.slot_core.specs.Output.Texts.{entry_line, graph_name, task_name, sporadic_name, key_text as core_key_text, what_text, span_text as core_span_text, shown_text as core_shown_text, soft_text, firm_text, sporadic_text, done_text, gone_text}
 use Rattle.key_texts.proofs.KeyLemmas.{offline_text}
-use Rattle.trace_lines.specs.declared.line.ShownSpan.{ShownSpan}
-use Rattle.trace_lines.specs.Laws.{EntriesAreLines, ShowsSpan}
+use Rattle.trace_lines.specs.Laws.{EntriesAreLines}
 use Rattle.trace_lines.specs.Named.{named_key, named_line, named_words, shown_span}
-use Rattle.trace_lines.specs.Texts.{key_text, line_text, shown_text, spaced, span_text, spans_text, told_text, words_text}
+use Rattle.trace_lines.specs.Texts.{key_text, line_text, shown_text, spaced, span_text, spans_text, words_text}
 
 -- texts around separators, grouped to the left and to the right
 dash_and_colon : (start end spare : List ℕ) → start ++ codes "-" ++ end ++ codes ":" ++ spare ≡ (start ++ 45 ∷ end) ++ 58 ∷ spare

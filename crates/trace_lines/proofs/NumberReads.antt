@@ -1,7 +1,6 @@
 -- A reader of a kind of value and its writer belong together: it reads exactly their texts.
-use Rattle.std.proofs.Common.{◌≡◌, ℕ, Bool, true, List, ◌++◌, ◌∷◌, Option, Some, refl, sym, ap, ◌∙◌, inl, inr, arith}
+use Rattle.std.proofs.Common.{◌≡◌, ℕ, Bool, true, List, Option, Some, refl, ◌∙◌, inl, inr, arith}
 use Rattle.std.specs.Prelude.{decimal}
-use Rattle.std.specs.Str.{bytes_eq}
 use Rattle.std.proofs.lemmas.Bool.{cases_Bool, le-leb, leb-true}
 use Rattle.slot_core.specs.declared.TheConstants.{ARRIVAL_LIMIT, NUMBER_LIMIT}
 use Rattle.slot_core.specs.Output.Texts.{worded}

@@ -1,6 +1,6 @@
 -- Spans are read exactly from their texts.
-use Rattle.std.proofs.Common.{◌≡◌, ◌≢◌, ℕ, zero, suc, ◌+◌, ◌-◌, ◌≤◌, ◌<◌, ◌==◌, true, false, ◌&&◌, List, [], ◌∷◌, ◌++◌, length, Option, Some, None, refl, sym, ap, ◌∙◌, inl, inr, arith, append_assoc}
-use Rattle.std.specs.Prelude.{ℤ, pos, negsuc, decimal, option_map, if◌then◌else◌}
+use Rattle.std.proofs.Common.{◌≡◌, ℕ, zero, suc, ◌+◌, ◌-◌, ◌≤◌, ◌<◌, ◌==◌, true, ◌&&◌, List, [], ◌∷◌, ◌++◌, length, Option, Some, None, refl, sym, ap, ◌∙◌, inl, inr, arith, append_assoc}
+use Rattle.std.specs.Prelude.{ℤ, pos, negsuc, decimal, option_map}
 use Rattle.std.specs.Fmt.{signed_decimal}
 use Rattle.std.specs.List.{list_all, list_any}
 use Rattle.std.proofs.lemmas.Bool.{and_parts, and_from, cases_Bool, eqb-true, leb-true, le-leb, or_parts}
@@ -17,7 +17,7 @@ use Rattle.key_texts.proofs.PlaceLemmas.{Some_same}
 use Rattle.trace_lines.specs.declared.line.ShownSpan.{ShownSpan}
 use Rattle.trace_lines.specs.Ranges.{number_fits, signed_number_fits, span_fits}
 use Rattle.trace_lines.specs.Readings.{signed_number, span_of, spans_cut, spans_within}
-use Rattle.trace_lines.specs.Texts.{spaced, span_text, spans_text}
+use Rattle.trace_lines.specs.Texts.{span_text, spans_text}
 use Rattle.trace_lines.proofs.ByteLemmas.{all-append, decimal-keys, is_key_byte, is_word_byte, keys-words}
 use Rattle.trace_lines.proofs.Choices.{all_three, by_map}
 use Rattle.trace_lines.proofs.NumberReads.{IsExact, numbers}

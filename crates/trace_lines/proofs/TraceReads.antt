@@ -1,6 +1,5 @@
 -- The text of a trace is read line by line.
-use Rattle.std.proofs.Common.{◌≡◌, ◌≢◌, ℕ, ◌+◌, ◌≤◌, ◌<◌, Bool, true, false, nat_lt, List, [], ◌∷◌, ◌++◌, length, Option, Some, None, refl, sym, ap, subst, ◌∙◌, inl, inr, arith, append_assoc}
-use Rattle.std.specs.Prelude.{flat_map, if◌then◌else◌}
+use Rattle.std.proofs.Common.{◌≡◌, ◌≢◌, ℕ, ◌+◌, ◌≤◌, true, false, nat_lt, List, [], ◌∷◌, ◌++◌, length, Some, None, refl, sym, ap, subst, ◌∙◌, inl, inr, arith, append_assoc}
 use Rattle.std.proofs.lemmas.Bool.{cases_Bool}
 use Rattle.std.proofs.lemmas.Bool.Decides.{nat_tests}
 use Rattle.std.proofs.lemmas.Grind.{flat_map-append}
@@ -10,9 +9,9 @@ use Rattle.key_texts.proofs.PlaceLemmas.{Some_same}
 use Rattle.trace_lines.specs.declared.TheConstants.{READ_LINE_LIMIT}
 use Rattle.trace_lines.specs.declared.line.TraceLine.{TraceLine}
 use Rattle.trace_lines.specs.declared.trace.Reached.{Reached}
-use Rattle.trace_lines.specs.declared.trace.Reached.TheVariants.{Nothing, Slot as AtSlot, End as AtEnd}
+use Rattle.trace_lines.specs.declared.trace.Reached.TheVariants.{Nothing, End as AtEnd}
 use Rattle.trace_lines.specs.Ranges.{line_fits}
-use Rattle.trace_lines.specs.Readings.{line_of, short_line}
+use Rattle.trace_lines.specs.Readings.{short_line}
 use Rattle.trace_lines.specs.Texts.{line_text, lines_text}
 use Rattle.trace_lines.specs.Traces.{Breaks, follows, IsRead, Leads, MayStand, reached_after}
 use Rattle.trace_lines.proofs.LineReads.{line_of-from, line_of-to, line_text-lacks}

@@ -1,28 +1,21 @@
 -- What a line tells is read exactly from its words, which are of bytes of words.
-use Rattle.std.proofs.Common.{◌≡◌, ℕ, true, false, ◌&&◌, List, ◌∷◌, ◌++◌, Option, Some, None, refl, sym, ap, ◌∙◌}
-use Rattle.std.specs.Prelude.{codes, decimal, option_map, if◌then◌else◌, ⊤}
+use Rattle.std.proofs.Common.{◌≡◌, ℕ, true, false, ◌&&◌, List, ◌∷◌, Some, refl, ◌∙◌}
+use Rattle.std.specs.Prelude.{codes, decimal, ⊤}
 use Rattle.std.specs.Str.{bytes_eq}
 use Rattle.std.specs.List.{list_all}
-use Rattle.std.proofs.lemmas.Bool.{and_parts, false≢true}
-use Rattle.slot_core.specs.declared.events.Soft.{Soft as SoftAnswer}
-use Rattle.slot_core.specs.declared.events.Firm.{Firm as FirmAnswer}
-use Rattle.slot_core.specs.declared.events.Spo.{Spo}
-use Rattle.slot_core.specs.declared.events.Done.{Done as DoneAnswer}
-use Rattle.slot_core.specs.declared.events.Gone.{Gone}
+use Rattle.std.proofs.lemmas.Bool.{and_parts}
 use Rattle.slot_core.specs.Output.Texts.{soft_text, firm_text, sporadic_text, done_text, gone_text}
 use Rattle.slot_core.specs.Sets.Names.{is_name}
 use Rattle.key_texts.specs.KeyTexts.{cut_at}
 use Rattle.key_texts.specs.Numbers.{number_of, row_number}
-use Rattle.key_texts.specs.Options.{◌>>=◌}
 use Rattle.key_texts.proofs.CutLemmas.{Lacks, cut_at-Some, cut_at-append}
 use Rattle.key_texts.proofs.KeyLemmas.{step, name_lacks}
 use Rattle.key_texts.proofs.PlaceLemmas.{Some_same}
-use Rattle.trace_lines.specs.declared.line.KeyName.{KeyName}
 use Rattle.trace_lines.specs.declared.line.KeyName.TheVariants.{Firm as FirmKey}
 use Rattle.trace_lines.specs.declared.line.Words.{Words}
 use Rattle.trace_lines.specs.declared.line.Words.TheVariants.{Start, Soft, Firm, Sporadic, Done, Withdraw, Run, Idle, End}
 use Rattle.trace_lines.specs.Ranges.{number_fits, is_row, key_fits, soft_fits, firm_fits, sporadic_fits, done_fits, gone_fits, words_fit}
-use Rattle.trace_lines.specs.Readings.{arrival_words, done_answer, done_words, firm_answer, firm_row, firm_words, gone_answer, key_named, longer_words, name_of, soft_answer, soft_words, sporadic_answer, sporadic_words, withdraw_words, worded_arrival, worded_words, words_of}
+use Rattle.trace_lines.specs.Readings.{arrival_words, done_answer, done_words, firm_answer, firm_row, firm_words, gone_answer, key_named, longer_words, name_of, soft_answer, soft_words, sporadic_answer, sporadic_words, withdraw_words, worded_arrival, words_of}
 use Rattle.trace_lines.specs.Texts.{arrival_text, key_text, spaced, words_text}
 use Rattle.trace_lines.proofs.AnswerReads.{soft_answers, firm_answers, sporadic_answers, done_answers, gone_answers, soft_text-bytes, firm_text-bytes, sporadic_text-bytes, done_text-bytes, gone_text-bytes}
 use Rattle.trace_lines.proofs.ByteLemmas.{all-append, is_word_byte, keys-words, name-keys}

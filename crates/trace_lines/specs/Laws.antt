@@ -1,7 +1,5 @@
 -- What the lines of this crate have to do with the entries of a trace.
-use Rattle.std.specs.Prelude.{◌≡◌, ◌≢◌, ◌⊎◌, ℕ, true, List, [], ◌∷◌, ◌++◌}
-use Rattle.slot_core.specs.declared.jobs.Key.{Key}
-use Rattle.slot_core.specs.declared.jobs.Span.{Span}
+use Rattle.std.specs.Prelude.{◌≡◌, ◌≢◌, ◌⊎◌, [], ◌∷◌, ◌++◌}
 use Rattle.slot_core.specs.declared.events.Entry.{Entry}
 use Rattle.slot_core.specs.declared.events.What.TheVariants.{End}
 use Rattle.slot_core.specs.declared.tasks.TaskSet.{TaskSet}

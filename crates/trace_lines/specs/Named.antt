@@ -1,5 +1,5 @@
 -- The lines of the entries of a trace, with the names of the task set put in.
-use Rattle.std.specs.Prelude.{ℕ, List, [], ◌∷◌, map}
+use Rattle.std.specs.Prelude.{map}
 use Rattle.slot_core.specs.declared.jobs.Key.{Key}
 use Rattle.slot_core.specs.declared.jobs.Key.TheVariants.{Offline, Sporadic as SporadicKey, Firm as FirmKey, Soft as SoftKey}
 use Rattle.slot_core.specs.declared.jobs.Span.{Span}

@@ -1,5 +1,5 @@
 -- The numbers and names that a line of a trace may have.
-use Rattle.std.specs.Prelude.{ℕ, ℤ, pos, negsuc, suc, Bool, true, ◌&&◌, ◌==◌, List, [], ◌∷◌, length, nat_le}
+use Rattle.std.specs.Prelude.{ℕ, ℤ, pos, negsuc, suc, Bool, true, ◌&&◌, ◌==◌, List, length, nat_le}
 use Rattle.std.specs.List.{list_all}
 use Rattle.slot_core.specs.declared.TheConstants.{ARRIVAL_LIMIT, NUMBER_LIMIT, SHOWN_LIMIT}
 use Rattle.slot_core.specs.declared.events.Soft.{Soft as SoftAnswer}

@@ -1,7 +1,7 @@
 -- The texts of the lines of a trace, with the names that stand in them.
 use Rattle.std.specs.Prelude.{ℕ, List, [], ◌∷◌, ◌++◌, codes, decimal, flat_map, nat_lt, if◌then◌else◌}
 use Rattle.std.specs.Fmt.{signed_decimal}
-use Rattle.slot_core.specs.Output.Texts.{worded, soft_text, firm_text, sporadic_text, done_text, gone_text}
+use Rattle.slot_core.specs.Output.Texts.{soft_text, firm_text, sporadic_text, done_text, gone_text}
 use Rattle.trace_lines.specs.declared.line.KeyName.{KeyName}
 use Rattle.trace_lines.specs.declared.line.KeyName.TheVariants.{Offline, Sporadic as SporadicKey, Firm as FirmKey, Soft as SoftKey}
 use Rattle.trace_lines.specs.declared.line.Words.{Words}

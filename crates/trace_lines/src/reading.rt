@@ -34,7 +34,7 @@ fn read_line(bytes: &[u8]) -> Option<TraceLine>
 }
 
 /// The line of the end, which shows no spans.
-fn end_line(time: u32) -> TraceLine
+pub(crate) fn end_line(time: u32) -> TraceLine
     ensures { result ≡ end_line time }
 {
     TraceLine {

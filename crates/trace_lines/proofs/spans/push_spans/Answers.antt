@@ -1,4 +1,4 @@
-use Rattle.std.proofs.Common.{rules, ◌≡◌, ◌<◌, ◌-◌, ◌+◌, [], ◌∷◌, ◌++◌, List, Some, None, sym, ap, ◌∙◌, arith, length}
+use Rattle.std.proofs.Common.{rules, ◌≡◌, ◌-◌, ◌+◌, [], ◌∷◌, ◌++◌, List, Some, None, sym, ap, ◌∙◌, arith}
 use Rattle.std.proofs.lemmas.Grind.{common_steps}
 use Rattle.slot_core.specs.declared.TheConstants.{SHOWN_LIMIT}
 use Rattle.key_texts.specs.KeyTexts.{cut_at}
