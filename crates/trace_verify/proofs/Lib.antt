@@ -6,6 +6,7 @@ pub mod DueFacts
 pub mod FirstSpans
 pub mod FittingOccurrences
 pub mod FromVerdict
+pub mod FrontFacts
 pub mod JobDues
 pub mod JobEdits
 pub mod LackFacts

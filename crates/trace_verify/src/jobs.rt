@@ -18,6 +18,7 @@ ghost use Rattle.trace_verify.specs.Dues.{AreDues};
 ghost use Rattle.trace_verify.specs.Lacks.{lack};
 
 use crate::dues::Dues;
+use crate::front::Front;
 use slot_core::{Job, Key, Memory, Task, TaskSet};
 use std::alloc::Global;
 use std::marker::Model;
@@ -25,7 +26,7 @@ use std::marker::Model;
 /// Remaining jobs, with the slots due at each time, which are those left of the jobs.
 #[derive(Drop)]
 pub(crate) struct JobList {
-    jobs: Vec<Job>,
+    jobs: Front<Job>,
     dues: Dues,
 }
 
@@ -36,9 +37,9 @@ impl Model for JobList {
 
     ghost Value = { List Job };
 
-    ghost view = { λ l. l.jobs.items };
+    ghost view = { λ l. l.jobs };
 
-    ghost invariant = { λ l. AreDues l.dues l.jobs.items };
+    ghost invariant = { λ l. AreDues l.dues l.jobs };
 }
 
 impl JobList {
@@ -47,7 +48,7 @@ impl JobList {
         ensures { result ≡ [] }
     {
         JobList {
-            jobs: Vec::new(alloc),
+            jobs: Front::new(alloc),
             dues: Dues::new(alloc),
         }
     }
@@ -56,7 +57,7 @@ impl JobList {
     pub(crate) fn items(&self) -> &[Job]
         ensures { result.now ≡ self.now }
     {
-        &self.jobs
+        self.jobs.items()
     }
 
     /// Puts a job behind the others.
@@ -76,7 +77,7 @@ impl JobList {
         ensures inserted { OnOk result (self.new ≡ with_job job self.old) }
         ensures stays { OnErr result (self.new ≡ self.old) }
     {
-        let place = place_for(&self.jobs, &job);
+        let place = place_for(self.jobs.items(), &job);
         insert_at(&mut self.jobs, &mut self.dues, place, job)?;
         Ok(())
     }
@@ -87,7 +88,7 @@ impl JobList {
         requires some { All (λ (j : Job). 1 ≤ j.left) self.old }
         ensures { self.new ≡ after_run key self.old }
     {
-        run_due(&mut self.dues, &self.jobs, key);
+        run_due(&mut self.dues, self.jobs.items(), key);
         run_job(&mut self.jobs, key);
     }
 
@@ -122,13 +123,13 @@ impl JobList {
 }
 
 /// Puts a job at a place.
-fn insert_at(jobs: &mut Vec<Job>, dues: &mut Dues, place: usize, job: Job) -> Result<(), Memory>
-    requires dues { AreDues dues.old jobs.old.items }
-    requires within { place ≤ length jobs.old.items }
-    requires small { sum_by (λ (j : Job). j.left) jobs.old.items ≤ 2 ^ 40 }
-    ensures dues { AreDues dues.new jobs.new.items }
-    ensures inserted { OnOk result (jobs.new.items ≡ insert jobs.old.items place job) }
-    ensures stays { OnErr result (jobs.new.items ≡ jobs.old.items) }
+fn insert_at(jobs: &mut Front<Job>, dues: &mut Dues, place: usize, job: Job) -> Result<(), Memory>
+    requires dues { AreDues dues.old jobs.old }
+    requires within { place ≤ length jobs.old }
+    requires small { sum_by (λ (j : Job). j.left) jobs.old ≤ 2 ^ 40 }
+    ensures dues { AreDues dues.new jobs.new }
+    ensures inserted { OnOk result (jobs.new ≡ insert jobs.old place job) }
+    ensures stays { OnErr result (jobs.new ≡ jobs.old) }
 {
     dues.add(job.dl, job.left)?;
     match put_job(jobs, place, job) {
@@ -141,10 +142,10 @@ fn insert_at(jobs: &mut Vec<Job>, dues: &mut Dues, place: usize, job: Job) -> Re
 }
 
 /// Puts a job at a place of the list.
-fn put_job(jobs: &mut Vec<Job>, place: usize, job: Job) -> Result<(), Memory>
-    requires { place ≤ length jobs.old.items }
-    ensures inserted { OnOk result (jobs.new.items ≡ insert jobs.old.items place job) }
-    ensures stays { OnErr result (jobs.new.items ≡ jobs.old.items) }
+fn put_job(jobs: &mut Front<Job>, place: usize, job: Job) -> Result<(), Memory>
+    requires { place ≤ length jobs.old }
+    ensures inserted { OnOk result (jobs.new ≡ insert jobs.old place job) }
+    ensures stays { OnErr result (jobs.new ≡ jobs.old) }
 {
     jobs.insert(place, job)?;
     Ok(())
@@ -163,12 +164,12 @@ fn run_due(dues: &mut Dues, jobs: &[Job], key: Key)
 }
 
 /// The jobs of this key go.
-fn remove_all(jobs: &mut Vec<Job>, dues: &mut Dues, key: Key)
-    requires { AreDues dues.old jobs.old.items }
-    ensures dues { AreDues dues.new jobs.new.items }
-    ensures jobs { jobs.new.items ≡ filter (λ (j : Job). not (same_key j.key key)) jobs.old.items }
+fn remove_all(jobs: &mut Front<Job>, dues: &mut Dues, key: Key)
+    requires { AreDues dues.old jobs.old }
+    ensures dues { AreDues dues.new jobs.new }
+    ensures jobs { jobs.new ≡ filter (λ (j : Job). not (same_key j.key key)) jobs.old }
 {
-    while let Some(place) = place_of(jobs, key) {
+    while let Some(place) = place_of(jobs.items(), key) {
         let job = jobs.remove(place);
         dues.take(job.dl, job.left);
     }
@@ -301,17 +302,29 @@ fn afters(tasks: &[Task], task: u16) -> &[u16]
 }
 
 /// One slot of the job of this key has run: it goes where that was its last one.
-fn run_job(jobs: &mut Vec<Job>, key: Key)
-    requires apart { AreApart jobs.old.items }
-    requires some { All (λ (j : Job). 1 ≤ j.left) jobs.old.items }
-    ensures { jobs.new.items ≡ after_run key jobs.old.items }
+fn run_job(jobs: &mut Front<Job>, key: Key)
+    requires apart { AreApart jobs.old }
+    requires some { All (λ (j : Job). 1 ≤ j.left) jobs.old }
+    ensures { jobs.new ≡ after_run key jobs.old }
 {
-    if let Some(place) = place_of(jobs, key) {
-        if jobs[place].left > 1 {
-            jobs[place].left -= 1;
+    if let Some(place) = place_of(jobs.items(), key) {
+        let job = jobs.items()[place];
+        if job.left > 1 {
+            jobs.set(place, one_less(job));
         } else {
-            jobs.remove(place);
+            let _ended = jobs.remove(place);
         }
+    }
+}
+
+/// The job with a slot less.
+fn one_less(job: Job) -> Job
+    requires { 1 ≤ job.left }
+    ensures { result ≡ record job { left = job.left - 1 } }
+{
+    Job {
+        left: job.left - 1,
+        ..job
     }
 }
 
