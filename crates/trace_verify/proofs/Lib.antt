@@ -3,6 +3,7 @@ pub mod CheckerAnswers
 pub mod CheckerSlots
 pub mod CycleParts
 pub mod DueFacts
+pub mod DueInOrder
 pub mod FirstSpans
 pub mod FittingOccurrences
 pub mod FromVerdict

@@ -18,7 +18,7 @@ ghost use Rattle.slot_core.specs.Runs.Matches.{IsSameScene};
 ghost use Rattle.slot_core.specs.Runs.Spans.{shown_of};
 ghost use Rattle.scene_steps.specs.Steps.{after_ran, bare_scene, first_scene, one_slot_later, scene_after, soft_after_slot, with_job, with_next_cycle, without};
 ghost use Rattle.sporadic_reserve.specs.Reserves.{without_name};
-ghost use Rattle.trace_verify.specs.Checked.{IsChecked};
+ghost use Rattle.trace_verify.specs.Checked.{AreDueInOrder, IsChecked};
 ghost use Rattle.trace_verify.specs.Verdicts.{first_late};
 
 use crate::front::Front;
@@ -150,6 +150,7 @@ impl Checker {
 
     /// Whether this may run in the slot.
     pub fn may_run(&self, tasks: &TaskSet, ran: Ran) -> bool
+        requires { AreDueInOrder tasks.now self.now.scene.jobs }
         ensures { result ≡ may_run tasks.now self.now.scene ran }
     {
         match ran {

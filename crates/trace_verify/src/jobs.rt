@@ -1,6 +1,6 @@
 //! Lists of remaining jobs.
 
-ghost use Rattle.std.specs.Prelude.{[], false, true, ◌≡◌, ◌+◌, ◌-◌, ◌≤◌, ◌<◌, ◌^◌, ◌&&◌, ◌++◌, ◌∷◌, ◌==◌, ℕ, not, filter, find, length, nat_le, nat_lt, position, sum_by, All, OnErr, OnOk};
+ghost use Rattle.std.specs.Prelude.{[], false, true, ◌≡◌, ◌+◌, ◌-◌, ◌≤◌, ◌<◌, ◌^◌, ◌&&◌, ◌++◌, ◌∷◌, ◌==◌, ℕ, not, filter, find, length, nat_le, nat_lt, position, sum_by, take, All, OnErr, OnOk};
 ghost use Rattle.std.specs.List.{insert, list_all, list_any, prefix_len};
 ghost use Rattle.std.specs.Option.{option_map};
 ghost use Rattle.slot_core.specs.declared.jobs.Job.{Job};
@@ -14,6 +14,7 @@ ghost use Rattle.slot_core.specs.Offline.Precedence.{after_of, comes_after};
 ghost use Rattle.slot_core.specs.Offline.Windows.{precedes};
 ghost use Rattle.slot_core.specs.Runs.Choice.{earliest};
 ghost use Rattle.slot_core.specs.Runs.Demand.{work_by};
+ghost use Rattle.trace_verify.specs.Checked.{AreDueInOrder};
 ghost use Rattle.trace_verify.specs.Dues.{AreDues};
 ghost use Rattle.trace_verify.specs.Lacks.{lack};
 
@@ -206,6 +207,8 @@ fn place_for(jobs: &[Job], job: &Job) -> usize
 /// Whether the job of this key remains and may start by this time, and none of its predecessors
 /// remains.
 pub(crate) fn job_may_run(tasks: &TaskSet, time: u64, jobs: &[Job], key: Key) -> bool
+    requires ordered { AreInDeadlineOrder jobs.now }
+    requires in_order { AreDueInOrder tasks.now jobs.now }
     ensures { result
         ≡ (list_any (λ (j : Job). same_key j.key key && nat_le j.est time) jobs.now
         && list_all (λ (j : Job). not (precedes tasks.now j.key key)) jobs.now) }
@@ -227,12 +230,35 @@ fn starts_by(time: u64, job: &Job, key: Key) -> bool
     is_same_key(job.key, key) && job.est <= time
 }
 
-/// Whether no predecessor of the job of this key remains. The jobs are looked at only where its
-/// task lists one.
+/// Whether no predecessor of the job of this key remains. The jobs in front of it are looked at,
+/// where its task lists one.
 fn has_no_predecessor(tasks: &TaskSet, jobs: &[Job], key: Key) -> bool
+    requires ordered { AreInDeadlineOrder jobs.now }
+    requires in_order { AreDueInOrder tasks.now jobs.now }
     ensures { result ≡ list_all (λ (j : Job). not (precedes tasks.now j.key key)) jobs.now }
 {
-    lists_none(tasks, key) || jobs.iter().all(|job| !precedes(tasks, job.key, key))
+    lists_none(tasks, key) || none_before(tasks, jobs, key)
+}
+
+/// Whether none of the jobs in front of that of this key is a predecessor of it.
+fn none_before(tasks: &TaskSet, jobs: &[Job], key: Key) -> bool
+    ensures { result
+        ≡ list_all
+        (λ (j : Job). not (precedes tasks.now j.key key))
+        (take (prefix_len (λ (j : Job). not (same_key j.key key)) jobs.now) jobs.now) }
+{
+    let (before, _others) = jobs.split_at(count_before(jobs, key));
+    before.iter().all(|job| !precedes(tasks, job.key, key))
+}
+
+/// How many jobs stand in front of that of this key.
+fn count_before(jobs: &[Job], key: Key) -> usize
+    ensures count { result ≡ prefix_len (λ (j : Job). not (same_key j.key key)) jobs.now }
+    ensures within { result ≤ length jobs.now }
+{
+    jobs.iter()
+        .take_while(|job| !is_same_key(job.key, key))
+        .count()
 }
 
 /// Whether the task of this key lists no predecessor.
