@@ -25,6 +25,7 @@ use Rattle.scene_steps.proofs.Same.SameScenes.{same_scene-trans}
 use Rattle.trace_verify.specs.Checked.{IsChecked}
 use Rattle.trace_verify.specs.SceneLines.{IsCheckedAfter}
 use Rattle.scene_steps.proofs.Slots.Turns.{scene_after-slot}
+use Rattle.trace_verify.proofs.DueInOrder.{scene-in_order}
 
 -- a scene that is that of a history in which few slots have passed is checked, whatever ran in them
 pub checked-entries : {S : Slots} (set : TaskSet) (h : History) (a : Scene) → is_sound set ≡ true → IsFeasible set (cycle_of set) → Entries S set (cycle_of set) h → IsSameScene a (scene_of set (cycle_of set) h) → time_of h ≤ 2 ^ 32 → last_row h ≤ ARRIVAL_LIMIT → IsChecked set (cycle_of set) a
@@ -37,6 +38,7 @@ checked-entries set h a sound feasible told same early rows =
       small = omega (arith, scene-few set h a sound told same feasible few rows);
       near = scene-near set h a sound told same;
       due = scene-at_points set h a sound told same feasible;
+      in_order = scene-in_order set h a sound feasible told same;
       rising = scene-rising set h a sound told same;
       last = scene-last set h a sound told same feasible;
       one_each = scene-one_each set h a sound told same;

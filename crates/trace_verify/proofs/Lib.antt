@@ -3,9 +3,11 @@ pub mod CheckerAnswers
 pub mod CheckerSlots
 pub mod CycleParts
 pub mod DueFacts
+pub mod DueInOrder
 pub mod FirstSpans
 pub mod FittingOccurrences
 pub mod FromVerdict
+pub mod FrontFacts
 pub mod JobDues
 pub mod JobEdits
 pub mod LackFacts

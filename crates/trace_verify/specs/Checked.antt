@@ -1,9 +1,10 @@
 -- What contracts see of a checker.
-use Rattle.std.specs.Prelude.{◌≡◌, ℕ, ◌≤◌, ◌⊎◌, ◌^◌, List, length, sum_by, All, Contains}
+use Rattle.std.specs.Prelude.{◌≡◌, ℕ, ◌<◌, ◌≤◌, true, ◌⊎◌, ◌^◌, List, length, sum_by, All, Contains}
 use Rattle.slot_core.specs.declared.jobs.Job.{Job}
 use Rattle.slot_core.specs.declared.tasks.Sporadic.{Sporadic}
 use Rattle.slot_core.specs.declared.tasks.TaskSet.{TaskSet}
 use Rattle.slot_core.specs.Keeping.Kept.{AreApart}
+use Rattle.slot_core.specs.Offline.Windows.{precedes}
 use Rattle.slot_core.specs.Runs.Rising.{AreRising, last_point}
 use Rattle.slot_core.specs.Runs.Scenes.{Scene, horizon}
 
@@ -11,6 +12,12 @@ use Rattle.slot_core.specs.Runs.Scenes.{Scene, horizon}
 pub record Checked : Type 0 where
   pub scene : Scene
   pub sporadics : List Sporadic
+
+-- each direct predecessor of one of the jobs is due before it
+abbrev pub AreDueInOrder : TaskSet → List Job → Type 0
+AreDueInOrder set jobs =
+    (before job : Job) → Contains jobs before → Contains jobs job
+    → precedes set before.key job.key ≡ true → before.dl < job.dl
 
 -- what a scene is like after any lines that may be told, with the offline jobs of a plan
 pub record IsChecked (set : TaskSet) (cycle : ℕ) (scene : Scene) : Type 0 where
@@ -24,6 +31,8 @@ pub record IsChecked (set : TaskSet) (cycle : ℕ) (scene : Scene) : Type 0 wher
   pub near : All (λ (j : Job). j.dl ≤ horizon cycle scene.time) scene.jobs
   pub due :
       All (λ (j : Job). (j.dl ≤ scene.time) ⊎ Contains scene.points j.dl) scene.jobs
+  -- a predecessor is due before its successor
+  pub in_order : AreDueInOrder set scene.jobs
   -- the points rise from the time to the horizon
   pub rising : AreRising scene.time scene.points
   pub last : last_point scene.time scene.points ≡ horizon cycle scene.time

@@ -18,9 +18,10 @@ ghost use Rattle.slot_core.specs.Runs.Matches.{IsSameScene};
 ghost use Rattle.slot_core.specs.Runs.Spans.{shown_of};
 ghost use Rattle.scene_steps.specs.Steps.{after_ran, bare_scene, first_scene, one_slot_later, scene_after, soft_after_slot, with_job, with_next_cycle, without};
 ghost use Rattle.sporadic_reserve.specs.Reserves.{without_name};
-ghost use Rattle.trace_verify.specs.Checked.{IsChecked};
+ghost use Rattle.trace_verify.specs.Checked.{AreDueInOrder, IsChecked};
 ghost use Rattle.trace_verify.specs.Verdicts.{first_late};
 
+use crate::front::Front;
 use crate::jobs::{JobList, first_late, job_may_run, left_of, started_left};
 use crate::offers::offer_answer;
 use crate::points::{insert_point, pass_point};
@@ -44,7 +45,7 @@ pub struct Checker {
     jobs: JobList,
     reserve: Reserve,
     soft: Vec<SoftJob>,
-    points: Vec<u64>,
+    points: Front<u64>,
 }
 
 impl Model for Checker {
@@ -59,7 +60,7 @@ impl Model for Checker {
         jobs = c.jobs;
         nexts = c.reserve.nexts;
         soft = c.soft.items;
-        points = c.points.items;
+        points = c.points;
       };
       sporadics = c.reserve.sporadics;
     } };
@@ -107,7 +108,7 @@ impl Checker {
             jobs: JobList::new(alloc),
             reserve: Reserve::new(plan.tasks().sporadics.items()),
             soft: Vec::new(alloc),
-            points: Vec::new(alloc),
+            points: Front::new(alloc),
         }
     }
 
@@ -144,11 +145,12 @@ impl Checker {
         requires checked { IsChecked tasks.now cycle self.now.scene }
         ensures { IfOk result (λ shown. shown ≡ shown_of cycle self.now.scene) }
     {
-        shown(self.alloc, self.at, &self.points, &self.jobs)
+        shown(self.alloc, self.at, self.points.items(), &self.jobs)
     }
 
     /// Whether this may run in the slot.
     pub fn may_run(&self, tasks: &TaskSet, ran: Ran) -> bool
+        requires { AreDueInOrder tasks.now self.now.scene.jobs }
         ensures { result ≡ may_run tasks.now self.now.scene ran }
     {
         match ran {
@@ -430,10 +432,10 @@ fn push_jobs(jobs: &mut JobList, plan: &Plan, n: u64) -> Result<(), Memory>
 }
 
 /// Appends the plan's points of a cycle.
-fn push_points(points: &mut Vec<u64>, plan: &Plan, n: u64) -> Result<(), Memory>
+fn push_points(points: &mut Front<u64>, plan: &Plan, n: u64) -> Result<(), Memory>
     requires { n ≤ CYCLES_LIMIT }
-    ensures { OnOk result (points.new.items
-        ≡ points.old.items ++ map (λ (s : Span). s.end + n * plan.now.cycle) plan.now.spans) }
+    ensures { OnOk result (points.new
+        ≡ points.old ++ map (λ (s : Span). s.end + n * plan.now.cycle) plan.now.spans) }
 {
     let by = n * u64::from(plan.cycle());
     for span in plan.spans() {

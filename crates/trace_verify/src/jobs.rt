@@ -1,6 +1,6 @@
 //! Lists of remaining jobs.
 
-ghost use Rattle.std.specs.Prelude.{[], false, true, ◌≡◌, ◌+◌, ◌-◌, ◌≤◌, ◌<◌, ◌^◌, ◌&&◌, ◌++◌, ◌∷◌, ◌==◌, ℕ, not, filter, find, length, nat_le, nat_lt, position, sum_by, All, OnErr, OnOk};
+ghost use Rattle.std.specs.Prelude.{[], false, true, ◌≡◌, ◌+◌, ◌-◌, ◌≤◌, ◌<◌, ◌^◌, ◌&&◌, ◌++◌, ◌∷◌, ◌==◌, ℕ, not, filter, find, length, nat_le, nat_lt, position, sum_by, take, All, OnErr, OnOk};
 ghost use Rattle.std.specs.List.{insert, list_all, list_any, prefix_len};
 ghost use Rattle.std.specs.Option.{option_map};
 ghost use Rattle.slot_core.specs.declared.jobs.Job.{Job};
@@ -14,10 +14,12 @@ ghost use Rattle.slot_core.specs.Offline.Precedence.{after_of, comes_after};
 ghost use Rattle.slot_core.specs.Offline.Windows.{precedes};
 ghost use Rattle.slot_core.specs.Runs.Choice.{earliest};
 ghost use Rattle.slot_core.specs.Runs.Demand.{work_by};
+ghost use Rattle.trace_verify.specs.Checked.{AreDueInOrder};
 ghost use Rattle.trace_verify.specs.Dues.{AreDues};
 ghost use Rattle.trace_verify.specs.Lacks.{lack};
 
 use crate::dues::Dues;
+use crate::front::Front;
 use slot_core::{Job, Key, Memory, Task, TaskSet};
 use std::alloc::Global;
 use std::marker::Model;
@@ -25,7 +27,7 @@ use std::marker::Model;
 /// Remaining jobs, with the slots due at each time, which are those left of the jobs.
 #[derive(Drop)]
 pub(crate) struct JobList {
-    jobs: Vec<Job>,
+    jobs: Front<Job>,
     dues: Dues,
 }
 
@@ -36,9 +38,9 @@ impl Model for JobList {
 
     ghost Value = { List Job };
 
-    ghost view = { λ l. l.jobs.items };
+    ghost view = { λ l. l.jobs };
 
-    ghost invariant = { λ l. AreDues l.dues l.jobs.items };
+    ghost invariant = { λ l. AreDues l.dues l.jobs };
 }
 
 impl JobList {
@@ -47,7 +49,7 @@ impl JobList {
         ensures { result ≡ [] }
     {
         JobList {
-            jobs: Vec::new(alloc),
+            jobs: Front::new(alloc),
             dues: Dues::new(alloc),
         }
     }
@@ -56,7 +58,7 @@ impl JobList {
     pub(crate) fn items(&self) -> &[Job]
         ensures { result.now ≡ self.now }
     {
-        &self.jobs
+        self.jobs.items()
     }
 
     /// Puts a job behind the others.
@@ -76,7 +78,7 @@ impl JobList {
         ensures inserted { OnOk result (self.new ≡ with_job job self.old) }
         ensures stays { OnErr result (self.new ≡ self.old) }
     {
-        let place = place_for(&self.jobs, &job);
+        let place = place_for(self.jobs.items(), &job);
         insert_at(&mut self.jobs, &mut self.dues, place, job)?;
         Ok(())
     }
@@ -87,7 +89,7 @@ impl JobList {
         requires some { All (λ (j : Job). 1 ≤ j.left) self.old }
         ensures { self.new ≡ after_run key self.old }
     {
-        run_due(&mut self.dues, &self.jobs, key);
+        run_due(&mut self.dues, self.jobs.items(), key);
         run_job(&mut self.jobs, key);
     }
 
@@ -122,13 +124,13 @@ impl JobList {
 }
 
 /// Puts a job at a place.
-fn insert_at(jobs: &mut Vec<Job>, dues: &mut Dues, place: usize, job: Job) -> Result<(), Memory>
-    requires dues { AreDues dues.old jobs.old.items }
-    requires within { place ≤ length jobs.old.items }
-    requires small { sum_by (λ (j : Job). j.left) jobs.old.items ≤ 2 ^ 40 }
-    ensures dues { AreDues dues.new jobs.new.items }
-    ensures inserted { OnOk result (jobs.new.items ≡ insert jobs.old.items place job) }
-    ensures stays { OnErr result (jobs.new.items ≡ jobs.old.items) }
+fn insert_at(jobs: &mut Front<Job>, dues: &mut Dues, place: usize, job: Job) -> Result<(), Memory>
+    requires dues { AreDues dues.old jobs.old }
+    requires within { place ≤ length jobs.old }
+    requires small { sum_by (λ (j : Job). j.left) jobs.old ≤ 2 ^ 40 }
+    ensures dues { AreDues dues.new jobs.new }
+    ensures inserted { OnOk result (jobs.new ≡ insert jobs.old place job) }
+    ensures stays { OnErr result (jobs.new ≡ jobs.old) }
 {
     dues.add(job.dl, job.left)?;
     match put_job(jobs, place, job) {
@@ -141,10 +143,10 @@ fn insert_at(jobs: &mut Vec<Job>, dues: &mut Dues, place: usize, job: Job) -> Re
 }
 
 /// Puts a job at a place of the list.
-fn put_job(jobs: &mut Vec<Job>, place: usize, job: Job) -> Result<(), Memory>
-    requires { place ≤ length jobs.old.items }
-    ensures inserted { OnOk result (jobs.new.items ≡ insert jobs.old.items place job) }
-    ensures stays { OnErr result (jobs.new.items ≡ jobs.old.items) }
+fn put_job(jobs: &mut Front<Job>, place: usize, job: Job) -> Result<(), Memory>
+    requires { place ≤ length jobs.old }
+    ensures inserted { OnOk result (jobs.new ≡ insert jobs.old place job) }
+    ensures stays { OnErr result (jobs.new ≡ jobs.old) }
 {
     jobs.insert(place, job)?;
     Ok(())
@@ -163,12 +165,12 @@ fn run_due(dues: &mut Dues, jobs: &[Job], key: Key)
 }
 
 /// The jobs of this key go.
-fn remove_all(jobs: &mut Vec<Job>, dues: &mut Dues, key: Key)
-    requires { AreDues dues.old jobs.old.items }
-    ensures dues { AreDues dues.new jobs.new.items }
-    ensures jobs { jobs.new.items ≡ filter (λ (j : Job). not (same_key j.key key)) jobs.old.items }
+fn remove_all(jobs: &mut Front<Job>, dues: &mut Dues, key: Key)
+    requires { AreDues dues.old jobs.old }
+    ensures dues { AreDues dues.new jobs.new }
+    ensures jobs { jobs.new ≡ filter (λ (j : Job). not (same_key j.key key)) jobs.old }
 {
-    while let Some(place) = place_of(jobs, key) {
+    while let Some(place) = place_of(jobs.items(), key) {
         let job = jobs.remove(place);
         dues.take(job.dl, job.left);
     }
@@ -205,6 +207,8 @@ fn place_for(jobs: &[Job], job: &Job) -> usize
 /// Whether the job of this key remains and may start by this time, and none of its predecessors
 /// remains.
 pub(crate) fn job_may_run(tasks: &TaskSet, time: u64, jobs: &[Job], key: Key) -> bool
+    requires ordered { AreInDeadlineOrder jobs.now }
+    requires in_order { AreDueInOrder tasks.now jobs.now }
     ensures { result
         ≡ (list_any (λ (j : Job). same_key j.key key && nat_le j.est time) jobs.now
         && list_all (λ (j : Job). not (precedes tasks.now j.key key)) jobs.now) }
@@ -226,12 +230,35 @@ fn starts_by(time: u64, job: &Job, key: Key) -> bool
     is_same_key(job.key, key) && job.est <= time
 }
 
-/// Whether no predecessor of the job of this key remains. The jobs are looked at only where its
-/// task lists one.
+/// Whether no predecessor of the job of this key remains. The jobs in front of it are looked at,
+/// where its task lists one.
 fn has_no_predecessor(tasks: &TaskSet, jobs: &[Job], key: Key) -> bool
+    requires ordered { AreInDeadlineOrder jobs.now }
+    requires in_order { AreDueInOrder tasks.now jobs.now }
     ensures { result ≡ list_all (λ (j : Job). not (precedes tasks.now j.key key)) jobs.now }
 {
-    lists_none(tasks, key) || jobs.iter().all(|job| !precedes(tasks, job.key, key))
+    lists_none(tasks, key) || none_before(tasks, jobs, key)
+}
+
+/// Whether none of the jobs in front of that of this key is a predecessor of it.
+fn none_before(tasks: &TaskSet, jobs: &[Job], key: Key) -> bool
+    ensures { result
+        ≡ list_all
+        (λ (j : Job). not (precedes tasks.now j.key key))
+        (take (prefix_len (λ (j : Job). not (same_key j.key key)) jobs.now) jobs.now) }
+{
+    let (before, _others) = jobs.split_at(count_before(jobs, key));
+    before.iter().all(|job| !precedes(tasks, job.key, key))
+}
+
+/// How many jobs stand in front of that of this key.
+fn count_before(jobs: &[Job], key: Key) -> usize
+    ensures count { result ≡ prefix_len (λ (j : Job). not (same_key j.key key)) jobs.now }
+    ensures within { result ≤ length jobs.now }
+{
+    jobs.iter()
+        .take_while(|job| !is_same_key(job.key, key))
+        .count()
 }
 
 /// Whether the task of this key lists no predecessor.
@@ -301,17 +328,29 @@ fn afters(tasks: &[Task], task: u16) -> &[u16]
 }
 
 /// One slot of the job of this key has run: it goes where that was its last one.
-fn run_job(jobs: &mut Vec<Job>, key: Key)
-    requires apart { AreApart jobs.old.items }
-    requires some { All (λ (j : Job). 1 ≤ j.left) jobs.old.items }
-    ensures { jobs.new.items ≡ after_run key jobs.old.items }
+fn run_job(jobs: &mut Front<Job>, key: Key)
+    requires apart { AreApart jobs.old }
+    requires some { All (λ (j : Job). 1 ≤ j.left) jobs.old }
+    ensures { jobs.new ≡ after_run key jobs.old }
 {
-    if let Some(place) = place_of(jobs, key) {
-        if jobs[place].left > 1 {
-            jobs[place].left -= 1;
+    if let Some(place) = place_of(jobs.items(), key) {
+        let job = jobs.items()[place];
+        if job.left > 1 {
+            jobs.set(place, one_less(job));
         } else {
-            jobs.remove(place);
+            let _ended = jobs.remove(place);
         }
+    }
+}
+
+/// The job with a slot less.
+fn one_less(job: Job) -> Job
+    requires { 1 ≤ job.left }
+    ensures { result ≡ record job { left = job.left - 1 } }
+{
+    Job {
+        left: job.left - 1,
+        ..job
     }
 }
 

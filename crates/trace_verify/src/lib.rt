@@ -9,6 +9,7 @@
 
 pub mod checker;
 mod dues;
+mod front;
 mod jobs;
 pub mod laws;
 mod lines;

@@ -8,7 +8,7 @@ ghost use Rattle.slot_core.specs.Runs.Arrivals.{what_in_set};
 ghost use Rattle.slot_core.specs.Runs.Spans.{shown_of};
 ghost use Rattle.slot_core.specs.Runs.Traces.{arrive, end_entry, slot, told_of_slot};
 ghost use Rattle.sporadic_reserve.specs.Reserves.{without_name};
-ghost use Rattle.trace_verify.specs.Checked.{IsChecked};
+ghost use Rattle.trace_verify.specs.Checked.{AreDueInOrder, IsChecked};
 ghost use Rattle.trace_verify.specs.SceneLines.{first_line_in, next_of, IsCheckedAfter, IsNext, PassesLine, TellsLine};
 ghost use Rattle.trace_verify.specs.Verdicts.{in_time, last_line, needed_line, no_more, same_line, told_by, told_where_ready, AnswersAs};
 
@@ -163,7 +163,8 @@ fn slot_line(checker: &mut Checker, plan: &Plan, n: u64, line: &[u8]) -> Result<
 
 /// What line n says ran, which may run.
 fn told_run(checker: &Checker, tasks: &TaskSet, n: u64, line: &[u8]) -> Result<Ran, VerifyFault>
-    requires { is_sound tasks.now ≡ true }
+    requires sound { is_sound tasks.now ≡ true }
+    requires in_order { AreDueInOrder tasks.now checker.now.scene.jobs }
     ensures told { (cycle : ℕ) → AnswersAs
         told_of_slot
         result
@@ -179,7 +180,8 @@ fn told_run(checker: &Checker, tasks: &TaskSet, n: u64, line: &[u8]) -> Result<R
 
 /// What line n says ran, where it may run.
 fn ready_run(checker: &Checker, tasks: &TaskSet, n: u64, ran: Ran) -> Result<Ran, VerifyFault>
-    requires { what_in_set tasks.now (told_of_slot ran) ≡ true }
+    requires known { what_in_set tasks.now (told_of_slot ran) ≡ true }
+    requires in_order { AreDueInOrder tasks.now checker.now.scene.jobs }
     ensures told { AnswersAs
         told_of_slot
         result

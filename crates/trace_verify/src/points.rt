@@ -6,14 +6,15 @@ ghost use Rattle.std.specs.List.{prefix_len};
 ghost use Rattle.slot_core.specs.Runs.Rising.{AreRising};
 ghost use Rattle.scene_steps.specs.Steps.{with_point};
 
+use crate::front::Front;
 use slot_core::Memory;
 
 /// Puts the point among rising points, where it is not one of them.
-pub(crate) fn insert_point(points: &mut Vec<u64>, point: u64) -> Result<(), Memory>
-    ensures { OnOk result (points.new.items ≡ with_point point points.old.items) }
+pub(crate) fn insert_point(points: &mut Front<u64>, point: u64) -> Result<(), Memory>
+    ensures { OnOk result (points.new ≡ with_point point points.old) }
 {
-    let place = count_before(points, point);
-    if is_at(points, place, point) {
+    let place = count_before(points.items(), point);
+    if is_at(points.items(), place, point) {
         return Ok(());
     }
     points.insert(place, point)?;
@@ -39,12 +40,12 @@ fn count_before(points: &[u64], point: u64) -> usize
 }
 
 /// Of points that rise from a time on, those after the next slot starts.
-pub(crate) fn pass_point(points: &mut Vec<u64>, time: u64)
+pub(crate) fn pass_point(points: &mut Front<u64>, time: u64)
     requires early { time ≤ 2 ^ 32 }
-    requires rising { AreRising time points.old.items }
-    ensures { points.new.items ≡ filter (nat_lt (time + 1)) points.old.items }
+    requires rising { AreRising time points.old }
+    ensures { points.new ≡ filter (nat_lt (time + 1)) points.old }
 {
-    if is_at(points, 0, time + 1) {
-        points.remove(0);
+    if is_at(points.items(), 0, time + 1) {
+        let _passed = points.remove(0);
     }
 }

@@ -5,4 +5,4 @@ use Rattle.trace_verify.proofs.checker.push_points.Given as goal
 -- the ends of the plan's first spans stand behind the points that were there
 abbrev pub invariant-loop-span : goal.invariant-loop-span
 invariant-loop-span l =
-    l.points.items ≡ l.initial.points.items ++ map (λ (s : Span). s.end + l.n * l.plan.cycle) (take l.span-index l.span-items)
+    l.points ≡ l.initial.points ++ map (λ (s : Span). s.end + l.n * l.plan.cycle) (take l.span-index l.span-items)

@@ -5,7 +5,7 @@ use Rattle.trace_verify.proofs.jobs.insert_at.Goals as goal
 
 pub add-requires : goal.add-requires
 add-requires c = record {
-  few = λ n. omega (arith, c.requires.dues.same n, left_before-le c.args.jobs.now.items n, c.requires.small);
+  few = λ n. omega (arith, c.requires.dues.same n, left_before-le c.args.jobs.now n, c.requires.small);
 }
 
 pub take-requires : goal.take-requires

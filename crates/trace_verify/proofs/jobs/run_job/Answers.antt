@@ -1,43 +1,51 @@
-use Rattle.std.proofs.Common.{◌<◌, ◌≤◌, get_or, ap, sym, ◌∙◌, arith}
+use Rattle.std.proofs.Common.{◌≡◌, ◌-◌, ◌<◌, ◌≤◌, List, get_or, set, ap, sym, ◌∙◌, subst}
 use Rattle.std.specs.Prelude.{position}
-use Rattle.std.proofs.lemmas.List.{get_or_read}
+use Rattle.std.proofs.lemmas.List.{get_or_default}
 use Rattle.std.proofs.lemmas.List.Elements.{recursion_from_All}
 use Rattle.std.proofs.lemmas.List.Quantifiers.{position-Some}
 use Rattle.std.proofs.lemmas.Option.{slice_get-get_or}
 use Rattle.slot_core.specs.declared.jobs.Job.{Job}
+use Rattle.slot_core.specs.declared.jobs.Key.TheVariants.{Offline}
 use Rattle.slot_core.specs.Offline.Keys.{same_key}
 use Rattle.slot_facts.proofs.Lists.ApartKeys.{IsApart-from_count}
 use Rattle.key_texts.proofs.PlaceLemmas.{position-None}
 use Rattle.trace_verify.proofs.JobEdits.{after_run-last, after_run-more, after_run-none}
 use Rattle.trace_verify.proofs.jobs.run_job.Goals as goal
 
-pub returns-then-index-gt1 : goal.returns-then-index-gt1
-returns-then-index-gt1 c =
-    let jobs = c.args.jobs.now.items in
-    let i = c.in-Some.place in
-    let x = c.index_mut.result.now in
-    let place = ap (position (λ (j : Job). same_key j.key c.args.key)) (sym c.deref.ensures.value) ∙ sym c.place_of.ensures ∙ c.in-Some.is in
-    let at = λ (d : Job). position-Some (λ (j : Job). same_key j.key c.args.key) jobs i d place in
-    let left = recursion_from_All (λ (j : Job). 1 ≤ j.left) jobs c.requires.some in
-    let here = ap (λ (j : Job). same_key j.key c.args.key) c.index_mut.ensures.value ∙ (at x).1 in
-    let read = get_or_read jobs i c.index.result.now (at x).0 c.index.ensures x in
-    let more : 1 < x.left = omega (arith, c.if-index-gt1.true, ap (λ (j : Job). j.left) read, ap (λ (j : Job). j.left) c.index_mut.ensures.value) in
-    after_run-more c.args.key jobs i x (IsApart-from_count jobs c.requires.apart) left (at x).0 c.index_mut.ensures.value here (λ k d low. (at d).2 k low) more
+-- a job that stands for one past the list
+abbrev none : Job
+none = record { key = Offline 0 0 0; est = 0; dl = 0; left = 0; declared = 0 }
 
-pub returns-else-index-gt1 : goal.returns-else-index-gt1
-returns-else-index-gt1 c =
-    let jobs = c.args.jobs.now.items in
+pub returns-then-job-gt1 : goal.returns-then-job-gt1
+returns-then-job-gt1 c =
+    let jobs = c.args.jobs.now in
     let i = c.in-Some.place in
-    let x = c.index.result.now in
-    let place = ap (position (λ (j : Job). same_key j.key c.args.key)) (sym c.deref.ensures.value) ∙ sym c.place_of.ensures ∙ c.in-Some.is in
+    let x = get_or jobs i none in
+    let place = ap (position (λ (j : Job). same_key j.key c.args.key)) (sym c.items.ensures) ∙ sym c.place_of.ensures ∙ c.in-Some.is in
     let at = λ (d : Job). position-Some (λ (j : Job). same_key j.key c.args.key) jobs i d place in
     let left = recursion_from_All (λ (j : Job). 1 ≤ j.left) jobs c.requires.some in
-    let here = ap (λ (j : Job). same_key j.key c.args.key) c.index.ensures ∙ (at x).1 in
-    c.remove.ensures.items ∙ after_run-last c.args.key jobs i x (IsApart-from_count jobs c.requires.apart) left (at x).0 c.index.ensures here (λ k d low. (at d).2 k low) c.if-index-gt1.false
+    let read : get_or c.items-in-Some.result.now i none ≡ x = ap (λ (js : List Job). get_or js i none) c.items-in-Some.ensures in
+    let more : 1 < x.left = subst (λ (j : Job). 1 < j.left) read c.if-job-gt1.true in
+    c.set.ensures
+    ∙ ap (set jobs i) (c.one_less.ensures ∙ ap (λ (j : Job). record j { left = j.left - 1 }) read)
+    ∙ after_run-more c.args.key jobs i x (IsApart-from_count jobs c.requires.apart) left (at x).0 (get_or_default jobs i none x (at x).0) (at none).1 (λ k d low. (at d).2 k low) more
+
+pub returns-else-job-gt1 : goal.returns-else-job-gt1
+returns-else-job-gt1 c =
+    let jobs = c.args.jobs.now in
+    let i = c.in-Some.place in
+    let x = get_or jobs i none in
+    let place = ap (position (λ (j : Job). same_key j.key c.args.key)) (sym c.items.ensures) ∙ sym c.place_of.ensures ∙ c.in-Some.is in
+    let at = λ (d : Job). position-Some (λ (j : Job). same_key j.key c.args.key) jobs i d place in
+    let left = recursion_from_All (λ (j : Job). 1 ≤ j.left) jobs c.requires.some in
+    let read : get_or c.items-in-Some.result.now i none ≡ x = ap (λ (js : List Job). get_or js i none) c.items-in-Some.ensures in
+    let last : x.left ≤ 1 = subst (λ (j : Job). j.left ≤ 1) read c.if-job-gt1.false in
+    c.remove-ended.ensures.rest
+    ∙ after_run-last c.args.key jobs i x (IsApart-from_count jobs c.requires.apart) left (at x).0 (get_or_default jobs i none x (at x).0) (at none).1 (λ k d low. (at d).2 k low) last
 
 pub returns-in_default : goal.returns-in_default
 returns-in_default c =
-    let jobs = c.args.jobs.now.items in
-    let none = ap (position (λ (j : Job). same_key j.key c.args.key)) (sym c.deref.ensures.value) ∙ sym c.place_of.ensures ∙ c.in_default.is in
+    let jobs = c.args.jobs.now in
+    let none = ap (position (λ (j : Job). same_key j.key c.args.key)) (sym c.items.ensures) ∙ sym c.place_of.ensures ∙ c.in_default.is in
     let left = recursion_from_All (λ (j : Job). 1 ≤ j.left) jobs c.requires.some in
     after_run-none c.args.key jobs left (λ k d low. position-None (λ (j : Job). same_key j.key c.args.key) jobs none k (get_or jobs k d) (slice_get-get_or jobs k d low))

@@ -6,4 +6,4 @@ use Rattle.trace_verify.proofs.checker.Checker.shown.Goals as goal
 pub shown-requires-clause-few : goal.shown-requires-clause-few
 shown-requires-clause-few c =
     let scene = c.args.self.now.scene in
-    omega (arith, ap length c.deref.ensures.value, ap (λ (k : Checked). length k.scene.points) c.self.view_is, points-few c.args.cycle scene.time scene.points c.requires.cycle c.requires.checked.rising c.requires.checked.last)
+    omega (arith, ap length c.items.ensures, ap (λ (k : Checked). length k.scene.points) c.self.view_is, points-few c.args.cycle scene.time scene.points c.requires.cycle c.requires.checked.rising c.requires.checked.last)

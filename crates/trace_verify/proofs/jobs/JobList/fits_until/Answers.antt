@@ -9,4 +9,4 @@ returns-clause-fits c =
     subst
     (λ (js : List Job). (x : ℕ) → c.args.from ≤ x → x < c.fits_until.result → c.args.slots + work_by js x ≤ x - c.args.now)
     c.self.view_is
-    (λ x low high. omega (arith, c.fits_until.ensures.fits x low high, c.self.invariant.same (x + 1), left_before-by c.self.inside.jobs.items x))
+    (λ x low high. omega (arith, c.fits_until.ensures.fits x low high, c.self.invariant.same (x + 1), left_before-by c.self.inside.jobs x))
