@@ -1,15 +1,14 @@
 -- The first start of some jobs: what it is, and how a walk finds it.
-use Rattle.std.proofs.Common.{◌≡◌, ℕ, zero, suc, ◌<◌, ◌≤◌, ◌⊎◌, ◌&&◌, min, Bool, true, false, cond, List, [], ◌∷◌, ◌++◌, fold, Option, Some, None, refl, sym, ap, ◌∙◌, inl, inr, arith}
-use Rattle.std.specs.Prelude.{filter, nat_lt, reverse}
+use Rattle.std.proofs.Common.{◌≡◌, ℕ, zero, suc, ◌+◌, ◌<◌, ◌≤◌, ◌⊎◌, ◌&&◌, min, Bool, true, false, cond, List, [], ◌∷◌, ◌++◌, fold, Option, Some, None, refl, sym, ap, ◌∙◌, inl, inr, arith}
+use Rattle.std.specs.Prelude.{count_by, filter, get_or, length, nat_lt, reverse}
 use Rattle.std.specs.List.Sorted.{IsNonDecreasingBy}
-use Rattle.std.proofs.Math.Nat.{min-le_left}
-use Rattle.std.proofs.lemmas.Bool.{and_parts, cond-true, cases_lt, ltb-true, lt-ltb}
+use Rattle.std.proofs.lemmas.Bool.{and_parts, cond-true, cases_lt, le-ltb, ltb-true, lt-ltb}
 use Rattle.std.proofs.lemmas.List.{reverse-append}
 use Rattle.std.proofs.lemmas.List.Elements.{filter-append}
-use Rattle.std.proofs.lemmas.List.Sums.{fold-append}
+use Rattle.std.proofs.lemmas.List.Sums.{fold-append, sum_by-cons}
 use Rattle.slot_core.specs.declared.jobs.Job.{Job}
 use Rattle.slot_facts.proofs.Lists.Members.{Has, Contains-from_Has, Has-filter, Has-filter_passes}
-use Rattle.job_queue.specs.Starts.{first_start, goes_before, sooner, starts_before}
+use Rattle.job_queue.specs.Starts.{first_start, first_start_within, goes_before, sooner, starts_before, starts_within}
 
 some_same : (a b : ℕ) → Some a ≡ Some b → a ≡ b
 some_same a b e = cc
@@ -137,3 +136,91 @@ sooner-ordered p best x js ordered passes =
     by_best : (b : Option ℕ) → fold sooner (sooner b x) (filter p js) ≡ sooner b x
     by_best None = sooner-least x.est (filter p js) later
     by_best (Some a) = sooner-least (min a x.est) (filter p js) (λ j at. omega (arith, later j at))
+
+-- where all jobs start at a time or later, none starts before it
+within-later : (now until : ℕ) (other : Option Job) (jobs : List Job) → ((k : ℕ) (d : Job) → k < length jobs → until ≤ (get_or jobs k d).est) → filter (starts_within now until other) jobs ≡ []
+within-later now until other [] later = refl
+within-later now until other (j ∷ jobs) later =
+    rw
+    (le-ltb j.est until (later zero j (omega arith)))
+    (within-later now until other jobs (λ k d low. later (suc k) d (omega arith)))
+
+-- so where the first of jobs in order of start does
+pub within-ordered : (now until : ℕ) (other : Option Job) (job : Job) (jobs : List Job) → IsNonDecreasingBy (λ (j : Job). j.est) (job ∷ jobs) → until ≤ job.est → filter (starts_within now until other) (job ∷ jobs) ≡ []
+within-ordered now until other job jobs ordered late =
+    within-later now until other (job ∷ jobs) (λ k d low. omega (arith, ordered zero k d (omega arith) low))
+
+-- one more job that starts before a time
+pub soon-more : (until : ℕ) (job : Job) (jobs : List Job) → job.est < until → count_by (λ (j : Job). nat_lt j.est until) (job ∷ jobs) ≡ 1 + count_by (λ (j : Job). nat_lt j.est until) jobs
+soon-more until job jobs soon =
+    let soons = λ (j : Job). nat_lt j.est until in
+    sum_by-cons (λ (j : Job). cond (soons j) 1 0) job jobs ∙ ap (λ b. cond b 1 0 + count_by soons jobs) (lt-ltb job.est until soon)
+
+-- a start that lies before a time
+abbrev before : ℕ → Option ℕ → Option ℕ
+before until None = None
+before until (Some start) = cond (nat_lt start until) (Some start) None
+
+-- of two starts the sooner lies before a time where one of them does
+before-sooner : (until : ℕ) (best : Option ℕ) (x : Job) → cond (nat_lt x.est until) (sooner (before until best) x) (before until best) ≡ before until (sooner best x)
+before-sooner until None x = refl
+before-sooner until (Some a) x = by_order (cases_lt a until) (cases_lt x.est until)
+  where
+    by_order : (a < until) ⊎ (until ≤ a) → (x.est < until) ⊎ (until ≤ x.est) → cond (nat_lt x.est until) (sooner (cond (nat_lt a until) (Some a) None) x) (cond (nat_lt a until) (Some a) None) ≡ cond (nat_lt (min a x.est) until) (Some (min a x.est)) None
+    by_order (inl early) (inl soon) = rw (lt-ltb a until early) (rw (lt-ltb x.est until soon) (rw (lt-ltb (min a x.est) until (omega arith)) refl))
+    by_order (inl early) (inr late) =
+        let same : min a x.est ≡ a = omega arith in
+        rw same (rw (lt-ltb a until early) (rw (le-ltb x.est until late) refl))
+    by_order (inr late) (inl soon) =
+        let same : min a x.est ≡ x.est = omega arith in
+        rw same (rw (le-ltb a until late) (rw (lt-ltb x.est until soon) refl))
+    by_order (inr late) (inr later) = rw (le-ltb a until late) (rw (le-ltb x.est until later) (rw (le-ltb (min a x.est) until (omega arith)) refl))
+
+-- the first start before a time is the first start, where that lies before it
+within-fold : (now until : ℕ) (other : Option Job) (best : Option ℕ) (jobs : List Job) → fold sooner (before until best) (filter (starts_within now until other) jobs) ≡ before until (fold sooner best (filter (starts_before now other) jobs))
+within-fold now until other best [] = refl
+within-fold now until other best (x ∷ jobs) =
+    by_tests (starts_before now other x) (nat_lt x.est until) refl (λ b. within-fold now until other b jobs)
+  where
+    by_tests : (goes soon : Bool) → nat_lt x.est until ≡ soon → ((b : Option ℕ) → fold sooner (before until b) (filter (starts_within now until other) jobs) ≡ before until (fold sooner b (filter (starts_before now other) jobs))) → fold sooner (before until best) (cond (soon && goes) (x ∷ filter (starts_within now until other) jobs) (filter (starts_within now until other) jobs)) ≡ before until (fold sooner best (cond goes (x ∷ filter (starts_before now other) jobs) (filter (starts_before now other) jobs)))
+    by_tests false true is rest = rest best
+    by_tests false false is rest = rest best
+    by_tests true soon is rest =
+        by_soon soon (ap (λ b. cond b (sooner (before until best) x) (before until best)) (sym is) ∙ before-sooner until best x)
+      where
+        by_soon : (soon : Bool) → cond soon (sooner (before until best) x) (before until best) ≡ before until (sooner best x) → fold sooner (before until best) (cond (soon && true) (x ∷ filter (starts_within now until other) jobs) (filter (starts_within now until other) jobs)) ≡ before until (fold sooner (sooner best x) (filter (starts_before now other) jobs))
+        by_soon true first = ap (λ o. fold sooner o (filter (starts_within now until other) jobs)) first ∙ rest (sooner best x)
+        by_soon false first = ap (λ o. fold sooner o (filter (starts_within now until other) jobs)) first ∙ rest (sooner best x)
+
+-- none before a time: none at all, or one that lies at it or later
+pub within-none : (now until : ℕ) (other : Option Job) (jobs : List Job) → first_start_within now until other jobs ≡ None → (s : ℕ) → first_start now other jobs ≡ Some s → until ≤ s
+within-none now until other jobs none s some = by_order (cases_lt s until)
+  where
+    is : None ≡ cond (nat_lt s until) (Some s) None
+    is = sym none ∙ within-fold now until other None jobs ∙ ap (before until) some
+
+    by_order : (s < until) ⊎ (until ≤ s) → until ≤ s
+    by_order (inl early) = absurd (cc (is ∙ ap (λ b. cond b (Some s) None) (lt-ltb s until early)))
+    by_order (inr late) = late
+
+-- one before a time is the first of all
+pub within-some : (now until s : ℕ) (other : Option Job) (jobs : List Job) → first_start_within now until other jobs ≡ Some s → (first_start now other jobs ≡ Some s) × (s < until)
+within-some now until s other jobs some = by_first (first_start now other jobs) refl
+  where
+    is : before until (first_start now other jobs) ≡ Some s
+    is = sym (within-fold now until other None jobs) ∙ some
+
+    by_first : (o : Option ℕ) → first_start now other jobs ≡ o → (first_start now other jobs ≡ Some s) × (s < until)
+    by_first None none = absurd (cc (sym (ap (before until) none) ∙ is))
+    by_first (Some first) found = by_order (cases_lt first until)
+      where
+        here : cond (nat_lt first until) (Some first) None ≡ Some s
+        here = sym (ap (before until) found) ∙ is
+
+        by_order : (first < until) ⊎ (until ≤ first) → (first_start now other jobs ≡ Some s) × (s < until)
+        by_order (inl early) =
+            let same = some_same first s (sym (ap (λ b. cond b (Some first) None) (lt-ltb first until early)) ∙ here) in (
+              found ∙ ap (λ n. Some n) same,
+              omega arith,
+            )
+        by_order (inr late) = absurd (cc (sym (ap (λ b. cond b (Some first) None) (le-ltb first until late)) ∙ here))

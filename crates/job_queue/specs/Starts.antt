@@ -20,3 +20,12 @@ sooner (Some start) job = Some (min start job.est)
 -- the first start after `now` of the jobs that go before that one, if one does
 abbrev pub first_start : ℕ → Option Job → List Job → Option ℕ
 first_start now other jobs = fold sooner None (filter (starts_before now other) jobs)
+
+-- so it does, and it starts before `until`
+abbrev pub starts_within : ℕ → ℕ → Option Job → Job → Bool
+starts_within now until other job = nat_lt job.est until && starts_before now other job
+
+-- the first start after `now` and before `until` of the jobs that go before that one, if one does
+abbrev pub first_start_within : ℕ → ℕ → Option Job → List Job → Option ℕ
+first_start_within now until other jobs =
+    fold sooner None (filter (starts_within now until other) jobs)

@@ -4,7 +4,7 @@ ghost use Rattle.std.specs.Prelude.{◌≡◌};
 ghost use Rattle.std.specs.Option.{option_copied};
 ghost use Rattle.slot_core.specs.Runs.Choice.{earlier_of};
 ghost use Rattle.slot_core.specs.Offline.Keys.{is_earlier, same_key};
-ghost use Rattle.job_queue.specs.Starts.{goes_before, sooner, starts_before};
+ghost use Rattle.job_queue.specs.Starts.{goes_before, sooner, starts_before, starts_within};
 
 use slot_core::{Job, Key};
 
@@ -62,10 +62,17 @@ fn is_earlier_by_key(a: &Job, b: &Job) -> bool
 }
 
 /// Whether the job starts after `now`, and goes before the other one, where there is one.
-pub(crate) fn starts_before(job: &Job, now: u64, other: Option<&Job>) -> bool
+fn starts_before(job: &Job, now: u64, other: Option<&Job>) -> bool
     ensures { result ≡ starts_before now (option_copied other.entry) job.now }
 {
     now < job.est && goes_before(job, other)
+}
+
+/// The same, and whether it starts before `until`.
+pub(crate) fn starts_within(job: &Job, now: u64, until: u64, other: Option<&Job>) -> bool
+    ensures { result ≡ starts_within now until (option_copied other.entry) job.now }
+{
+    job.est < until && starts_before(job, now, other)
 }
 
 /// Whether the job goes before the other one, where there is one.

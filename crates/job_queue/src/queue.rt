@@ -1,6 +1,6 @@
 //! A queue of jobs in three parts.
 
-ghost use Rattle.std.specs.Prelude.{◌≡◌, ℕ, ◌+◌, ◌-◌, ◌<◌, ◌≤◌, ◌^◌, ◌&&◌, [], ◌∷◌, ◌++◌, false, true, nat_le, not, filter, find, fold, length, count_by, position, remove, reverse, slice_get, slice_index_or, None, Some, IfOk, IfSome, IsTrue};
+ghost use Rattle.std.specs.Prelude.{◌≡◌, ℕ, ◌+◌, ◌-◌, ◌<◌, ◌≤◌, ◌^◌, ◌&&◌, [], ◌∷◌, ◌++◌, false, true, nat_le, nat_lt, not, filter, find, fold, length, count_by, position, remove, reverse, slice_get, slice_index_or, None, Some, IfOk, IfSome, IsTrue};
 ghost use Rattle.std.specs.List.Sorted.{IsNonDecreasingBy};
 ghost use Rattle.std.specs.Option.{option_copied};
 ghost use Rattle.std.specs.VecDeque.{deque_capacity, deque_len};
@@ -9,11 +9,11 @@ ghost use Rattle.slot_core.specs.Offline.Keys.{is_earlier, is_soft, same_key};
 ghost use Rattle.slot_core.specs.Runs.Choice.{earlier_of, earliest, ready};
 ghost use Rattle.slot_core.specs.Runs.Matches.{HaveSameItems};
 ghost use Rattle.slot_core.specs.Claims.Safety.{after_run};
-ghost use Rattle.job_queue.specs.Starts.{first_start, sooner, starts_before};
+ghost use Rattle.job_queue.specs.Starts.{first_start_within, sooner, starts_within};
 ghost use Rattle.job_queue.specs.Queues.{IsEarliestLast, IsQueue, IsReadyPlace, after_run_at, search_steps};
 
 use crate::marked::MarkedJobs;
-use crate::order::{earlier_of, has_key, is_earlier, sooner, starts_before};
+use crate::order::{earlier_of, has_key, is_earlier, sooner, starts_within};
 use slot_core::{Job, Key, Memory, Steps};
 use std::alloc::Global;
 use std::collections::VecDeque;
@@ -218,22 +218,25 @@ impl JobQueue {
         Some(*self.job(place))
     }
 
-    /// The first start after `now` of the jobs that earliest deadline first takes before this one,
-    /// or of all jobs where none is given. None exactly where no such job starts after `now`. One
-    /// step a job looked at: all but the listed ones behind the first that is such a job.
+    /// The first start after `now` and before `until` of the jobs that earliest deadline first takes
+    /// before this one, or of all jobs where none is given. None exactly where no such job starts
+    /// between. One step a job looked at: those beside, those that have come, and the listed ones
+    /// up to the first that is such a job or starts at `until` or later.
     pub fn next_start<L: Ledger>(
         &self,
         now: u64,
+        until: u64,
         other: Option<&Job>,
         steps: &mut Steps<L>,
     ) -> Option<u64>
-        ensures start { result ≡ first_start now (option_copied other.entry) self.now.jobs }
+        ensures start { result
+            ≡ first_start_within now until (option_copied other.entry) self.now.jobs }
         ensures steps { steps.old ≤ steps.new }
         ensures few_steps { steps.new ≤ steps.old + length self.now.jobs }
     {
-        let start = first_start(None, &self.beside, now, other, steps);
-        let start = first_start(start, self.come.jobs(), now, other, steps);
-        first_listed(start, &self.listed, now, other, steps)
+        let start = first_start(None, &self.beside, now, until, other, steps);
+        let start = first_start(start, self.come.jobs(), now, until, other, steps);
+        first_listed(start, &self.listed, now, until, other, steps)
     }
 
     /// The job of this key, where it may start by `now`. None exactly where no such job has it. One
@@ -727,23 +730,24 @@ fn earliest_listed<'a, L: Ledger>(
     best
 }
 
-/// The first of this start and those after `now` of these jobs that go before the other one. One
-/// step a job.
+/// The first of this start and those after `now` and before `until` of these jobs that go before the
+/// other one. One step a job.
 fn first_start<L: Ledger>(
     start: Option<u64>,
     jobs: &[Job],
     now: u64,
+    until: u64,
     other: Option<&Job>,
     steps: &mut Steps<L>,
 ) -> Option<u64>
     ensures start { result
-        ≡ fold sooner start (filter (starts_before now (option_copied other.entry)) jobs.now) }
+        ≡ fold sooner start (filter (starts_within now until (option_copied other.entry)) jobs.now) }
     ensures steps { steps.new ≡ steps.old + length jobs.now }
 {
     let mut first = start;
     for job in jobs {
         steps.tick();
-        if starts_before(job, now, other) {
+        if starts_within(job, now, until, other) {
             first = sooner(first, job);
         }
     }
@@ -751,11 +755,12 @@ fn first_start<L: Ledger>(
 }
 
 /// The same of these, which stand in order of start. One step a job, up to the first that is one of
-/// those.
+/// those or starts at `until` or later.
 fn first_listed<L: Ledger>(
     start: Option<u64>,
     listed: &VecDeque<Job>,
     now: u64,
+    until: u64,
     other: Option<&Job>,
     steps: &mut Steps<L>,
 ) -> Option<u64>
@@ -764,13 +769,18 @@ fn first_listed<L: Ledger>(
         ≡ fold
         sooner
         start
-        (filter (starts_before now (option_copied other.entry)) listed.now.items) }
+        (filter (starts_within now until (option_copied other.entry)) listed.now.items) }
     ensures steps { steps.old ≤ steps.new }
     ensures few_steps { steps.new ≤ steps.old + length listed.now.items }
+    ensures soon { steps.new
+        ≤ steps.old + count_by (λ j. nat_lt j.est until) listed.now.items + 1 }
 {
     for job in listed {
         steps.tick();
-        if starts_before(job, now, other) {
+        if until <= job.est {
+            return start;
+        }
+        if starts_within(job, now, until, other) {
             return sooner(start, job);
         }
     }

@@ -1,24 +1,22 @@
 -- What the parts of an executive tell ahead of slots.
-use Rattle.std.proofs.Common.{◌≡◌, ℕ, suc, ◌+◌, ◌-◌, ◌<◌, ◌≤◌, ◌⊎◌, min, Bool, true, false, cond, List, [], ◌∷◌, map, Option, Some, None, refl, sym, ap, ◌∙◌, subst, inl, inr, arith}
+use Rattle.std.proofs.Common.{◌≡◌, ℕ, ◌+◌, ◌<◌, ◌≤◌, ◌⊎◌, Bool, true, false, List, [], ◌∷◌, map, Option, Some, None, refl, sym, ap, ◌∙◌, subst, inl, inr, arith}
 use Rattle.std.specs.Prelude.{◌≢◌}
 use Rattle.std.specs.List.{AllByRecursion}
 use Rattle.std.proofs.lemmas.Bool.{both_ways, cases_lt}
 use Rattle.std.proofs.lemmas.List.Elements.{recursion_from_All}
-use Rattle.slot_core.specs.declared.jobs.Key.TheVariants.{Offline, Sporadic, Firm, Soft as SoftKey}
+use Rattle.slot_core.specs.declared.jobs.Key.TheVariants.{Soft as SoftKey}
 use Rattle.slot_core.specs.declared.jobs.Job.{Job}
 use Rattle.slot_core.specs.declared.jobs.SoftJob.{SoftJob}
 use Rattle.slot_core.specs.declared.jobs.Span.{Span}
-use Rattle.slot_core.specs.declared.events.Ran.TheVariants.{Idle as RanIdle, Key as RanKey}
+use Rattle.slot_core.specs.declared.events.Ran.TheVariants.{Key as RanKey}
 use Rattle.slot_core.specs.declared.tasks.Sporadic.{Sporadic as SporadicTask}
-use Rattle.slot_core.specs.Feasibility.Sporadics.{sporadic_demand}
 use Rattle.slot_core.specs.Keeping.Executives.{Executive, StandsFor}
 use Rattle.slot_core.specs.Keeping.Plans.{PlanParts}
 use Rattle.slot_core.specs.Offline.Keys.{is_soft}
-use Rattle.slot_core.specs.Runs.Choice.{earliest, ready, soft_may_run}
+use Rattle.slot_core.specs.Runs.Choice.{earliest, ready}
 use Rattle.slot_core.specs.Runs.Demand.{need_by, work_by}
 use Rattle.slot_core.specs.Runs.Histories.{History}
 use Rattle.slot_core.specs.Runs.Scenes.{horizon}
-use Rattle.slot_core.specs.Runs.Spans.{spans_of}
 use Rattle.slot_core.specs.Runs.Traces.{told_of_slot}
 use Rattle.slot_facts.proofs.Legal.Executives.{every_executive_is_kept}
 use Rattle.slot_facts.proofs.Plans.Items.{plan_cycle-bounds}
@@ -31,7 +29,7 @@ use Rattle.scene_steps.proofs.Facts.Choices.{earliest-listed}
 use Rattle.scene_steps.proofs.Facts.ProperScenes.{proper_scene}
 use Rattle.scene_steps.proofs.Slots.Chosen.{listed-not_soft}
 use Rattle.scene_steps.proofs.Spans.Proper.{horizon-at_least, last_end-proper, work_until-proper}
-use Rattle.slot_exec.specs.Ahead.{first_left, slots_to_start, IsTightFor, JobStays, MayTell, SoftStays, Stays, TellsAhead, TellsOtherAfter}
+use Rattle.slot_exec.specs.Ahead.{first_left, IsTightFor, MayTell, Stays, TellsAhead, TellsOtherAfter}
 use Rattle.slot_exec.specs.Changes.{chosen_of, ran_of}
 use Rattle.slot_exec.specs.Parts.{executive, IsExecutive}
 use Rattle.slot_exec.specs.declared.rooms.Remembered.{Remembered}
@@ -41,7 +39,7 @@ use Rattle.slot_exec.proofs.AheadParts.{held-back, idle-changes, idle-stays, job
 use Rattle.slot_exec.proofs.AheadSlots.{job-left, slots_later, soft-ahead, soft-held, soft-runs_out, ChoosesAhead, TellsAhead-from_choices, TellsOtherAfter-from_choices}
 use Rattle.slot_exec.proofs.SceneOffers.{soft_fits-scene}
 use Rattle.slot_exec.proofs.SlotChoice.{choice_of, IsChosen}
-use Rattle.slot_exec.proofs.SlotParts.{ran_of-parts, IsChosen-parts}
+use Rattle.slot_exec.proofs.SlotParts.{IsChosen-parts}
 use Rattle.slot_exec.proofs.SpanOffers.{need_until-proper, reserve-demand}
 
 -- what is chosen tells of the parts from which it is

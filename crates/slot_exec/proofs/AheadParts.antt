@@ -1,11 +1,10 @@
 -- What is told of the next start, of free slots and of a tight time makes the choice stay, and then change.
-use Rattle.std.proofs.Common.{◌≡◌, ℕ, zero, suc, ◌+◌, ◌-◌, ◌*◌, ◌/◌, ◌<◌, ◌≤◌, ◌⊎◌, min, Bool, true, false, cond, not, List, [], ◌∷◌, Option, Some, None, Ordering, Less, Equal, Greater, is_lt, is_gt, refl, sym, ap, ◌∙◌, subst, inl, inr, arith}
-use Rattle.std.specs.Prelude.{◌≢◌, nat_le, nat_lt}
+use Rattle.std.proofs.Common.{◌≡◌, ℕ, ◌+◌, ◌-◌, ◌<◌, ◌≤◌, min, true, false, cond, not, List, [], ◌∷◌, Option, Some, None, Ordering, Less, Equal, Greater, is_lt, is_gt, refl, sym, ap, ◌∙◌, inl, inr, arith}
+use Rattle.std.specs.Prelude.{◌≢◌, nat_le}
 use Rattle.std.specs.List.{range_with_len}
 use Rattle.std.specs.Ordering.{ordering_reverse}
 use Rattle.std.specs.Option.{option_map_or}
-use Rattle.std.proofs.lemmas.Bool.{both_ways, cases_Bool, cases_lt, false_from_ne_true, le-leb, leb-true, lt-leb, ltb-true, not-false}
-use Rattle.slot_core.specs.declared.jobs.Key.TheVariants.{Soft as SoftKey}
+use Rattle.std.proofs.lemmas.Bool.{cases_Bool, cases_lt, false_from_ne_true, le-leb, lt-leb, ltb-true, not-false}
 use Rattle.slot_core.specs.declared.jobs.Job.{Job}
 use Rattle.slot_core.specs.declared.jobs.SoftJob.{SoftJob}
 use Rattle.slot_core.specs.declared.events.Ran.TheVariants.{Idle as RanIdle, Key as RanKey}
@@ -23,15 +22,15 @@ use Rattle.slot_facts.proofs.Legal.Executives.{every_executive_is_kept}
 use Rattle.slot_facts.proofs.Lists.ApartKeys.{same_member-from_apart, IsApart-from_count}
 use Rattle.slot_facts.proofs.Lists.Members.{Has, Has-filter, Has-range_with_len_bounds}
 use Rattle.slot_facts.proofs.Lists.Tests.{fails-from_list_all}
-use Rattle.job_queue.specs.Starts.{first_start, goes_before}
-use Rattle.job_queue.proofs.Starts.{first_start-le, first_start-none, first_start-some}
+use Rattle.job_queue.specs.Starts.{first_start, first_start_within, goes_before}
+use Rattle.job_queue.proofs.Starts.{first_start-le, first_start-none, first_start-some, within-none, within-some}
 use Rattle.scene_steps.proofs.Facts.AfterChoice.{bounds-after_choice}
 use Rattle.scene_steps.proofs.Facts.Choices.{earliest-listed}
 use Rattle.scene_steps.proofs.Slots.Chosen.{listed-not_soft}
 use Rattle.slot_exec.specs.Ahead.{slots_to_start}
 use Rattle.slot_exec.specs.declared.runs.Chosen.{Chosen}
 use Rattle.slot_exec.specs.declared.runs.Chosen.TheVariants.{Nothing, Guaranteed}
-use Rattle.slot_exec.proofs.AheadSlots.{idle-ahead, idle-ends, job-ahead, job-gives_way, job-left, job-runs_out, slots_later, soft-chosen, ChoosesAhead, SoftHeldBack}
+use Rattle.slot_exec.proofs.AheadSlots.{idle-ahead, idle-ends, job-ahead, job-gives_way, job-runs_out, slots_later, soft-chosen, ChoosesAhead, SoftHeldBack}
 use Rattle.slot_exec.proofs.RememberedRoom.{ran_due}
 use Rattle.slot_exec.proofs.SceneRooms.{work_by-ran}
 use Rattle.slot_exec.proofs.SlotChoice.{choice_of, IsChosen}
@@ -55,6 +54,22 @@ start-at time n most other jobs is less = by_found (first_start time other jobs)
     by_found (Some s) some same =
         let (first, listed, est, after, goes) = first_start-some time s other jobs some in
         (first, listed, omega (arith, est, after), goes)
+
+-- they are told by a start before the time that they reach
+pub start-found : (time most until s : ℕ) (other : Option Job) (jobs : List Job) → until ≡ time + most → first_start_within time until other jobs ≡ Some s → (s - time ≡ slots_to_start time other jobs most) × (time < s) × (s < time + most)
+start-found time most until s other jobs last found =
+    let (some, soon) = within-some time until s other jobs found in
+    let (first, listed, est, after, goes) = first_start-some time s other jobs some in
+    let few : s - time ≡ min (s - time) most = omega (arith, soon) in
+    (few ∙ sym (ap (λ o. option_map_or (λ t. min (t - time) most) o most) some), after, omega (arith, soon))
+
+-- or there is none
+pub start-unfound : (time most until : ℕ) (other : Option Job) (jobs : List Job) → until ≡ time + most → first_start_within time until other jobs ≡ None → most ≡ slots_to_start time other jobs most
+start-unfound time most until other jobs last none = by_found (first_start time other jobs) refl
+  where
+    by_found : (o : Option ℕ) → first_start time other jobs ≡ o → most ≡ option_map_or (λ s. min (s - time) most) o most
+    by_found None is = refl
+    by_found (Some s) is = omega (arith, within-none time until other jobs none s is)
 
 -- there are no more than asked for, and one where one is
 pub start-most : (time most : ℕ) (other : Option Job) (jobs : List Job) → slots_to_start time other jobs most ≤ most

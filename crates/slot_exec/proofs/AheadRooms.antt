@@ -1,9 +1,8 @@
 -- Slots that are free for soft work, and times that are tight.
-use Rattle.std.proofs.Common.{◌≡◌, ℕ, zero, suc, ◌+◌, ◌-◌, ◌<◌, ◌≤◌, true, List, Some, not, inl, inr, subst, arith}
+use Rattle.std.proofs.Common.{◌≡◌, ℕ, ◌+◌, ◌-◌, ◌<◌, ◌≤◌, true, List, Some, not, inl, inr, subst, arith}
 use Rattle.std.specs.List.{range_with_len}
 use Rattle.std.proofs.lemmas.Bool.{cases_lt, ltb-false, ltb-true, not-true}
 use Rattle.slot_core.specs.declared.jobs.Span.{Span}
-use Rattle.slot_core.specs.Feasibility.Sporadics.{sporadic_demand}
 use Rattle.slot_facts.proofs.Demand.OneSlot.{sporadic_demand-later}
 use Rattle.slot_facts.proofs.Lists.Members.{Has-range_with_len, passes_from_list_all}
 use Rattle.spare_capacity.specs.Laws.{work_until}

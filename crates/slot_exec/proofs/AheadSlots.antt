@@ -1,5 +1,5 @@
 -- For how many slots a choice stays, and when another comes.
-use Rattle.std.proofs.Common.{◌≡◌, ℕ, zero, suc, ◌+◌, ◌-◌, ◌*◌, ◌/◌, ◌%◌, ◌<◌, ◌≤◌, ◌==◌, ◌⊎◌, Bool, true, false, cond, not, List, [], ◌∷◌, ◌++◌, map, Option, Some, None, refl, sym, ap, ap₂, ◌∙◌, subst, inl, inr, add-one, arith}
+use Rattle.std.proofs.Common.{◌≡◌, ℕ, zero, suc, ◌+◌, ◌-◌, ◌*◌, ◌/◌, ◌%◌, ◌<◌, ◌≤◌, ◌==◌, ◌⊎◌, Bool, true, false, cond, not, List, [], ◌∷◌, map, Option, Some, None, refl, sym, ap, ap₂, ◌∙◌, subst, inl, inr, add-one, arith}
 use Rattle.std.specs.Prelude.{⊤, Contains, nat_le, nat_lt, slice_get, if◌then◌else◌}
 use Rattle.std.specs.Ordering.{is_lt, nat_cmp}
 use Rattle.std.specs.Cmp.Lexicographic.{slice_cmp}
@@ -43,7 +43,6 @@ use Rattle.slot_facts.proofs.Plans.Horizons.{NextSlot, turn, inside, further_now
 use Rattle.slot_facts.proofs.Plans.Items.{plan_cycle-bounds}
 use Rattle.scene_steps.specs.Steps.{after_ran, one_slot_later, soft_after_slot, with_cycle}
 use Rattle.scene_steps.proofs.Facts.Choices.{chosen-listed, chosen-soft, earliest-listed, soft_may_run-fits}
-use Rattle.scene_steps.proofs.Facts.SoftRuns.{first_soft-front}
 use Rattle.scene_steps.proofs.Same.Events.{told_in-stands}
 use Rattle.scene_steps.proofs.Same.SameScenes.{same_scene-refl}
 use Rattle.scene_steps.proofs.Slots.Chosen.{choice-by_front, listed-not_soft, soft-front_run}

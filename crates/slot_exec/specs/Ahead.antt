@@ -1,5 +1,5 @@
 -- What is told ahead of slots, and what the parts of an executive tell of it.
-use Rattle.std.specs.Prelude.{◌≡◌, ◌≢◌, ℕ, zero, suc, ◌+◌, ◌-◌, ◌≤◌, ◌<◌, ◌⊎◌, min, List, [], ◌∷◌, Option, Some, None, ⊤, IsTrue, true}
+use Rattle.std.specs.Prelude.{◌≡◌, ◌≢◌, ℕ, zero, suc, ◌+◌, ◌-◌, ◌≤◌, ◌<◌, ◌⊎◌, min, List, [], ◌∷◌, Option, Some, None, ⊤, true}
 use Rattle.std.specs.Option.{option_map_or}
 use Rattle.slot_core.specs.declared.jobs.Job.{Job}
 use Rattle.slot_core.specs.declared.jobs.SoftJob.{SoftJob}

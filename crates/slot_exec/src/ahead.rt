@@ -74,14 +74,15 @@ fn slots_to_start<L: Ledger>(
     most: u32,
     steps: &mut Steps<L>,
 ) -> u32
-    requires { 1 ≤ most }
+    requires some { 1 ≤ most }
+    requires near { now + most < HORIZON_LIMIT }
     ensures slots { result ≡ slots_to_start now (option_copied other.entry) queue.now.jobs most }
     ensures some { 1 ≤ result }
     ensures few { result ≤ most }
     ensures steps { steps.old ≤ steps.new }
 {
-    match queue.next_start(now, other, steps) {
-        Some(start) => (start - now).min(u64::from(most)) as u32,
+    match queue.next_start(now, now + u64::from(most), other, steps) {
+        Some(start) => (start - now) as u32,
         None => most,
     }
 }

@@ -1,4 +1,4 @@
-use Rattle.std.proofs.Common.{◌+◌, ◌-◌, min, arith}
+use Rattle.std.proofs.Common.{arith}
 use Rattle.interval_row.specs.Tables.{spans_of_pairs}
 use Rattle.slot_exec.proofs.AheadRooms.{free-more, free-one}
 use Rattle.slot_exec.proofs.ahead.slots_free.Goals as goal

@@ -1,5 +1,5 @@
 -- What is told ahead of slots, from the parts.
-use Rattle.std.proofs.Common.{◌≡◌, ap, ◌∙◌, arith}
+use Rattle.std.proofs.Common.{ap, ◌∙◌, arith}
 use Rattle.slot_facts.proofs.Plans.Items.{plan_cycle-bounds}
 use Rattle.slot_core.specs.Keeping.Executives.{Executive}
 use Rattle.slot_exec.proofs.AheadExecutives.{cycle-before_end, MayTell-parts, TellsAhead-parts, TellsOtherAfter-parts}
