@@ -19,7 +19,7 @@ use Rattle.arrival_csv.specs.Reading.{Read, event_of}
 use Rattle.arrival_csv.proofs.FittingLemmas.{event_of-fits}
 use Rattle.live_lines.specs.Commands.{Asked, command_of_text, command_of_two, command_of_word, event_of_fields, fields_of, fits_set}
 use Rattle.live_lines.specs.FaultTexts.{line_fault}
-use Rattle.live_lines.specs.declared.commands.LiveCommand.TheVariants.{Arrive, Pass}
+use Rattle.live_lines.specs.declared.commands.LiveCommand.TheVariants.{Arrive, Pass, Ahead}
 use Rattle.live_lines.specs.declared.line_fault.LineFault.TheVariants.{NoCommand, BadNumber}
 
 -- the test for text that answers by a result is the test
@@ -42,6 +42,12 @@ slots-fit : (set : TaskSet) (number : List ℕ) (found : Option ℕ) → number_
 slots-fit set number None same = tt
 slots-fit set number (Some slots) same = number_between-Some 1 REPLAY_LIMIT slots number same
 
+-- and so are those of a look ahead
+ahead-fits : (set : TaskSet) (number : List ℕ) (found : Option ℕ) → number_between 1 REPLAY_LIMIT number ≡ found
+    → Fits set (ok_or found (BadNumber 2) >>= (λ slots. Ok (Ahead slots)))
+ahead-fits set number None same = tt
+ahead-fits set number (Some slots) same = number_between-Some 1 REPLAY_LIMIT slots number same
+
 -- an event that is read fits the set
 event-fits : (set : TaskSet) (kind : Kind) (fields : List (List ℕ)) (read : Read Event) → event_of set 0 kind fields ≡ read
     → Fits set (result_map_both Arrive line_fault read)
@@ -58,7 +64,10 @@ command_of_two-fits : (set : TaskSet) (word rest : List ℕ) → Fits set (comma
 command_of_two-fits set word rest =
     elim (cases_Bool (bytes_eq word (codes "slots"))) [
       | inl is ↦ rw is (slots-fit set rest (number_between 1 REPLAY_LIMIT rest) refl)
-      | inr other ↦ rw other (arrival-fits set (kind_of word) rest)
+      | inr other ↦ elim (cases_Bool (bytes_eq word (codes "ahead"))) [
+        | inl is ↦ rw (other, is) (ahead-fits set rest (number_between 1 REPLAY_LIMIT rest) refl)
+        | inr none ↦ rw (other, none) (arrival-fits set (kind_of word) rest)
+      ]
     ]
 
 command_of_word-fits : (set : TaskSet) (word : List ℕ) → Fits set (command_of_word word)

@@ -15,7 +15,7 @@ use Rattle.arrival_csv.specs.declared.kinds.Kind.{Kind}
 use Rattle.arrival_csv.specs.Kinds.{kind_of}
 use Rattle.arrival_csv.specs.Reading.{Read, event_of}
 use Rattle.live_lines.specs.declared.commands.LiveCommand.{LiveCommand}
-use Rattle.live_lines.specs.declared.commands.LiveCommand.TheVariants.{Arrive, Pass, End}
+use Rattle.live_lines.specs.declared.commands.LiveCommand.TheVariants.{Arrive, Pass, Ahead, End}
 use Rattle.live_lines.specs.declared.line_fault.LineFault.{LineFault}
 use Rattle.live_lines.specs.declared.line_fault.LineFault.TheVariants.{NoCommand, BadNumber, NotUtf8}
 use Rattle.live_lines.specs.FaultTexts.{line_fault}
@@ -31,11 +31,21 @@ command_of_word word =
     else if bytes_eq word (codes "end") then Ok End
     else Err NoCommand
 
--- so many slots pass, at most those of a replay
+-- a number of slots: at least one, and at most those of a replay
+abbrev pub slot_count : List ℕ → Result ℕ LineFault
+slot_count number = ok_or (number_between 1 REPLAY_LIMIT number) (BadNumber 2)
+
+-- so many slots pass
 abbrev pub slots_command : List ℕ → Asked
 slots_command number = do
-  slots ← ok_or (number_between 1 REPLAY_LIMIT number) (BadNumber 2)
+  slots ← slot_count number
   Ok (Pass slots)
+
+-- what comes next is told, at most so many slots ahead
+abbrev pub ahead_command : List ℕ → Asked
+ahead_command number = do
+  slots ← slot_count number
+  Ok (Ahead slots)
 
 -- the fields of what stands after the first word: two where it has a space (byte 32), else one
 abbrev pub fields_of : List ℕ → List (List ℕ)
@@ -56,6 +66,7 @@ arrival_command set word rest =
 abbrev pub command_of_two : TaskSet → List ℕ → List ℕ → Asked
 command_of_two set word rest =
     if bytes_eq word (codes "slots") then slots_command rest
+    else if bytes_eq word (codes "ahead") then ahead_command rest
     else arrival_command set word rest
 
 -- the command of a line that is UTF-8
@@ -72,4 +83,5 @@ live_command_of set line = if is_utf8 line then command_of_text set line else Er
 abbrev pub fits_set : TaskSet → LiveCommand → Bool
 fits_set set (Arrive event) = event_fits set event
 fits_set set (Pass slots) = is_between 1 REPLAY_LIMIT slots
+fits_set set (Ahead slots) = is_between 1 REPLAY_LIMIT slots
 fits_set set End = true

@@ -4,7 +4,7 @@ ghost use Rattle.std.specs.Prelude.{◌≡◌, [], ◌∷◌, true, IfOk};
 ghost use Rattle.std.specs.Str.{is_utf8};
 ghost use Rattle.slot_core.specs.Sets.Ranges.{is_sound};
 ghost use Rattle.arrival_csv.specs.Reading.{event_of};
-ghost use Rattle.live_lines.specs.Commands.{arrival_command, command_of_text, command_of_two, command_of_word, event_of_fields, fields_of, fits_set, live_command_of, slots_command};
+ghost use Rattle.live_lines.specs.Commands.{ahead_command, arrival_command, command_of_text, command_of_two, command_of_word, event_of_fields, fields_of, fits_set, live_command_of, slot_count, slots_command};
 
 use crate::line_fault::LineFault;
 use arrival_csv::{Kind, done_of, firm_of, soft_of, sporadic_of, withdraw_of};
@@ -19,6 +19,8 @@ pub enum LiveCommand {
     Arrive(Event),
     /// So many slots pass.
     Pass(u32),
+    /// What comes next is told, at most so many slots ahead. No slot passes.
+    Ahead(u32),
     /// The run ends.
     End,
 }
@@ -74,6 +76,9 @@ fn command_of_two(tasks: &TaskSet, word: &[u8], rest: &[u8]) -> Result<LiveComma
     if word == b"slots".as_slice() {
         return slots_command(rest);
     }
+    if word == b"ahead".as_slice() {
+        return ahead_command(rest);
+    }
     arrival_command(tasks, word, rest)
 }
 
@@ -91,8 +96,23 @@ fn arrival_command(tasks: &TaskSet, word: &[u8], rest: &[u8]) -> Result<LiveComm
 fn slots_command(number: &[u8]) -> Result<LiveCommand, LineFault>
     ensures { result ≡ slots_command number.now }
 {
-    let slots = number_between(number, 1, REPLAY_LIMIT).ok_or(LineFault::BadNumber(2))?;
+    let slots = slot_count(number)?;
     Ok(LiveCommand::Pass(slots))
+}
+
+/// The command that looks at most so many slots ahead.
+fn ahead_command(number: &[u8]) -> Result<LiveCommand, LineFault>
+    ensures { result ≡ ahead_command number.now }
+{
+    let slots = slot_count(number)?;
+    Ok(LiveCommand::Ahead(slots))
+}
+
+/// A number of slots, at least one and at most those of a replay.
+fn slot_count(number: &[u8]) -> Result<u32, LineFault>
+    ensures { result ≡ slot_count number.now }
+{
+    number_between(number, 1, REPLAY_LIMIT).ok_or(LineFault::BadNumber(2))
 }
 
 /// The event of this kind, from what stands after the word: one field, or two.

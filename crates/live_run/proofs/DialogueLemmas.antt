@@ -1,6 +1,6 @@
 -- A dialogue that goes on by one line.
 use Rattle.std.proofs.Common.{◌≡◌, ℕ, suc, ◌+◌, Bool, true, false, List, [], ◌∷◌, ◌++◌, length, Ok, Err, inl, inr, refl, sym, ap, ◌∙◌, subst, append-nil, append_assoc, arith}
-use Rattle.std.specs.Prelude.{nat_le, nat_lt}
+use Rattle.std.specs.Prelude.{flat_map, nat_le, nat_lt}
 use Rattle.std.specs.List.{list_any}
 use Rattle.std.proofs.lemmas.Bool.{cases_Bool}
 use Rattle.std.proofs.lemmas.Grind.{flat_map-append}
@@ -11,13 +11,13 @@ use Rattle.slot_core.specs.Output.Texts.{trace_text}
 use Rattle.slot_core.specs.Runs.Histories.{History, last_row, time_of}
 use Rattle.slot_core.specs.Runs.Traces.{arrive, entries, history_after, started}
 use Rattle.live_lines.specs.Lines.{Heard}
-use Rattle.live_lines.specs.declared.commands.LiveCommand.TheVariants.{Arrive, Pass, End}
+use Rattle.live_lines.specs.declared.commands.LiveCommand.TheVariants.{Arrive, Pass, Ahead, End}
 use Rattle.live_lines.specs.Commands.{Asked}
 use Rattle.live_lines.specs.Rows.{record_row, record_text}
-use Rattle.live_run.specs.Dialogues.{Exchange, command_heard, asked, next_history, exchanges_from, exchanges, history_heard, answer_text, fault_text, arrival_made, arrivals_made, answers_text, faults_text, rows_text, start_text, is_end, asks_end, GoesOn, IsOver}
+use Rattle.live_run.specs.Dialogues.{Exchange, command_heard, asked, next_history, exchanges_from, exchanges, history_heard, answer_text, fault_text, arrival_made, arrivals_made, faults_text, rows_text, start_text, is_end, asks_end, AreAnswers, GoesOn, IsAnswer, IsOver}
 use Rattle.live_run.specs.declared.streams.DialogueFault.{DialogueFault}
 use Rattle.live_run.specs.declared.streams.DialogueFault.TheVariants.{Input, Record as RecordFault, Output}
-use Rattle.live_run.specs.Streams.{Texts, Seen, exchange_texts, dialogue_texts, last_texts, ArePut, ArePutInPart, IsBroken, IsCutAtStart, IsCutInAnswer}
+use Rattle.live_run.specs.Streams.{Texts, Seen, dialogue_texts, texts_with, AreAnswered, ArePut, IsAnswered, IsAnsweredInPart, IsBroken, IsCutAtStart, IsCutInAnswer, IsLastInPart}
 use Rattle.live_run.proofs.StreamLemmas.{joined, ArePut-trans}
 
 -- the history after some and then others
@@ -52,19 +52,28 @@ texts-same {a} {b} {c} {d} {e} {f} first second third =
     ∙ ap (λ x. record { answers = b; rows = x; faults = e }) second
     ∙ ap (λ x. record { answers = b; rows = d; faults = x }) third
 
+-- texts that answer exchanges, and one more
+AreAnswers-more : (set : TaskSet) (cycle : ℕ) (xs : List Exchange) (x : Exchange) (texts : List (List ℕ)) (text : List ℕ) → AreAnswers set cycle xs texts → IsAnswer set cycle x.before x.asked text → AreAnswers set cycle (xs ++ x ∷ []) (texts ++ text ∷ [])
+AreAnswers-more set cycle [] x [] text all own = (own, tt)
+AreAnswers-more set cycle [] x (t ∷ ts) text all own = elim all [ ]
+AreAnswers-more set cycle (y ∷ xs) x [] text all own = elim all [ ]
+AreAnswers-more set cycle (y ∷ xs) x (t ∷ ts) text all own =
+    (all.0, AreAnswers-more set cycle xs x ts text all.1 own)
+
 -- the texts of a dialogue that goes on by one line
-pub texts-more : (set : TaskSet) (cycle number : ℕ) (heards : List Heard) (heard : Heard) → number ≡ 1 + length heards → joined (dialogue_texts set cycle heards) (exchange_texts set cycle number (history_heard set cycle started heards) (asked set (history_heard set cycle started heards) heard)) ≡ dialogue_texts set cycle (heards ++ heard ∷ [])
-texts-more set cycle number heards heard counted =
+pub texts-more : (set : TaskSet) (cycle number : ℕ) (heards : List Heard) (heard : Heard) (texts : List (List ℕ)) (text : List ℕ) → number ≡ 1 + length heards → joined (dialogue_texts set cycle heards texts) (texts_with set number (history_heard set cycle started heards) (asked set (history_heard set cycle started heards) heard) text) ≡ dialogue_texts set cycle (heards ++ heard ∷ []) (texts ++ text ∷ [])
+texts-more set cycle number heards heard texts text counted =
     let xs = exchanges set cycle heards in
     let x = exchange_after set cycle 1 started heards heard in
     let h = x.before in
     let a = x.asked in
+    let start = start_text set cycle in
+    let told = flat_map (λ t. t) texts in
     let more : exchanges set cycle (heards ++ heard ∷ []) ≡ xs ++ x ∷ [] = exchanges_from-more set cycle 1 started heards heard in
-    let answers : (start_text set cycle ++ answers_text set cycle xs) ++ answer_text set cycle h a ≡ start_text set cycle ++ answers_text set cycle (exchanges set cycle (heards ++ heard ∷ [])) =
-    append_assoc (start_text set cycle) (answers_text set cycle xs) (answer_text set cycle h a)
-    ∙ ap (λ t. start_text set cycle ++ (answers_text set cycle xs ++ t)) (sym (append-nil (answer_text set cycle h a)))
-    ∙ ap (λ t. start_text set cycle ++ t) (sym (flat_map-append (λ (x : Exchange). answer_text set cycle x.before x.asked) xs (x ∷ [])))
-    ∙ ap (λ ys. start_text set cycle ++ answers_text set cycle ys) (sym more) in
+    let answers : (start ++ told) ++ text ≡ start ++ flat_map (λ t. t) (texts ++ text ∷ []) =
+    append_assoc start told text
+    ∙ ap (λ t. start ++ (told ++ t)) (sym (append-nil text))
+    ∙ ap (λ t. start ++ t) (sym (flat_map-append (λ t. t) texts (text ∷ []))) in
     let made : arrivals_made (exchanges set cycle (heards ++ heard ∷ [])) ≡ arrivals_made xs ++ arrival_made h a =
     ap arrivals_made more
     ∙ flat_map-append (λ (x : Exchange). arrival_made x.before x.asked) xs (x ∷ [])
@@ -86,6 +95,7 @@ end-asked set h heard = of_command (command_heard set heard) refl
     of_command : (a : Asked) → command_heard set heard ≡ a → is_end (asked set h heard) ≡ is_end (command_heard set heard)
     of_command (Err fault) is = rw is refl
     of_command (Ok End) is = rw is refl
+    of_command (Ok (Ahead slots)) is = rw is refl
     of_command (Ok (Arrive event)) is =
         elim (cases_Bool (nat_lt (last_row h) ARRIVAL_LIMIT)) [
           | inl may ↦ rw (is, may) refl
@@ -133,18 +143,25 @@ row-text set other row time h event own same =
     ∙ sym (append-nil (record_row set (record { row = last_row h + 1; slot = time_of h; event = event })))
 
 -- a dialogue that goes on by one answer
-pub turn-put : (set : TaskSet) (cycle number : ℕ) (before between after : Seen) (heards : List Heard) (heard : Heard) (a : Asked) → number ≡ length heards + 1 → a ≡ asked set (history_heard set cycle started heards) heard → ArePut before between (dialogue_texts set cycle heards) → ArePut between after (exchange_texts set cycle number (history_heard set cycle started heards) a) → ArePut before after (dialogue_texts set cycle (heards ++ heard ∷ []))
-turn-put set cycle number before between after heards heard a counted is first later =
+pub turn-put : (set : TaskSet) (cycle number : ℕ) (before between after : Seen) (heards : List Heard) (heard : Heard) (a : Asked) → number ≡ length heards + 1 → a ≡ asked set (history_heard set cycle started heards) heard → AreAnswered set cycle heards before between → IsAnswered set cycle number (history_heard set cycle started heards) a between after → AreAnswered set cycle (heards ++ heard ∷ []) before after
+turn-put set cycle number before between after heards heard a counted is (texts, all, first) later =
     let h = history_heard set cycle started heards in
-    let told = subst (λ (b : Asked). ArePut between after (exchange_texts set cycle number h b)) is later in
-    subst (ArePut before after) (texts-more set cycle number heards heard (omega (arith, counted))) (ArePut-trans before between after (dialogue_texts set cycle heards) (exchange_texts set cycle number h (asked set h heard)) first told)
+    let (text, own, told) = subst (λ (b : Asked). IsAnswered set cycle number h b between after) is later in
+    let xs = exchanges set cycle heards in
+    let x = exchange_after set cycle 1 started heards heard in
+    let more : exchanges set cycle (heards ++ heard ∷ []) ≡ xs ++ x ∷ [] = exchanges_from-more set cycle 1 started heards heard in
+    let answers = subst (λ ys. AreAnswers set cycle ys (texts ++ text ∷ [])) (sym more) (AreAnswers-more set cycle xs x texts text all own) in (
+      texts ++ text ∷ [],
+      answers,
+      subst (ArePut before after) (texts-more set cycle number heards heard texts text (omega (arith, counted))) (ArePut-trans before between after (dialogue_texts set cycle heards texts) (texts_with set number h (asked set h heard) text) first told),
+    )
 
 -- where a part of the answer is put, it is of the texts of the last that is heard
-pub turn-part : (set : TaskSet) (cycle number : ℕ) (fault : DialogueFault) (between after : Seen) (heards : List Heard) (heard : Heard) (a : Asked) → number ≡ length heards + 1 → a ≡ asked set (history_heard set cycle started heards) heard → ArePutInPart fault between after (exchange_texts set cycle number (history_heard set cycle started heards) a) → ArePutInPart fault between after (last_texts set cycle heards heard)
+pub turn-part : (set : TaskSet) (cycle number : ℕ) (fault : DialogueFault) (between after : Seen) (heards : List Heard) (heard : Heard) (a : Asked) → number ≡ length heards + 1 → a ≡ asked set (history_heard set cycle started heards) heard → IsAnsweredInPart set cycle number fault (history_heard set cycle started heards) a between after → IsLastInPart set cycle fault heards heard between after
 turn-part set cycle number fault between after heards heard a counted is part =
     let h = history_heard set cycle started heards in
-    let own = subst (λ (b : Asked). ArePutInPart fault between after (exchange_texts set cycle number h b)) is part in
-    subst (λ n. ArePutInPart fault between after (exchange_texts set cycle n h (asked set h heard))) counted own
+    let own = subst (λ (b : Asked). IsAnsweredInPart set cycle number fault h b between after) is part in
+    subst (λ n. IsAnsweredInPart set cycle n fault h (asked set h heard) between after) counted own
 
 -- the history after one line more
 pub turn-history : (set : TaskSet) (cycle : ℕ) (heards : List Heard) (heard : Heard) (a : Asked) → a ≡ asked set (history_heard set cycle started heards) heard → next_history set cycle (history_heard set cycle started heards) a ≡ history_heard set cycle started (heards ++ heard ∷ [])
@@ -160,6 +177,7 @@ IsBroken-at_start Gave Broke misread set cycle Output from to before after cut =
 
 -- or in an answer
 pub IsBroken-in_answer : {S : Type 0} (Gave : S → S → List Heard → Type 0) (Broke : S → S → Type 0) (misread : S → ℕ) (set : TaskSet) (cycle : ℕ) (fault : DialogueFault) (from to : S) (before after : Seen) → IsCutInAnswer set cycle (Gave from to) fault before after → IsBroken Gave Broke misread set cycle fault from to before after
-IsBroken-in_answer Gave Broke misread set cycle Input from to before after cut = absurd cut.part.breaks
+IsBroken-in_answer Gave Broke misread set cycle Input from to before after cut =
+    absurd cut.part.2.breaks
 IsBroken-in_answer Gave Broke misread set cycle RecordFault from to before after cut = inr cut
 IsBroken-in_answer Gave Broke misread set cycle Output from to before after cut = inr cut

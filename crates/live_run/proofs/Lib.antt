@@ -1,6 +1,7 @@
 pub mod DialogueLemmas
 pub mod HelpNumbers
 pub mod Lines
+pub mod LookLemmas
 pub mod PassedSlots
 pub mod RecordLemmas
 pub mod ReplayLemmas

@@ -1,5 +1,5 @@
 -- A dialogue that is over is the replay of its arrivals.
-use Rattle.std.proofs.Common.{◌≡◌, ℕ, ◌+◌, ◌<◌, ◌≤◌, true, false, List, [], ◌∷◌, ◌++◌, length, filter, nat_le, nat_lt, Ok, Err, refl, sym, ap, subst, ◌∙◌, inl, inr, append-nil, arith}
+use Rattle.std.proofs.Common.{◌≡◌, ℕ, ◌+◌, ◌<◌, ◌≤◌, true, false, List, [], ◌∷◌, ◌++◌, length, flat_map, if◌then◌else◌, nat_le, nat_lt, Ok, Err, refl, sym, ap, subst, ◌∙◌, inl, inr, append-nil, arith}
 use Rattle.std.specs.Prelude.{⊤}
 use Rattle.std.proofs.Math.ListN.{replicate}
 use Rattle.std.proofs.lemmas.Bool.{and_from, and_parts, cases_Bool, eq-eqb, or_parts, le-leb, ltb-true}
@@ -21,17 +21,18 @@ use Rattle.slot_facts.proofs.Replays.Entries.{entries_left, entries_left-arrival
 use Rattle.live_lines.specs.Lines.{Heard, line, too_long, no_more}
 use Rattle.live_lines.proofs.CommandLemmas.{command_of_text-fits}
 use Rattle.live_lines.specs.declared.commands.LiveCommand.{LiveCommand}
-use Rattle.live_lines.specs.declared.commands.LiveCommand.TheVariants.{Arrive, Pass, End}
+use Rattle.live_lines.specs.declared.commands.LiveCommand.TheVariants.{Arrive, Pass, Ahead, End}
 use Rattle.live_lines.specs.declared.line_fault.LineFault.{LineFault}
 use Rattle.live_lines.specs.Commands.{Asked, fits_set, live_command_of}
-use Rattle.live_run.specs.Dialogues.{Exchange, allowed, asked, asks_end, command_heard, exchanges_from, history_heard, next_history, answers_text, arrivals_made, start_text, GoesOn}
-use Rattle.live_run.specs.Replays.{DialoguesAreReplays, have_slots, is_answered}
+use Rattle.live_run.specs.Dialogues.{Exchange, allowed, asked, asks_end, command_heard, exchanges, exchanges_from, history_heard, next_history, answer_text, arrivals_made, start_text, AreAnswers, GoesOn, IsAnswer}
+use Rattle.live_run.specs.Replays.{DialoguesAreReplays, have_slots, is_traced, traced_text}
 use Rattle.live_run.proofs.PassedSlots.{entries_left-slots, follow-earlier, row-slots, time-slots}
 
 -- what may be asked for where the end is not: an arrival fits the set and has a row
 abbrev MayAsk : TaskSet → History → Asked → Type 0
 MayAsk set h (Ok (Arrive event)) = (event_fits set event ≡ true) × (last_row h < ARRIVAL_LIMIT)
 MayAsk set h (Ok (Pass slots)) = ⊤
+MayAsk set h (Ok (Ahead slots)) = ⊤
 MayAsk set h (Ok End) = ⊥
 MayAsk set h (Err fault) = ⊤
 
@@ -59,6 +60,7 @@ allowed-may set h heard (Pass slots) is goes =
       | inl room ↦ rw room tt
       | inr past ↦ rw past tt
     ]
+allowed-may set h heard (Ahead slots) is goes = tt
 allowed-may set h heard End is goes = let ends = rw is at goes in cc
 
 command-may : (set : TaskSet) (h : History) (heard : Heard) (a : Asked) → command_heard set heard ≡ a → asks_end set heard ≡ false → MayAsk set h (asked set h heard)
@@ -70,7 +72,34 @@ end-asked : (set : TaskSet) (h : History) (heard : Heard) (a : Asked) → comman
 end-asked set h heard (Err fault) is ends = let none = rw is at ends in cc
 end-asked set h heard (Ok (Arrive event)) is ends = let none = rw is at ends in cc
 end-asked set h heard (Ok (Pass slots)) is ends = let none = rw is at ends in cc
+end-asked set h heard (Ok (Ahead slots)) is ends = let none = rw is at ends in cc
 end-asked set h heard (Ok End) is ends = rw is refl
+
+-- the lines of the entries that one exchange makes
+abbrev entry_text : TaskSet → ℕ → Exchange → List ℕ
+entry_text set cycle x =
+    if is_traced x.asked then answer_text set cycle x.before x.asked else []
+
+-- and of exchanges
+abbrev entries_text : TaskSet → ℕ → List Exchange → List ℕ
+entries_text set cycle xs = flat_map (entry_text set cycle) xs
+
+-- where a text answers, it is that of the entries
+answer-traced : (set : TaskSet) (cycle number : ℕ) (h : History) (a : Asked) (text : List ℕ) → IsAnswer set cycle h a text → (if is_traced a then text else []) ≡ entry_text set cycle (record { number = number; before = h; asked = a })
+answer-traced set cycle number h (Ok (Arrive event)) text own = own
+answer-traced set cycle number h (Ok (Pass slots)) text own = own
+answer-traced set cycle number h (Ok (Ahead slots)) text own = refl
+answer-traced set cycle number h (Ok End) text own = own
+answer-traced set cycle number h (Err fault) text own = refl
+
+-- and so of texts that answer exchanges
+answers-traced : (set : TaskSet) (cycle : ℕ) (xs : List Exchange) (texts : List (List ℕ)) → AreAnswers set cycle xs texts → traced_text xs texts ≡ entries_text set cycle xs
+answers-traced set cycle [] [] all = refl
+answers-traced set cycle [] (text ∷ texts) all = elim all [ ]
+answers-traced set cycle (x ∷ xs) [] all = elim all [ ]
+answers-traced set cycle (x ∷ xs) (text ∷ texts) all =
+    ap (λ t. t ++ traced_text xs texts) (answer-traced set cycle x.number x.before x.asked text all.0)
+    ∙ ap (λ t. entry_text set cycle x ++ t) (answers-traced set cycle xs texts all.1)
 
 -- a dialogue is the replay of its arrivals, where a slot passes after each
 abbrev IsReplay : TaskSet → List Heard → Type 0
@@ -81,14 +110,14 @@ IsReplay set heards =
     let n = time_of (history_heard set cycle started heards) in
     have_slots n arrivals ≡ true
     → (are_fitting set n arrivals ≡ true)
-    × (start_text set cycle ++ answers_text set cycle (filter is_answered xs) ≡ trace_text set (trace set arrivals n))
+    × (start_text set cycle ++ entries_text set cycle xs ≡ trace_text set (trace set arrivals n))
 
 -- exchanges after a history are the rest of a replay of their arrivals over n slots
 pub record AreReplayed (set : TaskSet) (cycle n : ℕ) (h : History) (xs : List Exchange) : Type 0 where
   later : time_of h ≤ n
   few : last_row h ≤ ARRIVAL_LIMIT → last_row h + length (arrivals_made xs) ≤ ARRIVAL_LIMIT
   follow : arrivals_follow set n (last_row h + 1) (time_of h) (arrivals_made xs) ≡ true
-  text : answers_text set cycle (filter is_answered xs) ≡ trace_text set (entries_left set cycle n h (arrivals_made xs))
+  text : entries_text set cycle xs ≡ trace_text set (entries_left set cycle n h (arrivals_made xs))
 
 -- at the end
 replayed-end : (set : TaskSet) (cycle n number : ℕ) (h : History) → n ≡ time_of h → AreReplayed set cycle n h (record { number = number; before = h; asked = Ok End } ∷ [])
@@ -102,6 +131,15 @@ replayed-end set cycle n number h now = record {
 -- a line that is refused changes nothing
 replayed-refused : (set : TaskSet) (cycle n number : ℕ) (h : History) (fault : LineFault) (xs : List Exchange) → AreReplayed set cycle n h xs → AreReplayed set cycle n h (record { number = number; before = h; asked = Err fault } ∷ xs)
 replayed-refused set cycle n number h fault xs rest = record {
+  later = rest.later;
+  few = rest.few;
+  follow = rest.follow;
+  text = rest.text;
+}
+
+-- and so does a look ahead
+replayed-look : (set : TaskSet) (cycle n number : ℕ) (h : History) (slots : ℕ) (xs : List Exchange) → AreReplayed set cycle n h xs → AreReplayed set cycle n h (record { number = number; before = h; asked = Ok (Ahead slots) } ∷ xs)
+replayed-look set cycle n number h slots xs rest = record {
   later = rest.later;
   few = rest.few;
   follow = rest.follow;
@@ -166,6 +204,8 @@ replayed-next set cycle n number h (Ok (Arrive event)) xs may within slots later
 replayed-next set cycle n number h (Ok (Pass count)) xs may within slots later =
     let after = history_after set cycle h (replicate count slot) in
     replayed-slots set cycle n number h count (xs after) within (later after refl (omega (arith, row-slots set cycle h count, within)) slots)
+replayed-next set cycle n number h (Ok (Ahead count)) xs may within slots later =
+    replayed-look set cycle n number h count (xs h) (later h refl within slots)
 replayed-next set cycle n number h (Ok End) xs may within slots later = elim may [ ]
 
 -- the time after all that is heard
@@ -200,5 +240,7 @@ replay-whole set first last goes ends slots =
     )
 
 pub dialogues-replayed : DialoguesAreReplays
-dialogues-replayed set heards over =
-    subst (IsReplay set) (sym over.all) (replay-whole set over.first over.last over.goes_on over.ends)
+dialogues-replayed set heards answers over all slots =
+    let cycle = cycle_of set in
+    let (fits, text) = subst (IsReplay set) (sym over.all) (replay-whole set over.first over.last over.goes_on over.ends) slots in
+    (fits, ap (λ t. start_text set cycle ++ t) (answers-traced set cycle (exchanges set cycle heards) answers all) ∙ text)

@@ -59,6 +59,13 @@ ArePut-row before answers rows answers_lost rows_lost answer row told kept count
       counted = record { answers = counted; rows = more; faults = omega arith };
     }
 
+-- so an answer without a row is put
+pub ArePut-lines : (before : Seen) (answers : Option (List ℕ)) (answers_lost : ℕ) (answer : List ℕ)
+    → Appends before.answers answers answer → before.answers_lost ≤ answers_lost
+    → ArePut before (record before { answers = answers; answers_lost = answers_lost }) (record { answers = answer; rows = []; faults = [] })
+ArePut-lines before answers answers_lost answer told counted =
+    ArePut-row before answers before.rows answers_lost before.rows_lost answer [] told (Appends-nil before.rows) counted (omega arith)
+
 -- a put of the row fails, before any of the answer
 pub ArePutInPart-row : (fault : DialogueFault) (before : Seen) (rows : Option (List ℕ)) (rows_lost : ℕ) (answer row : List ℕ)
     → fault ≡ Record → AppendsPart before.rows rows row → before.rows_lost ≤ rows_lost → Rose before.rows_lost rows_lost

@@ -1,6 +1,6 @@
 -- A dialogue: lines that are heard one after the other, and what answers each at the history so
 -- far.
-use Rattle.std.specs.Prelude.{◌≡◌, ℕ, ◌+◌, Bool, true, false, List, [], ◌∷◌, ◌++◌, codes, flat_map, nat_le, nat_lt, if◌then◌else◌, Ok, Err}
+use Rattle.std.specs.Prelude.{◌≡◌, ⊤, ℕ, ◌+◌, Bool, true, false, List, [], ◌∷◌, ◌++◌, codes, flat_map, nat_le, nat_lt, if◌then◌else◌, Ok, Err}
 use Rattle.std.specs.List.{list_any}
 use Rattle.std.proofs.Math.ListN.{replicate}
 use Rattle.slot_core.specs.Calls.Results.{◌>>=◌}
@@ -13,11 +13,12 @@ use Rattle.slot_core.specs.Runs.Histories.{History, last_row, time_of}
 use Rattle.slot_core.specs.Runs.Traces.{Occurrence, arrive, slot, end_entry, entries, history_after, shown_entry, started}
 use Rattle.live_lines.specs.Lines.{Heard, line, too_long, no_more}
 use Rattle.live_lines.specs.declared.commands.LiveCommand.{LiveCommand}
-use Rattle.live_lines.specs.declared.commands.LiveCommand.TheVariants.{Arrive, Pass, End}
+use Rattle.live_lines.specs.declared.commands.LiveCommand.TheVariants.{Arrive, Pass, Ahead, End}
 use Rattle.live_lines.specs.declared.line_fault.LineFault.TheVariants.{TooLong, NoMoreRows, NoMoreSlots}
 use Rattle.live_lines.specs.Commands.{Asked, live_command_of}
 use Rattle.live_lines.specs.FaultTexts.{fault_line}
 use Rattle.live_lines.specs.Rows.{record_text}
+use Rattle.live_run.specs.Looks.{TellsLook}
 
 -- the command that is heard: that no line is left is the command `end`
 abbrev pub command_heard : TaskSet → Heard → Asked
@@ -31,6 +32,7 @@ allowed row time (Arrive event) =
     if nat_lt row ARRIVAL_LIMIT then Ok (Arrive event) else Err NoMoreRows
 allowed row time (Pass slots) =
     if nat_le (time + slots) TIME_LIMIT then Ok (Pass slots) else Err NoMoreSlots
+allowed row time (Ahead slots) = Ok (Ahead slots)
 allowed row time End = Ok End
 
 -- what is asked for after a history: the command, or why it is refused
@@ -39,10 +41,12 @@ asked set h heard = do
   command ← command_heard set heard
   allowed (last_row h) (time_of h) command
 
--- what happens after a history where this is asked for: the arrival in the next row, or the slots
+-- what happens after a history where this is asked for: the arrival in the next row, or the slots;
+-- nothing where a look ahead is asked for
 abbrev pub happening : History → Asked → List Occurrence
 happening h (Ok (Arrive event)) = arrive (last_row h + 1) event ∷ []
 happening h (Ok (Pass slots)) = replicate slots slot
+happening h (Ok (Ahead slots)) = []
 happening h (Ok End) = []
 happening h (Err fault) = []
 
@@ -70,13 +74,18 @@ history_heard set cycle h [] = h
 history_heard set cycle h (heard ∷ later) =
     history_heard set cycle (next_history set cycle h (asked set h heard)) later
 
--- what answers: the lines of the entries, at the end that of the end, and the line `refused` where
--- there is a fault
+-- what answers, but for a look ahead: the lines of the entries, at the end that of the end, and the
+-- line `refused` where there is a fault
 abbrev pub answer_text : TaskSet → ℕ → History → Asked → List ℕ
 answer_text set cycle h (Ok End) = entry_line set (end_entry (time_of h))
 answer_text set cycle h (Ok command) =
     trace_text set (entries set cycle h (happening h (Ok command)))
 answer_text set cycle h (Err fault) = codes "refused" ++ 10 ∷ []
+
+-- a text answers what is asked for: the line of a look, or else what is said above
+abbrev pub IsAnswer : TaskSet → ℕ → History → Asked → List ℕ → Type 0
+IsAnswer set cycle h (Ok (Ahead most)) text = TellsLook set cycle h most text
+IsAnswer set cycle h a text = text ≡ answer_text set cycle h a
 
 -- what is told on standard error: the fault of the line of this number
 abbrev pub fault_text : ℕ → Asked → List ℕ
@@ -94,9 +103,12 @@ arrival_made h (Err fault) = []
 abbrev pub arrivals_made : List Exchange → List Arrival
 arrivals_made xs = flat_map (λ (x : Exchange). arrival_made x.before x.asked) xs
 
--- the text of what answers them
-abbrev pub answers_text : TaskSet → ℕ → List Exchange → List ℕ
-answers_text set cycle xs = flat_map (λ (x : Exchange). answer_text set cycle x.before x.asked) xs
+-- texts answer them, one for each
+abbrev pub AreAnswers : TaskSet → ℕ → List Exchange → List (List ℕ) → Type 0
+AreAnswers set cycle [] [] = ⊤
+AreAnswers set cycle (x ∷ xs) (text ∷ texts) =
+    IsAnswer set cycle x.before x.asked text × AreAnswers set cycle xs texts
+AreAnswers set cycle xs texts = ⊥
 
 -- the text of their faults
 abbrev pub faults_text : List Exchange → List ℕ

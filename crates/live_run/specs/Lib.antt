@@ -1,6 +1,7 @@
 pub mod Calls
 pub mod Dialogues
 pub mod FaultTexts
+pub mod Looks
 pub mod Pages
 pub mod Records
 pub mod Refusals

@@ -27,6 +27,8 @@ live_help =
     ++ codes "                      nojob\n"
     ++ codes "  slot                a slot passes: run, idle\n"
     ++ codes "  slots N             N slots pass, a line each: run, idle\n"
+    ++ codes "  ahead N             what the next slot runs, and for how many slots, 1 to N,\n"
+    ++ codes "                      that stays so if nothing comes; no slot passes: ahead\n"
     ++ codes "  end                 the run ends, as it does with its input: end\n"
     ++ codes "\n"
     ++ codes "  SLOTS    1 to 65535\n"

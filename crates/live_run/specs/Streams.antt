@@ -1,5 +1,5 @@
 -- What a dialogue puts on its streams: the answers, the rows of the record, and the faults.
-use Rattle.std.specs.Prelude.{◌≡◌, ◌<◌, ◌≤◌, ◌⊎◌, ℕ, ◌+◌, ◌-◌, ◌^◌, true, List, [], ◌∷◌, ◌++◌, length, Option, Ok, Err, ⊤}
+use Rattle.std.specs.Prelude.{◌≡◌, ◌<◌, ◌≤◌, ◌⊎◌, ℕ, ◌+◌, ◌-◌, ◌^◌, true, List, [], ◌∷◌, ◌++◌, flat_map, length, Option, Ok, Err, ⊤}
 use Rattle.std.specs.Io.KnownBytes.{Appends}
 use Rattle.slot_core.specs.Calls.Counts.{Rose}
 use Rattle.slot_core.specs.declared.tasks.TaskSet.{TaskSet}
@@ -10,13 +10,13 @@ use Rattle.slot_core.specs.Runs.Histories.{History}
 use Rattle.slot_core.specs.Runs.Traces.{started}
 use Rattle.slot_io.specs.Sinks.{AppendsPart}
 use Rattle.live_lines.specs.Lines.{Heard}
-use Rattle.live_lines.specs.declared.commands.LiveCommand.TheVariants.{Arrive, Pass, End}
+use Rattle.live_lines.specs.declared.commands.LiveCommand.TheVariants.{Arrive, Pass, Ahead, End}
 use Rattle.live_lines.specs.Commands.{Asked}
 use Rattle.live_lines.specs.Rows.{record_text}
 use Rattle.live_run.specs.declared.streams.DialogueFault.{DialogueFault}
 use Rattle.live_run.specs.declared.streams.DialogueFault.TheVariants.{Input, Record, Output}
 use Rattle.live_run.specs.declared.streams.Streams.{Streams}
-use Rattle.live_run.specs.Dialogues.{asked, exchanges, history_heard, answers_text, faults_text, rows_text, start_text, answer_text, fault_text, arrival_made, GoesOn, IsOver}
+use Rattle.live_run.specs.Dialogues.{asked, exchanges, history_heard, faults_text, rows_text, start_text, answer_text, fault_text, arrival_made, AreAnswers, GoesOn, IsAnswer, IsOver}
 
 -- texts for the streams
 pub record Texts : Type 0 where
@@ -24,13 +24,17 @@ pub record Texts : Type 0 where
   pub rows : List ℕ
   pub faults : List ℕ
 
--- the texts of one exchange
-abbrev pub exchange_texts : TaskSet → ℕ → ℕ → History → Asked → Texts
-exchange_texts set cycle number h a = record {
-  answers = answer_text set cycle h a;
+-- the texts of one exchange that this text answers
+abbrev pub texts_with : TaskSet → ℕ → History → Asked → List ℕ → Texts
+texts_with set number h a text = record {
+  answers = text;
   rows = record_text set (arrival_made h a);
   faults = fault_text number a;
 }
+
+-- the texts of one exchange other than a look ahead
+abbrev pub exchange_texts : TaskSet → ℕ → ℕ → History → Asked → Texts
+exchange_texts set cycle number h a = texts_with set number h a (answer_text set cycle h a)
 
 -- what is asked for fits the plan of an executive, and its time and its last row
 abbrev pub FitsNow : Executive → Asked → Type 0
@@ -38,14 +42,16 @@ FitsNow exec (Ok (Arrive event)) =
     (event_fits exec.plan.tasks event ≡ true) × (exec.last_row < ARRIVAL_LIMIT)
     × (exec.scene.time ≤ TIME_LIMIT)
 FitsNow exec (Ok (Pass slots)) = exec.scene.time + slots ≤ TIME_LIMIT
+FitsNow exec (Ok (Ahead slots)) = 1 ≤ slots
 FitsNow exec (Ok End) = ⊤
 FitsNow exec (Err fault) = ⊤
 
--- the texts of a dialogue: the first line, and what answers, records and blames what is heard
-abbrev pub dialogue_texts : TaskSet → ℕ → List Heard → Texts
-dialogue_texts set cycle heards =
+-- the texts of a dialogue: the first line and these answers, and what records and blames what is
+-- heard
+abbrev pub dialogue_texts : TaskSet → ℕ → List Heard → List (List ℕ) → Texts
+dialogue_texts set cycle heards answers =
     let xs = exchanges set cycle heards in record {
-      answers = start_text set cycle ++ answers_text set cycle xs;
+      answers = start_text set cycle ++ flat_map (λ text. text) answers;
       rows = rows_text set xs;
       faults = faults_text xs;
     }
@@ -114,14 +120,34 @@ pub record ArePutInPart (fault : DialogueFault) (before after : Seen) (texts : T
   pub faults : AreFaultsTold before after texts.faults
   pub counted : IsCounted before after
 
--- a dialogue is over: the source gave what was heard, with which the end was asked for, and all
--- of its texts are put
+-- what is asked for in the line of this number is answered
+abbrev pub IsAnswered : TaskSet → ℕ → ℕ → History → Asked → Seen → Seen → Type 0
+IsAnswered set cycle number h a before after =
+    (text : List ℕ) × IsAnswer set cycle h a text
+    × ArePut before after (texts_with set number h a text)
+
+-- it is answered up to a put that failed
+abbrev pub IsAnsweredInPart :
+    TaskSet → ℕ → ℕ → DialogueFault → History → Asked → Seen → Seen → Type 0
+IsAnsweredInPart set cycle number fault h a before after =
+    (text : List ℕ) × IsAnswer set cycle h a text
+    × ArePutInPart fault before after (texts_with set number h a text)
+
+-- all that is heard is answered: the first line is put, and the texts of one exchange after the
+-- other
+abbrev pub AreAnswered : TaskSet → ℕ → List Heard → Seen → Seen → Type 0
+AreAnswered set cycle heards before after =
+    (answers : List (List ℕ)) × AreAnswers set cycle (exchanges set cycle heards) answers
+    × ArePut before after (dialogue_texts set cycle heards answers)
+
+-- a dialogue is over: the source gave what was heard, with which the end was asked for, and all of
+-- it is answered
 pub record IsDialogue (set : TaskSet) (cycle : ℕ) (Gave : List Heard → Type 0) (before after : Seen)
     : Type 0 where
   pub heards : List Heard
   pub gave : Gave heards
   pub over : IsOver set heards
-  pub put : ArePut before after (dialogue_texts set cycle heards)
+  pub put : AreAnswered set cycle heards before after
 
 -- a dialogue is left: all that the source gave is answered, and the end was not asked for
 pub record IsLeft (set : TaskSet) (cycle : ℕ) (Gave : List Heard → Type 0) (before after : Seen)
@@ -129,22 +155,23 @@ pub record IsLeft (set : TaskSet) (cycle : ℕ) (Gave : List Heard → Type 0) (
   pub heards : List Heard
   pub gave : Gave heards
   pub goes_on : GoesOn set heards
-  pub put : ArePut before after (dialogue_texts set cycle heards)
+  pub put : AreAnswered set cycle heards before after
 
--- the texts of the last that is heard, after others
-abbrev pub last_texts : TaskSet → ℕ → List Heard → Heard → Texts
-last_texts set cycle first last =
+-- the last that is heard, after others, is answered up to a put that failed
+abbrev pub IsLastInPart :
+    TaskSet → ℕ → DialogueFault → List Heard → Heard → Seen → Seen → Type 0
+IsLastInPart set cycle fault first last before after =
     let h = history_heard set cycle started first in
-    exchange_texts set cycle (length first + 1) h (asked set h last)
+    IsAnsweredInPart set cycle (length first + 1) fault h (asked set h last) before after
 
 -- a dialogue is cut off in its first line: nothing is heard, and a part of the line is put
 pub record IsCutAtStart (set : TaskSet) (cycle : ℕ) (Gave : List Heard → Type 0)
     (fault : DialogueFault) (before after : Seen) : Type 0 where
   pub gave : Gave []
-  pub part : ArePutInPart fault before after (dialogue_texts set cycle [])
+  pub part : ArePutInPart fault before after (dialogue_texts set cycle [] [])
 
--- a dialogue is cut off in the answer to the last that is heard: the texts of all before it are
--- put, in which the end is not asked for, and after them a part of its own
+-- a dialogue is cut off in the answer to the last that is heard: all before it is answered, in
+-- which the end is not asked for, and after that a part of its own texts is put
 pub record IsCutInAnswer (set : TaskSet) (cycle : ℕ) (Gave : List Heard → Type 0)
     (fault : DialogueFault) (before after : Seen) : Type 0 where
   pub first : List Heard
@@ -152,8 +179,8 @@ pub record IsCutInAnswer (set : TaskSet) (cycle : ℕ) (Gave : List Heard → Ty
   pub gave : Gave (first ++ last ∷ [])
   pub goes_on : GoesOn set first
   pub between : Seen
-  pub put : ArePut before between (dialogue_texts set cycle first)
-  pub part : ArePutInPart fault between after (last_texts set cycle first last)
+  pub put : AreAnswered set cycle first before between
+  pub part : IsLastInPart set cycle fault first last between after
 
 -- a read failed after the last that was heard, which is counted
 pub record IsMisread {S : Type 0} (Broke : S → S → Type 0) (misread : S → ℕ) (from between to : S)

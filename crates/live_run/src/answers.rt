@@ -16,8 +16,9 @@ ghost use Rattle.slot_io.specs.Sinks.{AppendsPart};
 ghost use Rattle.live_lines.specs.Commands.{fits_set};
 ghost use Rattle.live_lines.specs.Lines.{heard};
 ghost use Rattle.live_run.specs.Dialogues.{allowed, asked, command_heard, next_history};
-ghost use Rattle.live_run.specs.Streams.{exchange_texts, seen, ArePut, ArePutInPart, FitsNow};
+ghost use Rattle.live_run.specs.Streams.{exchange_texts, seen, ArePut, ArePutInPart, FitsNow, IsAnswered, IsAnsweredInPart};
 
+use crate::looks::look;
 use crate::puts::{put_answer, put_end, put_entry, put_fault, put_row};
 use crate::record::RecordFile;
 use crate::streams::{DialogueFault, Streams};
@@ -79,15 +80,15 @@ pub(crate) fn answer<T: SpareTable, K: Sink, R: RecordFile, E: Sink, L: Ledger>(
     steps: &mut Steps<L>,
 ) -> Result<(), DialogueFault>
     requires { FitsNow exec.old asked }
-    ensures put { OnOk result ((h : History) → StandsFor exec.old h → ArePut
+    ensures put { OnOk result ((h : History) → StandsFor exec.old h → IsAnswered
+        exec.old.plan.tasks exec.old.plan.cycle number h asked
         (seen K.written K.faults R.written R.faults E.written E.faults streams.old)
-        (seen K.written K.faults R.written R.faults E.written E.faults streams.new)
-        (exchange_texts exec.old.plan.tasks exec.old.plan.cycle number h asked)) }
-    ensures part { IfErr result (λ fault. (h : History) → StandsFor exec.old h → ArePutInPart
-        fault
+        (seen K.written K.faults R.written R.faults E.written E.faults streams.new)) }
+    ensures part { IfErr result (λ fault. (h : History) → StandsFor exec.old h
+        → IsAnsweredInPart
+        exec.old.plan.tasks exec.old.plan.cycle number fault h asked
         (seen K.written K.faults R.written R.faults E.written E.faults streams.old)
-        (seen K.written K.faults R.written R.faults E.written E.faults streams.new)
-        (exchange_texts exec.old.plan.tasks exec.old.plan.cycle number h asked)) }
+        (seen K.written K.faults R.written R.faults E.written E.faults streams.new)) }
     ensures stands { OnOk result ((h : History) → StandsFor exec.old h → StandsFor
         exec.new
         (next_history exec.old.plan.tasks exec.old.plan.cycle h asked)) }
@@ -97,6 +98,7 @@ pub(crate) fn answer<T: SpareTable, K: Sink, R: RecordFile, E: Sink, L: Ledger>(
     match asked {
         Ok(LiveCommand::Arrive(event)) => take(exec, event, streams),
         Ok(LiveCommand::Pass(slots)) => pass(exec, slots, &mut streams.answers, steps),
+        Ok(LiveCommand::Ahead(most)) => look(exec, most, &mut streams.answers, steps),
         Ok(LiveCommand::End) => put_end(exec, &mut streams.answers),
         Err(fault) => refuse(number, fault, streams),
     }

@@ -7,6 +7,7 @@ pub mod call;
 pub mod dialogue;
 pub mod host;
 pub mod laws;
+mod looks;
 mod pages;
 mod puts;
 pub mod record;

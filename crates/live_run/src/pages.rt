@@ -59,6 +59,8 @@ commands, and what they are answered:
                       nojob
   slot                a slot passes: run, idle
   slots N             N slots pass, a line each: run, idle
+  ahead N             what the next slot runs, and for how many slots, 1 to N,
+                      that stays so if nothing comes; no slot passes: ahead
   end                 the run ends, as it does with its input: end
 
   SLOTS    1 to 65535

@@ -6,12 +6,11 @@ use Rattle.slot_core.specs.Keeping.Plans.{PlanParts}
 use Rattle.slot_core.specs.Runs.Histories.{History}
 use Rattle.slot_core.specs.Runs.Traces.{started}
 use Rattle.slot_io.specs.Sinks.{AppendsPart}
-use Rattle.std.proofs.KnownBytes.{Appends-nil}
 use Rattle.live_lines.specs.Lines.{Heard, heard}
 use Rattle.live_run.specs.Dialogues.{asked, history_heard, next_history, start_text, is_end, asks_end}
-use Rattle.live_run.specs.Streams.{seen, exchange_texts, dialogue_texts, ArePut, ArePutInPart, IsBroken}
+use Rattle.live_run.specs.Streams.{seen, AreAnswered, IsAnswered, IsAnsweredInPart, IsBroken}
 use Rattle.live_run.proofs.DialogueLemmas.{turn-put, turn-part, turn-history, IsBroken-at_start, IsBroken-in_answer, end-asked, GoesOn-more, IsOver-now}
-use Rattle.live_run.proofs.StreamLemmas.{ArePut-row, ArePutInPart-lines, at-fault}
+use Rattle.live_run.proofs.StreamLemmas.{ArePut-lines, ArePutInPart-lines, at-fault}
 use Rattle.live_run.proofs.dialogue.converse_counted.Given.{Over}
 use Rattle.live_run.proofs.dialogue.converse_counted.Goals as goal
 use Rattle.live_run.proofs.dialogue.converse_counted.Goals.{After-answer}
@@ -31,7 +30,7 @@ loop-heard-init g c =
       plan = refl;
       same = refl;
       misread = omega arith;
-      put = ArePut-row (seen g.K.Sink.written g.K.Sink.faults g.R.RecordFile.written g.R.RecordFile.faults g.E.Sink.written g.E.Sink.faults s) (g.K.Sink.written c.put_entry.new.out) (g.R.RecordFile.written s.rows) (g.K.Sink.faults c.put_entry.new.out) (g.R.RecordFile.faults s.rows) (start ++ []) [] told (Appends-nil (g.R.RecordFile.written s.rows)) c.in_ok-put_entry.ensures.counted (omega arith);
+      put = ([], tt, ArePut-lines (seen g.K.Sink.written g.K.Sink.faults g.R.RecordFile.written g.R.RecordFile.faults g.E.Sink.written g.E.Sink.faults s) (g.K.Sink.written c.put_entry.new.out) (g.K.Sink.faults c.put_entry.new.out) (start ++ []) told c.in_ok-put_entry.ensures.counted);
     }
 
 pub returns-in_err-put_entry-clause-broken : goal.returns-in_err-put_entry-clause-broken
@@ -82,7 +81,7 @@ returns-in_err-answer-clause-broken g c =
     let inv = c.loop-heard.invariant in
     let see = seen g.K.Sink.written g.K.Sink.faults g.R.RecordFile.written g.R.RecordFile.faults g.E.Sink.written g.E.Sink.faults in
     let fault = c.in_err-answer.field-0.0 in
-    let part = subst (λ (q : PlanParts). ArePutInPart fault (see c.loop-heard.streams) (see c.answer.new.streams) (exchange_texts q.tasks q.cycle (c.loop-heard.heard + 1) (before g o) c.asked_now-asked.result)) inv.plan (c.in_err-answer.ensures.part (before g o) inv.stands) in
+    let part = subst (λ (q : PlanParts). IsAnsweredInPart q.tasks q.cycle (c.loop-heard.heard + 1) fault (before g o) c.asked_now-asked.result (see c.loop-heard.streams) (see c.answer.new.streams)) inv.plan (c.in_err-answer.ensures.part (before g o) inv.stands) in
     let same : c.from_residual-in_err-answer.result ≡ Err fault = search rules in
     at-fault c.from_residual-in_err-answer.result fault (λ fault. IsBroken g.S.LineSource.gave g.S.LineSource.broke g.S.LineSource.faults p.tasks p.cycle fault c.args.source.now c.hear.new.source (see c.args.streams.now) (see c.answer.new.streams)) same
     (IsBroken-in_answer g.S.LineSource.gave g.S.LineSource.broke g.S.LineSource.faults p.tasks p.cycle fault c.args.source.now c.hear.new.source (see c.args.streams.now) (see c.answer.new.streams)
@@ -96,13 +95,13 @@ returns-in_err-answer-clause-broken g c =
       part = turn-part p.tasks p.cycle (c.loop-heard.heard + 1) fault (see c.loop-heard.streams) (see c.answer.new.streams) inv.heards (now_heard g o) c.asked_now-asked.result (number g o) (is_asked g o) part;
     }))
 
--- the texts with the answer
-all_put : (g : Over) (c : After-answer g) → ArePut (seen g.K.Sink.written g.K.Sink.faults g.R.RecordFile.written g.R.RecordFile.faults g.E.Sink.written g.E.Sink.faults c.loop-heard.streams) (seen g.K.Sink.written g.K.Sink.faults g.R.RecordFile.written g.R.RecordFile.faults g.E.Sink.written g.E.Sink.faults c.answer.new.streams) (exchange_texts c.loop-heard.exec.plan.tasks c.loop-heard.exec.plan.cycle (c.loop-heard.heard + 1) (before g c) c.asked_now-asked.result) → ArePut (seen g.K.Sink.written g.K.Sink.faults g.R.RecordFile.written g.R.RecordFile.faults g.E.Sink.written g.E.Sink.faults c.args.streams.now) (seen g.K.Sink.written g.K.Sink.faults g.R.RecordFile.written g.R.RecordFile.faults g.E.Sink.written g.E.Sink.faults c.answer.new.streams) (dialogue_texts c.args.exec.now.plan.tasks c.args.exec.now.plan.cycle (c.loop-heard.invariant.heards ++ now_heard g c ∷ []))
+-- with the answer all is answered
+all_put : (g : Over) (c : After-answer g) → IsAnswered c.loop-heard.exec.plan.tasks c.loop-heard.exec.plan.cycle (c.loop-heard.heard + 1) (before g c) c.asked_now-asked.result (seen g.K.Sink.written g.K.Sink.faults g.R.RecordFile.written g.R.RecordFile.faults g.E.Sink.written g.E.Sink.faults c.loop-heard.streams) (seen g.K.Sink.written g.K.Sink.faults g.R.RecordFile.written g.R.RecordFile.faults g.E.Sink.written g.E.Sink.faults c.answer.new.streams) → AreAnswered c.args.exec.now.plan.tasks c.args.exec.now.plan.cycle (c.loop-heard.invariant.heards ++ now_heard g c ∷ []) (seen g.K.Sink.written g.K.Sink.faults g.R.RecordFile.written g.R.RecordFile.faults g.E.Sink.written g.E.Sink.faults c.args.streams.now) (seen g.K.Sink.written g.K.Sink.faults g.R.RecordFile.written g.R.RecordFile.faults g.E.Sink.written g.E.Sink.faults c.answer.new.streams)
 all_put g c put =
     let p = c.args.exec.now.plan in
     let inv = c.loop-heard.invariant in
     let see = seen g.K.Sink.written g.K.Sink.faults g.R.RecordFile.written g.R.RecordFile.faults g.E.Sink.written g.E.Sink.faults in
-    let told = subst (λ (q : PlanParts). ArePut (see c.loop-heard.streams) (see c.answer.new.streams) (exchange_texts q.tasks q.cycle (c.loop-heard.heard + 1) (before g c) c.asked_now-asked.result)) inv.plan put in
+    let told = subst (λ (q : PlanParts). IsAnswered q.tasks q.cycle (c.loop-heard.heard + 1) (before g c) c.asked_now-asked.result (see c.loop-heard.streams) (see c.answer.new.streams)) inv.plan put in
     turn-put p.tasks p.cycle (c.loop-heard.heard + 1) (see c.args.streams.now) (see c.loop-heard.streams) (see c.answer.new.streams) inv.heards (now_heard g c) c.asked_now-asked.result (number g c) (is_asked g c) inv.put told
 
 -- whether it asks for the end

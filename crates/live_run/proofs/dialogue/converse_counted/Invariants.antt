@@ -3,7 +3,7 @@ use Rattle.slot_core.specs.Keeping.Executives.{StandsFor}
 use Rattle.slot_core.specs.Runs.Traces.{started}
 use Rattle.live_lines.specs.Lines.{Heard}
 use Rattle.live_run.specs.Dialogues.{history_heard, GoesOn}
-use Rattle.live_run.specs.Streams.{seen, dialogue_texts, ArePut}
+use Rattle.live_run.specs.Streams.{seen, AreAnswered}
 use Rattle.live_run.proofs.dialogue.converse_counted.Given as goal
 
 -- so many were heard, all of them are answered, and the end was not asked for
@@ -18,5 +18,5 @@ invariant-loop-heard g l =
       plan : l.exec.plan ≡ l.fn.exec.plan;
       same : g.R.RecordFile.made l.streams.rows ≡ g.R.RecordFile.made l.fn.streams.rows;
       misread : g.S.LineSource.faults l.fn.source ≤ g.S.LineSource.faults l.source;
-      put : ArePut (seen g.K.Sink.written g.K.Sink.faults g.R.RecordFile.written g.R.RecordFile.faults g.E.Sink.written g.E.Sink.faults l.fn.streams) (seen g.K.Sink.written g.K.Sink.faults g.R.RecordFile.written g.R.RecordFile.faults g.E.Sink.written g.E.Sink.faults l.streams) (dialogue_texts l.fn.exec.plan.tasks l.fn.exec.plan.cycle heards);
+      put : AreAnswered l.fn.exec.plan.tasks l.fn.exec.plan.cycle heards (seen g.K.Sink.written g.K.Sink.faults g.R.RecordFile.written g.R.RecordFile.faults g.E.Sink.written g.E.Sink.faults l.fn.streams) (seen g.K.Sink.written g.K.Sink.faults g.R.RecordFile.written g.R.RecordFile.faults g.E.Sink.written g.E.Sink.faults l.streams);
     }
