@@ -94,10 +94,10 @@ _slotunits() {
     COMPREPLY=()
     case ${COMP_WORDS[1]}:$COMP_CWORD in
     *:1)
-        local questions='tasks'
+        local questions='tasks check'
         COMPREPLY=($(compgen -W "$questions --help --version" -- "$current"))
         ;;
-    tasks:2) _slotshift_files toml "$current" ;;
+    tasks:2 | check:2) _slotshift_files toml "$current" ;;
     esac
 }
 

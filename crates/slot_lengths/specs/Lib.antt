@@ -1,3 +1,4 @@
 pub mod Checks
+pub mod Laws
 pub mod Lengths
 pub mod Lines

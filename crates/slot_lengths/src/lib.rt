@@ -3,6 +3,7 @@
 #![tactic(auto)]
 
 pub mod checks;
+pub mod laws;
 mod lengths;
 mod lines;
 mod text;

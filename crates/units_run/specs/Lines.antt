@@ -25,25 +25,32 @@ refusal_line name refusal = reason_of name refusal ++ 10 ∷ []
 
 -- the usage line
 abbrev pub units_usage : List ℕ
-units_usage = codes "usage: slotunits tasks U\n"
+units_usage = codes "usage: slotunits tasks U | check U [FROM TO]\n"
 
 -- the help
 abbrev pub units_help : List ℕ
 units_help =
-    codes "usage: slotunits tasks U\n"
+    codes "usage: slotunits tasks U | check U [FROM TO]\n"
     ++ codes "       slotunits --help\n"
     ++ codes "       slotunits --version\n"
     ++ codes "\n"
-    ++ codes "Reads times, and writes the task file in slots that stands for them. Worst\n"
-    ++ codes "cases round up, separations down, and windows inwards.\n"
+    ++ codes "Turns times into slots. Worst cases round up, separations down, and windows\n"
+    ++ codes "inwards.\n"
     ++ codes "\n"
-    ++ codes "  U   a file of units (TOML), at most 1048576 bytes\n"
+    ++ codes "words:\n"
+    ++ codes "  tasks U    the task file in slots that stands for U\n"
+    ++ codes "  check U [FROM TO]\n"
+    ++ codes "             a line for each length of a slot, from FROM to TO, that divides all\n"
+    ++ codes "             periods: first those with which U fits, the least load first\n"
+    ++ codes "\n"
+    ++ codes "  U          a file of units (TOML), at most 1048576 bytes\n"
+    ++ codes "  FROM, TO   times, as 100us and 1ms\n"
     ++ codes "\n"
     ++ codes "statuses:\n"
     ++ codes "  0   done\n"
     ++ codes "  1   the words are none of these forms\n"
     ++ codes "  2   U cannot be read\n"
     ++ codes "  3   U has too many bytes\n"
-    ++ codes "  4   U has a fault, or its set in slots has\n"
+    ++ codes "  4   U has a fault; of tasks, its set in slots has\n"
     ++ codes "  7   standard output takes no more\n"
     ++ codes "  8   memory ran out\n"

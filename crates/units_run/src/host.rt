@@ -5,7 +5,7 @@ ghost use Rattle.std.specs.Process.{exit_status};
 ghost use Rattle.command_line.specs.declared.status.Status.{Status};
 ghost use Rattle.command_line.specs.Pages.{page_of};
 ghost use Rattle.command_line.specs.Statuses.{exit_number};
-ghost use Rattle.units_run.specs.Runs.{file_of};
+ghost use Rattle.units_run.specs.Questions.{question_of};
 
 use crate::run;
 use command_line::Status;
@@ -43,7 +43,7 @@ where
     R: Files + AllocGlobal + Drop,
     ensures memory { IsErr words → result ≡ Status.Memory }
     ensures usage { IfOk words (λ words. (result ≡ Status.Usage)
-        ↔ ((page_of words ≡ None) × (file_of words ≡ None))) }
+        ↔ ((page_of words ≡ None) × (question_of words ≡ None))) }
 {
     match words {
         Ok(words) => run_over(out, err, rt, &words),
@@ -57,7 +57,7 @@ where
     O: Write + Drop,
     E: Write + Drop,
     R: Files + AllocGlobal + Drop,
-    ensures { (result ≡ Status.Usage) ↔ ((page_of words.now ≡ None) × (file_of words.now ≡ None)) }
+    ensures { (result ≡ Status.Usage) ↔ ((page_of words.now ≡ None) × (question_of words.now ≡ None)) }
 {
     let alloc = rt.alloc();
     let mut out = HostSink::new(out);

@@ -1,22 +1,28 @@
-//! What slotunits does, over any files and sinks: a file of units to a task file in slots.
+//! What slotunits does, over any files and sinks: a file of units to a task file in slots, or to the
+//! lengths of a slot that suit it.
 #![tactic(auto)]
 
-ghost use Rattle.std.specs.Prelude.{◌≡◌, ◌≢◌, ◌↔◌, ◌⊎◌, ℕ, List, None, Some, codes, option_map};
+ghost use Rattle.std.specs.Prelude.{◌≡◌, ◌≢◌, ◌↔◌, ◌⊎◌, None, Some, codes};
 ghost use Rattle.command_line.specs.Pages.{IsPageTold, page_of, page_text};
+ghost use Rattle.command_line.specs.Refusals.{word_at};
 ghost use Rattle.command_line.specs.Reports.{IsTold};
 ghost use Rattle.command_line.specs.declared.pages.Page.{Page};
 ghost use Rattle.units_run.specs.Lines.{refusal_line, units_help, units_usage};
-ghost use Rattle.units_run.specs.Runs.{IsRefused, IsWritten, file_of, refusal_status};
+ghost use Rattle.units_run.specs.Questions.{question_of};
+ghost use Rattle.units_run.specs.Runs.{IsRefused, IsWritten, refusal_status};
+ghost use Rattle.units_run.specs.declared.questions.Question.{Question};
 ghost use Rattle.units_run.specs.declared.refusal.UnitsRefusal.{UnitsRefusal};
 
 pub mod host;
 mod pages;
+pub mod questions;
 pub mod refusal;
 mod work;
 
 use command_line::{Status, page_of};
 pub use host::run_on_host;
 use pages::tell_units_page;
+pub use questions::{Question, question_of};
 pub use refusal::UnitsRefusal;
 use refusal::refusal_line;
 use slot_core::{Memory, Words};
@@ -25,11 +31,11 @@ use std::alloc::Global;
 use work::work;
 
 /// The usage line.
-const USAGE: &[u8] = b"usage: slotunits tasks U\n";
+const USAGE: &[u8] = b"usage: slotunits tasks U | check U [FROM TO]\n";
 
 /// Does what the words ask for: tells the help or the version; or reads the file of units, and
-/// writes the task file of its set in slots in one put. It puts one line on `err` where it ends
-/// otherwise than Done.
+/// writes the answer in one put: the task file of its set in slots, or a line for each length of a
+/// slot. It puts one line on `err` where it ends otherwise than Done.
 pub fn run<F: Files, K: Sink, E: Sink>(
     alloc: Global,
     words: &Words,
@@ -38,26 +44,28 @@ pub fn run<F: Files, K: Sink, E: Sink>(
     err: &mut E,
 ) -> Status
     ensures usage { (result ≡ Status.Usage)
-        ↔ ((page_of words.now ≡ None) × (file_of words.now ≡ None)) }
+        ↔ ((page_of words.now ≡ None) × (question_of words.now ≡ None)) }
     ensures page { (page : Page) → page_of words.now ≡ Some page
         → IsPageTold (page_text (codes "slotunits") units_help page)
         (K.written out.old) (K.written out.new) (K.faults out.old) (K.faults out.new)
         (E.written err.old) (E.written err.new) (E.faults err.old) (E.faults err.new) result }
 
-    // For other words, where it is done, the file writes a set in physical time, its set in slots
-    // is sound, and what was written is read as that set.
+    // For other words, where it is done, the file writes a set in physical time. For a task file
+    // its set in slots is sound, and what was written is read as that set; for the lengths of a
+    // slot what was written are their lines.
     ensures done { page_of words.now ≡ None → result ≡ Status.Done
-        → (name : List ℕ) × (file_of words.now ≡ Some name)
-        × IsWritten (F.held files.old) name (K.written out.old) (K.written out.new) }
+        → (question : Question) × (question_of words.now ≡ Some question)
+        × IsWritten question (F.held files.old) (word_at words.now 1)
+        (K.written out.old) (K.written out.new) }
     ensures done_says_nothing { result ≡ Status.Done → err.new ≡ err.old }
 
     // Where they are refused, the refusal has its cause, and its line is told.
     ensures refused { page_of words.now ≡ None → result ≢ Status.Done → result ≢ Status.Usage
-        → (name : List ℕ) × (file_of words.now ≡ Some name)
+        → (question : Question) × (question_of words.now ≡ Some question)
         × ((e : UnitsRefusal) × (result ≡ refusal_status e)
-        × IsRefused (F.held files.old) name (F.blamed files.new)
+        × IsRefused question (F.held files.old) (word_at words.now 1) (F.blamed files.new)
         (F.faults files.old, F.faults files.new) (K.faults out.old, K.faults out.new) e
-        × IsTold (refusal_line name e)
+        × IsTold (refusal_line (word_at words.now 1) e)
         (E.written err.old) (E.written err.new) (E.faults err.old) (E.faults err.new)) }
     ensures refusal_writes_nothing { result ≢ Status.Done → result ≢ Status.WriteFault
         → out.new ≡ out.old }
@@ -68,7 +76,7 @@ pub fn run<F: Files, K: Sink, E: Sink>(
     }
 }
 
-/// Writes the task file that the words ask for.
+/// Answers the question that the words ask.
 fn run_file_of<F: Files, K: Sink, E: Sink>(
     alloc: Global,
     words: &Words,
@@ -76,58 +84,57 @@ fn run_file_of<F: Files, K: Sink, E: Sink>(
     out: &mut K,
     err: &mut E,
 ) -> Status
-    ensures usage { (result ≡ Status.Usage) ↔ (file_of words.now ≡ None) }
-    ensures done { result ≡ Status.Done → (name : List ℕ) × (file_of words.now ≡ Some name)
-        × IsWritten (F.held files.old) name (K.written out.old) (K.written out.new) }
+    ensures usage { (result ≡ Status.Usage) ↔ (question_of words.now ≡ None) }
+    ensures done { result ≡ Status.Done
+        → (question : Question) × (question_of words.now ≡ Some question)
+        × IsWritten question (F.held files.old) (word_at words.now 1)
+        (K.written out.old) (K.written out.new) }
     ensures done_says_nothing { result ≡ Status.Done → err.new ≡ err.old }
     ensures refused { result ≢ Status.Done → result ≢ Status.Usage
-        → (name : List ℕ) × (file_of words.now ≡ Some name)
+        → (question : Question) × (question_of words.now ≡ Some question)
         × ((e : UnitsRefusal) × (result ≡ refusal_status e)
-        × IsRefused (F.held files.old) name (F.blamed files.new)
+        × IsRefused question (F.held files.old) (word_at words.now 1) (F.blamed files.new)
         (F.faults files.old, F.faults files.new) (K.faults out.old, K.faults out.new) e
-        × IsTold (refusal_line name e)
+        × IsTold (refusal_line (word_at words.now 1) e)
         (E.written err.old) (E.written err.new) (E.faults err.old) (E.faults err.new)) }
     ensures refusal_writes_nothing { result ≢ Status.Done → result ≢ Status.WriteFault
         → out.new ≡ out.old }
 {
-    match file_of(words) {
-        Some(name) => run_file(alloc, name, files, out, err),
+    match question_of(words) {
+        Some(question) => run_file(alloc, question, name_of(words), files, out, err),
         None => refuse(err, USAGE, Status::Usage),
     }
 }
 
-/// The name of the file of units that the words ask for.
-fn file_of(words: &Words) -> Option<&str>
-    ensures { option_map (λ name. name.now) result ≡ file_of words.now }
+/// The name of the file of units.
+fn name_of(words: &Words) -> &str
+    ensures { result.now ≡ word_at words.now 1 }
 {
-    if words.len() == 2 && words.word(0) == "tasks" {
-        Some(words.word(1))
-    } else {
-        None
-    }
+    if words.len() > 1 { words.word(1) } else { "" }
 }
 
-/// Writes the task file of the file of units of this name.
+/// Answers the question of the file of units of this name.
 fn run_file<F: Files, K: Sink, E: Sink>(
     alloc: Global,
+    question: Question,
     name: &str,
     files: &mut F,
     out: &mut K,
     err: &mut E,
 ) -> Status
     ensures known { result ≢ Status.Usage }
-    ensures done { result ≡ Status.Done
-        → IsWritten (F.held files.old) name.now (K.written out.old) (K.written out.new) }
+    ensures done { result ≡ Status.Done → IsWritten question (F.held files.old) name.now
+        (K.written out.old) (K.written out.new) }
     ensures done_says_nothing { result ≡ Status.Done → err.new ≡ err.old }
     ensures refused { result ≢ Status.Done → (e : UnitsRefusal) × (result ≡ refusal_status e)
-        × IsRefused (F.held files.old) name.now (F.blamed files.new)
+        × IsRefused question (F.held files.old) name.now (F.blamed files.new)
         (F.faults files.old, F.faults files.new) (K.faults out.old, K.faults out.new) e
         × IsTold (refusal_line name.now e)
         (E.written err.old) (E.written err.new) (E.faults err.old) (E.faults err.new) }
     ensures refusal_writes_nothing { result ≢ Status.Done → result ≢ Status.WriteFault
         → out.new ≡ out.old }
 {
-    match work(alloc, name, files, out) {
+    match work(alloc, question, name, files, out) {
         Ok(()) => Status::Done,
         Err(refusal) => report(alloc, name, refusal, err).status(),
     }

@@ -22,21 +22,28 @@ pub(crate) fn tell_units_page<K: Sink, E: Sink>(page: Page, out: &mut K, err: &m
 fn help() -> &'static [u8]
     ensures { result.now ≡ units_help }
 {
-    b"usage: slotunits tasks U
+    b"usage: slotunits tasks U | check U [FROM TO]
        slotunits --help
        slotunits --version
 
-Reads times, and writes the task file in slots that stands for them. Worst
-cases round up, separations down, and windows inwards.
+Turns times into slots. Worst cases round up, separations down, and windows
+inwards.
 
-  U   a file of units (TOML), at most 1048576 bytes
+words:
+  tasks U    the task file in slots that stands for U
+  check U [FROM TO]
+             a line for each length of a slot, from FROM to TO, that divides all
+             periods: first those with which U fits, the least load first
+
+  U          a file of units (TOML), at most 1048576 bytes
+  FROM, TO   times, as 100us and 1ms
 
 statuses:
   0   done
   1   the words are none of these forms
   2   U cannot be read
   3   U has too many bytes
-  4   U has a fault, or its set in slots has
+  4   U has a fault; of tasks, its set in slots has
   7   standard output takes no more
   8   memory ran out
 "

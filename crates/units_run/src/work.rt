@@ -6,36 +6,40 @@ ghost use Rattle.slot_core.specs.Sets.Ranges.{is_in_range, is_sound};
 ghost use Rattle.clock_units.specs.Derived.{derived_set, is_shaped};
 ghost use Rattle.task_toml.specs.Reading.{reading_of_tasks};
 ghost use Rattle.unit_toml.specs.Reading.{reading_of_units};
-ghost use Rattle.units_run.specs.Runs.{IsFileRefusal, IsRead, IsRefused, IsSetRefusal, IsText, IsTextRefusal, IsUnitsRefusal, IsWritten};
+ghost use Rattle.units_run.specs.Runs.{AreLengths, IsAnswer, IsAnswerRefusal, IsFileRefusal, IsRead, IsReadingRefusal, IsRefused, IsSetRefusal, IsText, IsTextRefusal, IsUnitsRefusal, IsWritten};
 ghost use Rattle.units_run.specs.declared.refusal.UnitsRefusal.TheVariants.{WriteFault as WriteRefusal};
 ghost use Rattle.units_run.specs.declared.refusal.UnitsRefusal.{UnitsRefusal};
 
+use crate::questions::Question;
 use crate::refusal::UnitsRefusal;
 use clock_units::{PhysicalSet, UnitFault, slots_of};
-use slot_core::{Failed, TASK_FILE_LIMIT, TaskFault, TaskSet};
+use slot_core::{Failed, Memory, TASK_FILE_LIMIT, TaskFault, TaskSet};
 use slot_io::{Files, ReadFault, Sink};
+use slot_lengths::lengths_text;
 use source_check::check;
 use std::alloc::Global;
 use task_text::{TextFault, text_of};
 use unit_toml::{UnitsFault, read_units};
 
-/// Reads the file of units of this name, and writes the task file of its set in slots.
+/// Reads the file of units of this name, and writes the answer to the question.
 pub(crate) fn work<F: Files, K: Sink>(
     alloc: Global,
+    question: Question,
     name: &str,
     files: &mut F,
     out: &mut K,
 ) -> Result<(), UnitsRefusal>
     ensures written { OnOk result
-        (IsWritten (F.held files.old) name.now (K.written out.old) (K.written out.new)) }
+        (IsWritten question (F.held files.old) name.now (K.written out.old) (K.written out.new)) }
     ensures reads_well { OnOk result (F.faults files.new ≡ F.faults files.old) }
-    ensures refused { IfErr result (IsRefused (F.held files.old) name.now (F.blamed files.new)
-        (F.faults files.old, F.faults files.new) (K.faults out.old, K.faults out.new)) }
+    ensures refused { IfErr result (IsRefused question (F.held files.old) name.now
+        (F.blamed files.new) (F.faults files.old, F.faults files.new)
+        (K.faults out.old, K.faults out.new)) }
     ensures untouched { (e : UnitsRefusal) → result ≡ Err e → e ≢ WriteRefusal
         → out.new ≡ out.old }
 {
     let bytes = read_file(alloc, name, files)?;
-    let text = text_from(alloc, bytes.as_slice())?;
+    let text = answer_to(alloc, question, bytes.as_slice())?;
     match out.put(text.as_slice()) {
         Ok(()) => Ok(()),
         Err(Failed) => Err(UnitsRefusal::WriteFault),
@@ -61,6 +65,29 @@ fn read_file<F: Files>(alloc: Global, name: &str, files: &mut F) -> Result<Vec<u
     }
 }
 
+/// The answer to the question of the bytes of a file of units.
+fn answer_to(alloc: Global, question: Question, bytes: &[u8]) -> Result<Vec<u8>, UnitsRefusal>
+    ensures answer { IfOk result (λ text. IsAnswer question bytes.now text.items) }
+    ensures refused { IfErr result (IsAnswerRefusal question bytes.now) }
+{
+    match question {
+        Question::Tasks => text_from(alloc, bytes),
+        Question::Check(from, to) => lengths_from(alloc, bytes, from, to),
+    }
+}
+
+/// The lines of the lengths of a slot for the bytes of a file of units.
+fn lengths_from(alloc: Global, bytes: &[u8], from: u64, to: u64) -> Result<Vec<u8>, UnitsRefusal>
+    ensures lengths { IfOk result (λ text. AreLengths from to bytes.now text.items) }
+    ensures refused { IfErr result (IsReadingRefusal bytes.now) }
+{
+    let mut physical = units_of(alloc, bytes)?;
+    match lengths_text(alloc, &mut physical, from, to) {
+        Ok(text) => Ok(text),
+        Err(Memory) => Err(UnitsRefusal::Memory),
+    }
+}
+
 /// The task file of the bytes of a file of units.
 fn text_from(alloc: Global, bytes: &[u8]) -> Result<Vec<u8>, UnitsRefusal>
     ensures text { IfOk result (λ text. IsText bytes.now text.items) }
@@ -74,7 +101,7 @@ fn text_from(alloc: Global, bytes: &[u8]) -> Result<Vec<u8>, UnitsRefusal>
 fn units_of(alloc: Global, bytes: &[u8]) -> Result<PhysicalSet, UnitsRefusal>
     ensures units { IfOk result (λ physical. reading_of_units bytes.now ≡ Ok physical) }
     ensures shaped { IfOk result (λ physical. is_shaped physical ≡ true) }
-    ensures refused { IfErr result (IsTextRefusal bytes.now) }
+    ensures refused { IfErr result (IsReadingRefusal bytes.now) }
 {
     match read_units(alloc, bytes) {
         Ok(physical) => Ok(physical),
