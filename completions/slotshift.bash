@@ -82,10 +82,10 @@ _slotplan() {
     COMPREPLY=()
     case ${COMP_WORDS[1]}:$COMP_CWORD in
     *:1)
-        local questions='load who header'
+        local questions='load who header supply'
         COMPREPLY=($(compgen -W "$questions --help --version" -- "$current"))
         ;;
-    load:2 | who:2 | header:2) _slotshift_files toml "$current" ;;
+    load:2 | who:2 | header:2 | supply:2) _slotshift_files toml "$current" ;;
     esac
 }
 

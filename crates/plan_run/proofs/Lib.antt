@@ -1,2 +1,4 @@
+pub mod Files
 pub mod HelpNumbers
 pub mod Refused
+pub mod Told

@@ -14,6 +14,7 @@ ghost use Rattle.plan_run.specs.Answers.{answer_due, answer_from};
 ghost use Rattle.plan_run.specs.Causes.{IsCause};
 ghost use Rattle.plan_run.specs.Pages.{plan_help, plan_usage};
 ghost use Rattle.plan_run.specs.Questions.{question_of};
+ghost use Rattle.plan_run.specs.Supplies.{SupplyIsTold, SupplyIsToldWithin};
 
 pub mod host;
 mod pages;
@@ -27,10 +28,11 @@ pub use questions::{Question, question_of};
 use slot_core::Words;
 use slot_io::{Files, Sink};
 use std::alloc::Global;
+use supply_lines::laws::{line_tells_within, lines_tell_supply};
 use work::work;
 
 /// The usage line.
-pub const USAGE: &[u8] = b"usage: slotplan load T | who T | header T\n";
+pub const USAGE: &[u8] = b"usage: slotplan load T | who T | header T | supply T | supply T D\n";
 
 /// Does what the words ask for: tells the help or the version; or reads the task file from `files`,
 /// and writes the answer to `out` in one put. It puts one line on `err` where it ends otherwise
@@ -80,7 +82,20 @@ pub fn run<F: Files, K: Sink, E: Sink>(
     ensures part { page_of words.now ≡ None → result ≡ Status.WriteFault
         → IfSome (F.held files.old) (λ held. (text : List ℕ) × (answer_due held words.now ≡ Ok text)
         × AppendsPart (K.written out.old) (K.written out.new) text) }
+
+    // What is written of the supply tells which requests are always accepted.
+    ensures supply { page_of words.now ≡ None → result ≡ Status.Done
+        → question_of words.now ≡ Some Question.Supply
+        → IfSome (F.held files.old) (λ held. (text : List ℕ) × SupplyIsTold held words.now text
+        × Appends (K.written out.old) (K.written out.new) text) }
+    ensures supply_within { (within : ℕ) → page_of words.now ≡ None → result ≡ Status.Done
+        → question_of words.now ≡ Some (Question.SupplyWithin within)
+        → IfSome (F.held files.old) (λ held. (text : List ℕ)
+        × SupplyIsToldWithin held words.now within text
+        × Appends (K.written out.old) (K.written out.new) text) }
 {
+    lines_tell_supply();
+    line_tells_within();
     match page_of(words) {
         Some(page) => tell_plan_page(page, out, err),
         None => answer_words(alloc, words, files, out, err),

@@ -19,6 +19,7 @@ use run_steps::{plan_from, tasks_from};
 use slot_core::Words;
 use slot_io::{Files, Sink};
 use std::alloc::Global;
+use supply_lines::{supply_text, within_text};
 
 /// Reads the task file, and writes the answer in one put.
 pub(crate) fn work<F: Files, K: Sink>(
@@ -70,6 +71,8 @@ fn answer<F: Files>(
         Question::Load => load(alloc, words, files),
         Question::Who => who(alloc, words, files),
         Question::Header => header(alloc, words, files),
+        Question::Supply => supply(alloc, words, files),
+        Question::SupplyWithin(within) => supply_within(alloc, words, within, files),
     }
 }
 
@@ -103,5 +106,32 @@ fn header<F: Files>(alloc: Global, words: &Words, files: &mut F) -> Result<Vec<u
 {
     let plan = plan_from(alloc, words, files, Source::Tasks)?;
     let text = header_text(alloc, &plan)?;
+    Ok(text)
+}
+
+/// The lines of the supply of the plan of the task file.
+fn supply<F: Files>(alloc: Global, words: &Words, files: &mut F) -> Result<Vec<u8>, Refusal>
+    ensures { IsReading F.held F.faults F.blamed files.old files.new words.now
+        (same_file File.Tasks) (λ held. answer_from held words.now Question.Supply) result
+        (λ text. text.items) }
+{
+    let plan = plan_from(alloc, words, files, Source::Tasks)?;
+    let text = supply_text(alloc, &plan)?;
+    Ok(text)
+}
+
+/// The line of the supply within so many slots.
+fn supply_within<F: Files>(
+    alloc: Global,
+    words: &Words,
+    within: u32,
+    files: &mut F,
+) -> Result<Vec<u8>, Refusal>
+    ensures { IsReading F.held F.faults F.blamed files.old files.new words.now
+        (same_file File.Tasks) (λ held. answer_from held words.now (Question.SupplyWithin within))
+        result (λ text. text.items) }
+{
+    let plan = plan_from(alloc, words, files, Source::Tasks)?;
+    let text = within_text(alloc, &plan, within)?;
     Ok(text)
 }

@@ -17,7 +17,7 @@ use Rattle.supply_find.specs.declared.supply.Supply.{Supply}
 use Rattle.supply_find.specs.Found.{supply_of, supply_slots, SupplyIsFound, SupplyRisesSlowly}
 use Rattle.supply_find.specs.Stairs.{is_flat_end, NumbersAreReadBetween, RiseSlowly}
 use Rattle.supply_lines.proofs.Tables.{ends-inside}
-use Rattle.supply_lines.specs.Lines.{ends_of, lines_of, read_from, read_at, IsExact, TellSupply, LinesTellSupply}
+use Rattle.supply_lines.specs.Lines.{ends_of, lines_of, read_from, read_at, IsExact, TellSupply, LineTellsWithin, LinesTellSupply}
 
 -- ---- the numbers of a table are read of the lines at its flat ends
 
@@ -152,3 +152,11 @@ module _ (found : SupplyIsFound) (slowly : SupplyRisesSlowly) (between : Numbers
 
 pub tell-supply : SupplyIsFound → SupplyRisesSlowly → NumbersAreReadBetween → SupplyIsTheMost → LinesTellSupply
 tell-supply found slowly between most set sound feasible = told found slowly between most set sound feasible
+
+pub tells-within : SupplyIsFound → SupplyIsTheMost → LineTellsWithin
+tells-within found most set within sound feasible some near =
+    let exact = found set within sound feasible near in
+    record {
+      exact = exact;
+      always = λ offer. most set offer within (supply_slots set within) sound feasible some near exact.0;
+    }

@@ -88,3 +88,15 @@ abbrev pub LinesTellSupply : Type 0
 LinesTellSupply =
     (set : TaskSet) → is_sound set ≡ true → IsFeasible set (cycle_of set)
     → TellSupply set (lines_of set)
+
+-- the one line tells the supply: it is exact, and a request is always accepted exactly where it is
+-- no more
+pub record TellsWithin (set : TaskSet) (within : ℕ) (s : Supply) : Type 0 where
+  pub exact : IsExact set (within, s)
+  pub always : (offer : ℕ) → (offer ≤ s.slots ↔ IsAlwaysAccepted set offer within)
+
+-- so does the line within each number of slots up to the cycle
+abbrev pub LineTellsWithin : Type 0
+LineTellsWithin =
+    (set : TaskSet) (within : ℕ) → is_sound set ≡ true → IsFeasible set (cycle_of set)
+    → 1 ≤ within → within ≤ cycle_of set → TellsWithin set within (supply_of set within)

@@ -1,5 +1,5 @@
 -- The refusal is the one of the work, or want of memory for its line.
-use Rattle.std.proofs.Common.{◌≡◌, Err, refl, sym, ap, subst, ◌∙◌, inl, inr}
+use Rattle.std.proofs.Common.{◌≡◌, Err, sym, ap, subst, ◌∙◌, inl, inr}
 use Rattle.command_line.specs.declared.refusal.Refusal.TheVariants.{WriteFault}
 use Rattle.command_line.specs.Refusals.{has_fixed_line, refusal_status}
 use Rattle.plan_run.specs.Answers.{answer_from}
