@@ -40,7 +40,7 @@ within-at c cycle next zero (j ∷ jobs) job offer at made =
 within-at c cycle next (suc n) (j ∷ jobs) job offer at made =
     within-at c cycle (next_row next j) n jobs job offer at made
 
-next-row : (next : ℕ) (job : Job) → next ≤ next_row next job
+pub next-row : (next : ℕ) (job : Job) → next ≤ next_row next job
 next-row next job = by_kind (is_offline job.key)
   where
     by_kind : (b : Bool) → next ≤ cond b (next + 1) next

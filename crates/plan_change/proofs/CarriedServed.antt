@@ -16,8 +16,9 @@ use Rattle.slot_core.specs.Offline.Keys.{is_earlier}
 use Rattle.slot_core.specs.Offline.OfflineJobs.{offline_jobs}
 use Rattle.slot_core.specs.Sets.Cycles.{cycle_of}
 use Rattle.slot_core.specs.Sets.Ranges.{is_sound}
+use Rattle.slot_core.specs.Feasibility.Feasible.{IsFeasible}
 use Rattle.slot_core.specs.Runs.Choice.{choice, earliest, ready}
-use Rattle.slot_core.specs.Runs.Histories.{firm_jobs, History, sporadic_jobs, time_of}
+use Rattle.slot_core.specs.Runs.Histories.{executed, firm_jobs, History, sporadic_jobs, time_of}
 use Rattle.slot_core.specs.Runs.Scenes.{guaranteed, has_ended, remaining, scene_of, with_left}
 use Rattle.slot_core.specs.Runs.Traces.{IsLegal, slot, started, told_of, told_of_slot}
 use Rattle.slot_facts.proofs.Choice.Earliest.{IsEarliest, IsEarliest-from_earliest, IsNotAfter, job_cmp, job_cmp_total}
@@ -28,8 +29,10 @@ use Rattle.slot_facts.proofs.Legal.Served.{every_legal_history_is_served}
 use Rattle.slot_facts.proofs.Lists.Members.{Contains-from_Has, Has, Has-append_left, Has-append_right, Has-filter, Has-filter_passes, Has-from_Contains}
 use Rattle.scene_steps.proofs.Facts.Choices.{choice-cases}
 use Rattle.plan_change.specs.declared.offers.Offer.{Offer}
-use Rattle.plan_change.specs.Laws.{CarriedJobsAreServed, CarriedJobsKeepTheirOrder}
+use Rattle.plan_change.specs.Laws.{CarriedJobsAreServed, CarriedJobsAreServedWithSoft, CarriedJobsKeepTheirOrder, CarriedJobsKeepTheirOrderWithSoft}
 use Rattle.plan_change.specs.Offers.{accepted_after, job_of}
+use Rattle.plan_change.specs.SoftWork.{Going, moved_after, offers_in}
+use Rattle.plan_change.proofs.SoftBeside.{IsSameHard-moved}
 
 -- the job of an accepted offer stays
 firm-kept : (offers : List Offer) (h : History) (job : Job) → Has (firm_jobs h) job → Has (firm_jobs (accepted_after h offers)) job
@@ -45,26 +48,40 @@ firm-listed (first ∷ offers) h offer (inl e) =
 firm-listed (first ∷ offers) h offer (inr at) =
     firm-listed offers (Firm first.row first.slots first.within Accepted ∷ h) offer at
 
--- at every time after the change
-carried-listed : (set : TaskSet) (offers : List Offer) (offer : Offer) (later : History) → Contains offers offer → let h = later ++ accepted_after started offers in Has (guaranteed set (cycle_of set) h) (job_of 0 offer)
-carried-listed set offers offer later at =
-    let first = accepted_after started offers in
+-- a firm job of the change is listed at every time after it
+listed-later : (set : TaskSet) (first later : History) (job : Job) → Has (firm_jobs first) job → let h = later ++ first in Has (guaranteed set (cycle_of set) h) job
+listed-later set first later job at =
     let cycles = time_of (later ++ first) / cycle_of set + 3 in
     let planned = offline_jobs set (cycle_of set) cycles in
-    let firm = firm-listed offers started offer (Has-from_Contains offers offer at) in
-    guaranteed-earlier set cycles later first (job_of 0 offer) (Has-append_left (planned ++ firm_jobs first) (sporadic_jobs set.sporadics first) (job_of 0 offer) (Has-append_right planned (firm_jobs first) (job_of 0 offer) firm))
+    guaranteed-earlier set cycles later first job (Has-append_left (planned ++ firm_jobs first) (sporadic_jobs set.sporadics first) job (Has-append_right planned (firm_jobs first) job at))
 
-pub carried_jobs_are_served : CarriedJobsAreServed
-carried_jobs_are_served set offers offer later sound feasible at legal =
-    let h = later ++ accepted_after started offers in
+-- the jobs of accepted offers are such jobs, also where soft jobs go on among them
+firm-alone : (offers : List Offer) (offer : Offer) → Contains offers offer → Has (firm_jobs (accepted_after started offers)) (job_of 0 offer)
+firm-alone offers offer at = firm-listed offers started offer (Has-from_Contains offers offer at)
+
+firm-among : (going : List Going) (offer : Offer) → Contains (offers_in going) offer → Has (firm_jobs (moved_after started going)) (job_of 0 offer)
+firm-among going offer at =
+    subst (λ (jobs : List Job). Has jobs (job_of 0 offer)) (sym (IsSameHard-moved going).firm) (firm-alone (offers_in going) offer at)
+
+served-later : (set : TaskSet) (first later : History) (offer : Offer) → is_sound set ≡ true → IsFeasible set (cycle_of set) → Has (firm_jobs first) (job_of 0 offer) → let h = later ++ first in IsLegal set (cycle_of set) h → (executed (FirmKey offer.row) h ≤ offer.slots) × (offer.within ≤ time_of h → has_ended h (job_of 0 offer) ≡ true)
+served-later set first later offer sound feasible at legal =
+    let h = later ++ first in
     let cycles = time_of h / cycle_of set + 3 in
     let job = job_of 0 offer in
-    let listed = carried-listed set offers offer later at in
+    let listed = listed-later set first later job at in
     let served = (every_legal_history_is_served set h sound feasible legal).0 in
     let all = all_jobs-of_job set cycles h job listed in (
       served.at_most_declared (FirmKey offer.row) offer.slots (Contains-from_Has (all_jobs_in set (cycle_of set) cycles h) (FirmKey offer.row, offer.slots) all),
       λ due. served.in_time job [] h (Contains-from_Has (guaranteed set (cycle_of set) h) job listed) refl (omega (arith, due)),
     )
+
+pub carried_jobs_are_served : CarriedJobsAreServed
+carried_jobs_are_served set offers offer later sound feasible at legal =
+    served-later set (accepted_after started offers) later offer sound feasible (firm-alone offers offer at) legal
+
+pub carried_jobs_are_served_with_soft : CarriedJobsAreServedWithSoft
+carried_jobs_are_served_with_soft set going offer later sound feasible at legal =
+    served-later set (moved_after started going) later offer sound feasible (firm-among going offer at) legal
 
 -- a slot that is told as a run is one
 run-from_told : (ran : Ran) (key : Key) → told_of_slot ran ≡ Run key → ran ≡ RanKey key
@@ -119,5 +136,10 @@ module _ (set : TaskSet) (h : History) (sound : is_sound set ≡ true) (legal : 
 
 pub carried_jobs_keep_their_order : CarriedJobsKeepTheirOrder
 carried_jobs_keep_their_order set offers a b later sound feasible at_a at_b earlier legal told =
-    let h = later ++ accepted_after started offers in
-    ended-from_choice set h sound legal (job_of 0 a) (job_of 0 b) (carried-listed set offers a later at_a) (carried-listed set offers b later at_b) earlier (omega arith) b.row refl told
+    let first = accepted_after started offers in
+    ended-from_choice set (later ++ first) sound legal (job_of 0 a) (job_of 0 b) (listed-later set first later (job_of 0 a) (firm-alone offers a at_a)) (listed-later set first later (job_of 0 b) (firm-alone offers b at_b)) earlier (omega arith) b.row refl told
+
+pub carried_jobs_keep_their_order_with_soft : CarriedJobsKeepTheirOrderWithSoft
+carried_jobs_keep_their_order_with_soft set going a b later sound feasible at_a at_b earlier legal told =
+    let first = moved_after started going in
+    ended-from_choice set (later ++ first) sound legal (job_of 0 a) (job_of 0 b) (listed-later set first later (job_of 0 a) (firm-among going a at_a)) (listed-later set first later (job_of 0 b) (firm-among going b at_b)) earlier (omega arith) b.row refl told

@@ -8,6 +8,9 @@ pub mod OneMore
 pub mod OwnRows
 pub mod Released
 pub mod RowOrder
+pub mod SoftBeside
+pub mod SoftRows
+pub mod SoftWay
 pub mod SwitchVerdicts
 pub mod Together
 pub mod UnderWay

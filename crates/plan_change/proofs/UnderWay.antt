@@ -32,7 +32,7 @@ accepted_after-append : (h : History) (xs ys : List Offer) → accepted_after h 
 accepted_after-append h [] ys = refl
 accepted_after-append h (x ∷ xs) ys = accepted_after-append (Firm x.row x.slots x.within Accepted ∷ h) xs ys
 
-AllAccepted-append : (set : TaskSet) (cycle : ℕ) (h : History) (xs ys : List Offer) → AllAccepted set cycle h xs → AllAccepted set cycle (accepted_after h xs) ys → AllAccepted set cycle h (xs ++ ys)
+pub AllAccepted-append : (set : TaskSet) (cycle : ℕ) (h : History) (xs ys : List Offer) → AllAccepted set cycle h xs → AllAccepted set cycle (accepted_after h xs) ys → AllAccepted set cycle h (xs ++ ys)
 AllAccepted-append set cycle h [] ys first second = second
 AllAccepted-append set cycle h (x ∷ xs) ys first second =
     (first.0, AllAccepted-append set cycle (Firm x.row x.slots x.within Accepted ∷ h) xs ys first.1 second)

@@ -2,6 +2,7 @@
 use Rattle.std.specs.Prelude.{◌≡◌, ◌≢◌, ◌↔◌, ◌⊎◌, ℕ, ◌+◌, ◌%◌, ◌≤◌, ◌<◌, true, List, ◌++◌, length, map, Contains, IsPermutation, Some, slice_get}
 use Rattle.slot_core.specs.declared.jobs.Job.{Job}
 use Rattle.slot_core.specs.declared.jobs.Key.TheVariants.{Firm}
+use Rattle.slot_core.specs.declared.jobs.SoftJob.{SoftJob}
 use Rattle.slot_core.specs.declared.tasks.TaskSet.{TaskSet}
 use Rattle.slot_core.specs.declared.events.What.TheVariants.{Run}
 use Rattle.slot_core.specs.Sets.Cycles.{cycle_of}
@@ -12,10 +13,11 @@ use Rattle.slot_core.specs.Offline.Windows.{precedes, raw_release}
 use Rattle.slot_core.specs.Claims.Futures.{CanBeServed}
 use Rattle.slot_core.specs.Keeping.Executives.{Executive, IsKept, StandsFor}
 use Rattle.slot_core.specs.Keeping.Kept.{AreApart}
+use Rattle.slot_core.specs.Runs.Answers.{firm_answer}
 use Rattle.slot_core.specs.Runs.Demand.{work_by}
 use Rattle.slot_core.specs.Runs.Histories.{History, executed, last_row, time_of}
 use Rattle.slot_core.specs.Runs.Matches.{HaveSameItems}
-use Rattle.slot_core.specs.Runs.Scenes.{has_ended, remaining, scene_of}
+use Rattle.slot_core.specs.Runs.Scenes.{has_ended, remaining, scene_of, waiting_soft}
 use Rattle.slot_core.specs.Runs.Traces.{IsLegal, slot, started, told_of}
 use Rattle.change_laws.specs.Carried.{AreCarried, carried_of, since}
 use Rattle.change_laws.specs.Grants.{CanChange}
@@ -25,6 +27,7 @@ use Rattle.plan_change.specs.declared.offers.Offer.{Offer}
 use Rattle.plan_change.specs.Carrying.{carried_from, carried_jobs, goes_first, in_row_order, NoOfflineJobGoesOn, offers_from}
 use Rattle.plan_change.specs.Changed.{CanStartWith}
 use Rattle.plan_change.specs.Offers.{accepted_after, AllAccepted, demand_of, job_of, MayBeOffered, row_after}
+use Rattle.plan_change.specs.SoftWork.{begun_anew, Going, moved_after, offers_in, softs_in}
 
 -- at every legal history offers are accepted all the way, one after the other, exactly where all of
 -- them together can be served
@@ -168,6 +171,53 @@ CarriedJobsKeepTheirOrder =
     → Contains offers a → Contains offers b
     → is_earlier (job_of 0 a) (job_of 0 b) ≡ true
     → let h = later ++ accepted_after started offers in
+    IsLegal set (cycle_of set) h
+    → told_of set (cycle_of set) h slot ≡ Run (Firm b.row)
+    → has_ended h (job_of 0 a) ≡ true
+
+-- where soft jobs go on among the offers, an offer is answered as among the offers alone
+abbrev pub SoftWorkPlaysNoPart : Type 0
+SoftWorkPlaysNoPart =
+    (set : TaskSet) (cycle : ℕ) (going : List Going) (offer : Offer)
+    → firm_answer
+    set.sporadics
+    cycle
+    (scene_of set cycle (moved_after started going))
+    offer.slots
+    offer.within
+    ≡ firm_answer
+    set.sporadics
+    cycle
+    (scene_of set cycle (accepted_after started (offers_in going)))
+    offer.slots
+    offer.within
+
+-- and the soft jobs wait in their order, each in its own row with the slots that it had left
+abbrev pub SoftWorkWaitsAsItCame : Type 0
+SoftWorkWaitsAsItCame =
+    (going : List Going)
+    → ((job : SoftJob) → Contains (softs_in going) job → 1 ≤ job.left)
+    → waiting_soft (moved_after started going) ≡ map begun_anew (softs_in going)
+
+-- in every legal history after such a change each carried job is served too
+abbrev pub CarriedJobsAreServedWithSoft : Type 0
+CarriedJobsAreServedWithSoft =
+    (set : TaskSet) (going : List Going) (offer : Offer) (later : History)
+    → is_sound set ≡ true → IsFeasible set (cycle_of set)
+    → Contains (offers_in going) offer
+    → let h = later ++ moved_after started going in
+    IsLegal set (cycle_of set) h
+    → (executed (Firm offer.row) h ≤ offer.slots)
+    × (offer.within ≤ time_of h → has_ended h (job_of 0 offer) ≡ true)
+
+-- and where one runs, each other one that goes before it has ended
+abbrev pub CarriedJobsKeepTheirOrderWithSoft : Type 0
+CarriedJobsKeepTheirOrderWithSoft =
+    (set : TaskSet) (going : List Going) (a b : Offer) (later : History)
+    → is_sound set ≡ true → IsFeasible set (cycle_of set)
+    → Contains (offers_in going) a → Contains (offers_in going) b
+    → is_earlier (job_of 0 a) (job_of 0 b) ≡ true
+    → let h = later ++ moved_after started going in
     IsLegal set (cycle_of set) h
     → told_of set (cycle_of set) h slot ≡ Run (Firm b.row)
     → has_ended h (job_of 0 a) ≡ true

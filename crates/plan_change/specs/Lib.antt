@@ -3,3 +3,4 @@ pub mod Changed
 pub mod Laws
 pub mod Lists
 pub mod Offers
+pub mod SoftWork

@@ -1,7 +1,7 @@
 //! Laws of a change of plan that is made by offers. Each is the contract of a function with no
 //! parameters and an empty body.
 
-ghost use Rattle.plan_change.specs.Laws.{AgreesWithTheSwitch, CarriedJobsAreServed, CarriedJobsKeepTheirOrder, CarriedJobsMayBeOffered, CarryingMoreIsHarder, FewJobsAreCarried, FirstOffersAreExact, LessWorkCanChange, NoOfflineJobGoesOnWhereACycleEnds, OffersTogetherAreExact, OneListIsCarried, PredecessorsGoFirst, StartedJobsAreReleased, TheOrderOfOffersIsFree, TheRowOrderRises};
+ghost use Rattle.plan_change.specs.Laws.{AgreesWithTheSwitch, CarriedJobsAreServed, CarriedJobsAreServedWithSoft, CarriedJobsKeepTheirOrder, CarriedJobsKeepTheirOrderWithSoft, CarriedJobsMayBeOffered, CarryingMoreIsHarder, FewJobsAreCarried, FirstOffersAreExact, LessWorkCanChange, NoOfflineJobGoesOnWhereACycleEnds, OffersTogetherAreExact, OneListIsCarried, PredecessorsGoFirst, SoftWorkPlaysNoPart, SoftWorkWaitsAsItCame, StartedJobsAreReleased, TheOrderOfOffersIsFree, TheRowOrderRises};
 
 /// At every legal history offers in rising rows are accepted one after the other exactly where all
 /// of them can be served together.
@@ -84,4 +84,26 @@ pub fn carried_jobs_keep_their_order()
 /// and where the successor runs it has ended.
 pub fn predecessors_go_first()
     ensures { PredecessorsGoFirst }
+{}
+
+/// Where soft jobs go over among the offers, an offer is answered as among the offers alone: so the
+/// change is granted or refused alike, with the same evidence.
+pub fn soft_work_plays_no_part()
+    ensures { SoftWorkPlaysNoPart }
+{}
+
+/// The soft jobs wait in their order, each in its own row with the slots that it had left.
+pub fn soft_work_waits_as_it_came()
+    ensures { SoftWorkWaitsAsItCame }
+{}
+
+/// In every legal history after such a change each carried job runs at most the slots of its offer,
+/// and has ended by the deadline of its offer.
+pub fn carried_jobs_are_served_with_soft()
+    ensures { CarriedJobsAreServedWithSoft }
+{}
+
+/// Where such a job runs, each other one that goes before it has ended.
+pub fn carried_jobs_keep_their_order_with_soft()
+    ensures { CarriedJobsKeepTheirOrderWithSoft }
 {}

@@ -12,9 +12,11 @@ pub mod laws;
 pub mod list;
 pub mod moves;
 pub mod offers;
+pub mod with_soft;
 
 pub use change::{ChangeFault, change_plan};
 pub use keep::Keep;
 pub use list::CarriedList;
 pub use moves::{Moved, Refusal, carry, is_fresh};
 pub use offers::Offer;
+pub use with_soft::{MovedWithSoft, carry_with_soft};

@@ -156,7 +156,7 @@ fn carry_counted<T: SpareTable, L: Ledger>(
 }
 
 /// Lists the jobs that are carried over, in their order.
-fn list_carried<T: SpareTable, L: Ledger>(
+pub(crate) fn list_carried<T: SpareTable, L: Ledger>(
     from: &Exec<T>,
     list: &mut CarriedList,
     at: u64,
@@ -258,7 +258,7 @@ fn offer_all<T: SpareTable, L: Ledger>(
 }
 
 /// Makes one offer: none where it is accepted, else the evidence against it.
-fn offer_one<T: SpareTable, L: Ledger>(
+pub(crate) fn offer_one<T: SpareTable, L: Ledger>(
     into: &mut Exec<T>,
     offer: Offer,
     steps: &mut Steps<L>,
@@ -295,7 +295,7 @@ fn offer_one<T: SpareTable, L: Ledger>(
 }
 
 /// How many of these jobs have a deadline that is cut.
-fn cut_count(jobs: &[Job], at: u64, cycle: u32) -> u32
+pub(crate) fn cut_count(jobs: &[Job], at: u64, cycle: u32) -> u32
     requires { length jobs.now < 2 ^ 32 }
     ensures { result ≡ cut_count at cycle jobs.now }
 {

@@ -191,6 +191,22 @@ impl<T: SpareTable> Exec<T> {
         self.queue.at(i, steps)
     }
 
+    /// How many soft jobs wait: at most the limit of its task set.
+    pub fn soft_count(&self) -> u32
+        ensures count { result ≡ length self.now.scene.soft }
+        ensures few { result ≤ self.now.plan.tasks.soft_limit }
+    {
+        self.soft.len() as u32
+    }
+
+    /// The soft job that waits behind so many others, with the slots that it has left; none where
+    /// fewer wait.
+    pub fn soft_job(&self, i: u32) -> Option<SoftJob>
+        ensures { result ≡ slice_get self.now.scene.soft i }
+    {
+        self.soft.get(i as usize).copied()
+    }
+
     /// The next legal arrival of each sporadic task, and what they may still ask for.
     pub fn reserve(&self) -> &Reserve
         ensures nexts { result.now.nexts ≡ self.now.scene.nexts }
