@@ -83,11 +83,30 @@ find-from p from end start later none =
     let count : from + (end + 1 - from) - start ≡ end + 1 - start = omega arith in
     find-later p from (end + 1 - from) start later none ∙ ap (λ m. find p (range_with_len start m)) count
 
--- without sporadic tasks a time is not short where the jobs fit
-pub fits-none : (sporadics : List Sporadic) (nexts : List ℕ) (now slots : ℕ) (jobs : List Job) (y : ℕ) → sporadics ≡ [] → slots + work_by jobs y ≤ y - now → is_overloaded sporadics (offer_scene now jobs nexts) slots now y ≡ false
-fits-none sporadics nexts now slots jobs y none fits =
-    let no_demand : sporadic_demand sporadics nexts now y ≡ 0 = ap (λ ss. sporadic_demand ss nexts now y) none in
-    le-ltb (y - now) (slots + (work_by jobs y + sporadic_demand sporadics nexts now y)) (omega (arith, fits, no_demand))
+-- what is found first in a range is found first in a longer one
+pub found-longer : {X : Type 0} (p : ℕ → Bool) (f : ℕ → X) (a n m : ℕ) (x : X) → n ≤ m → Some x ≡ option_map f (find p (range_with_len a n)) → Some x ≡ option_map f (find p (range_with_len a m))
+found-longer p f a zero m x le is = absurd (cc is)
+found-longer p f a (suc n) zero x le is = absurd (omega arith)
+found-longer {X = X} p f a (suc n) (suc m) x le is = by_test (p a) is (found-longer p f (a + 1) n m x (omega arith))
+  where
+    by_test : (b : Bool) → Some x ≡ option_map f (cond b (Some a) (find p (range_with_len (a + 1) n))) → (Some x ≡ option_map f (find p (range_with_len (a + 1) n)) → Some x ≡ option_map f (find p (range_with_len (a + 1) m))) → Some x ≡ option_map f (cond b (Some a) (find p (range_with_len (a + 1) m)))
+    by_test true here later = here
+    by_test false here later = later here
+
+-- and where nothing is found in a range, nothing in it passes
+pub none-found : {X : Type 0} (p : ℕ → Bool) (f : ℕ → X) (a n y : ℕ) → None ≡ option_map f (find p (range_with_len a n)) → a ≤ y → y < a + n → p y ≡ false
+none-found p f a zero y is low high = absurd (omega arith)
+none-found p f a (suc n) y is low high = by_test (p a) refl is (λ rest later. none-found p f (a + 1) n y rest later (omega arith))
+  where
+    by_test : (b : Bool) → p a ≡ b → None ≡ option_map f (cond b (Some a) (find p (range_with_len (a + 1) n))) → (None ≡ option_map f (find p (range_with_len (a + 1) n)) → a + 1 ≤ y → p y ≡ false) → p y ≡ false
+    by_test true here is later = absurd (cc is)
+    by_test false here is later =
+        ⊎_elim
+        (λ (less : a < y). later is (omega arith))
+        (λ (same : y ≤ a).
+        let at : y ≡ a = omega arith in
+        ap p at ∙ here)
+        (cases_lt a y)
 
 module _ (sporadics : List Sporadic) (nexts : List ℕ) (now slots : ℕ) (jobs : List Job) where
   -- more is needed by the time than there are slots

@@ -13,12 +13,11 @@ ghost use Rattle.slot_core.specs.Offline.OfflineJobs.{tasks_of};
 ghost use Rattle.slot_core.specs.Offline.Precedence.{after_of, comes_after};
 ghost use Rattle.slot_core.specs.Offline.Windows.{precedes};
 ghost use Rattle.slot_core.specs.Runs.Choice.{earliest};
-ghost use Rattle.slot_core.specs.Runs.Demand.{work_by};
 ghost use Rattle.trace_verify.specs.Checked.{AreDueInOrder};
-ghost use Rattle.trace_verify.specs.Dues.{AreDues};
+ghost use Rattle.trace_verify.specs.Dues.{block_end, left_before, AreDues, IsStretch};
 ghost use Rattle.trace_verify.specs.Lacks.{lack};
 
-use crate::dues::Dues;
+use crate::dues::{Dues, Stretch};
 use crate::front::Front;
 use slot_core::{Job, Key, Memory, Task, TaskSet};
 use std::alloc::Global;
@@ -111,15 +110,28 @@ impl JobList {
         self.dues.lack_after(from)
     }
 
-    /// A time from `from` on before which the jobs that are due fit the slots from `now`, with so
-    /// many slots more. Each block of times is looked at once.
-    pub(crate) fn fits_until(&self, now: u64, slots: u32, from: u64) -> u64
-        requires later { now ≤ from }
-        requires near { from ≤ 2 ^ 41 }
-        ensures later { from ≤ result }
-        ensures fits { (x : ℕ) → from ≤ x → x < result → slots + work_by self.now x ≤ x - now }
+    /// The slots left of the jobs due before a time. Each block of times is looked at once.
+    pub(crate) fn work_before(&self, time: u64) -> u64
+        requires near { time ≤ 2 ^ 41 }
+        ensures { result ≡ left_before self.now time }
     {
-        self.dues.fits_until(now, slots, from)
+        self.dues.work_before(time)
+    }
+
+    /// What is told of the times from one on to the end of its block.
+    pub(crate) fn to_block_end(&self, start: u64) -> Stretch
+        requires near { start ≤ 2 ^ 41 }
+        ensures { IsStretch (left_before self.now) start (block_end start) result }
+    {
+        self.dues.to_block_end(start)
+    }
+
+    /// The slots left of the jobs due at a time.
+    pub(crate) fn due_at(&self, time: u64) -> u64
+        requires near { time ≤ 2 ^ 41 }
+        ensures { left_before self.now (time + 1) ≡ left_before self.now time + result }
+    {
+        self.dues.due_at(time)
     }
 }
 
