@@ -88,15 +88,17 @@ impl JobList {
         requires some { All (λ (j : Job). 1 ≤ j.left) self.old }
         ensures { self.new ≡ after_run key self.old }
     {
-        run_due(&mut self.dues, self.jobs.items(), key);
-        run_job(&mut self.jobs, key);
+        let place = place_of(self.jobs.items(), key);
+        run_due(&mut self.dues, self.jobs.items(), key, place);
+        run_job(&mut self.jobs, key, place);
     }
 
     /// The job of this key goes.
     pub(crate) fn remove(&mut self, key: Key)
+        requires { AreApart self.old }
         ensures { self.new ≡ filter (λ (j : Job). not (same_key j.key key)) self.old }
     {
-        remove_all(&mut self.jobs, &mut self.dues, key);
+        remove_job(&mut self.jobs, &mut self.dues, key);
     }
 
     /// What the jobs that are due after a time lack from it on. Each block of times is looked at
@@ -164,25 +166,27 @@ fn put_job(jobs: &mut Front<Job>, place: usize, job: Job) -> Result<(), Memory>
     Ok(())
 }
 
-/// One slot less is due of the job of this key.
-fn run_due(dues: &mut Dues, jobs: &[Job], key: Key)
+/// One slot less is due of the job of this key, which stands at this place.
+fn run_due(dues: &mut Dues, jobs: &[Job], key: Key, place: Option<usize>)
+    requires place { place ≡ position (λ (j : Job). same_key j.key key) jobs.now }
     requires dues { AreDues dues.old jobs.now }
     requires apart { AreApart jobs.now }
     requires some { All (λ (j : Job). 1 ≤ j.left) jobs.now }
     ensures { AreDues dues.new (after_run key jobs.now) }
 {
-    if let Some(place) = place_of(jobs, key) {
+    if let Some(place) = place {
         dues.take(jobs[place].dl, 1);
     }
 }
 
-/// The jobs of this key go.
-fn remove_all(jobs: &mut Front<Job>, dues: &mut Dues, key: Key)
-    requires { AreDues dues.old jobs.old }
+/// The job of this key goes.
+fn remove_job(jobs: &mut Front<Job>, dues: &mut Dues, key: Key)
+    requires dues { AreDues dues.old jobs.old }
+    requires apart { AreApart jobs.old }
     ensures dues { AreDues dues.new jobs.new }
     ensures jobs { jobs.new ≡ filter (λ (j : Job). not (same_key j.key key)) jobs.old }
 {
-    while let Some(place) = place_of(jobs.items(), key) {
+    if let Some(place) = place_of(jobs.items(), key) {
         let job = jobs.remove(place);
         dues.take(job.dl, job.left);
     }
@@ -339,13 +343,15 @@ fn afters(tasks: &[Task], task: u16) -> &[u16]
     }
 }
 
-/// One slot of the job of this key has run: it goes where that was its last one.
-fn run_job(jobs: &mut Front<Job>, key: Key)
+/// One slot of the job of this key, which stands at this place, has run: it goes where that was its
+/// last one.
+fn run_job(jobs: &mut Front<Job>, key: Key, place: Option<usize>)
+    requires place { place ≡ position (λ (j : Job). same_key j.key key) jobs.old }
     requires apart { AreApart jobs.old }
     requires some { All (λ (j : Job). 1 ≤ j.left) jobs.old }
     ensures { jobs.new ≡ after_run key jobs.old }
 {
-    if let Some(place) = place_of(jobs.items(), key) {
+    if let Some(place) = place {
         let job = jobs.items()[place];
         if job.left > 1 {
             jobs.set(place, one_less(job));

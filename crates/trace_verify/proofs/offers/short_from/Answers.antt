@@ -1,4 +1,4 @@
-use Rattle.std.proofs.Common.{◌≡◌, ℕ, ◌+◌, ◌≤◌, arith}
+use Rattle.std.proofs.Common.{◌+◌, ◌≤◌, arith}
 use Rattle.trace_verify.proofs.LeftSums.{left_before-by, left_before-le}
 use Rattle.trace_verify.proofs.OfferFacts.{evidence-found, evidence-none}
 use Rattle.trace_verify.proofs.offers.short_from.Goals as goal
