@@ -312,8 +312,3 @@ pub lack-fits : (due : List ℕ) (blocks : List Stretch) (from k work : ℕ) (b 
 lack-fits due blocks from k work b are inside is read =
     let block = subst (IsStretch (due_before due) (64 * k) (64 * k + 64)) (sym read) (are.each k b inside) in
     omega (arith, stretch-few due (64 * k) (64 * k + 64) b (omega arith) block)
-
--- where the slots due, with so many more, fit the slots at the start of a stretch with what it lacks, they fit at each of its times
-pub fits-stretch : (due : List ℕ) (now slots start end work : ℕ) (b : Stretch) → now ≤ start → IsStretch (due_before due) start end b → work ≡ slots + due_before due start → work + b.lack ≤ start - now → (x : ℕ) → start ≤ x → x < end → slots + due_before due (x + 1) ≤ x - now
-fits-stretch due now slots start end work b later is sums fits x low high =
-    omega (arith, is.lack.bound x low high)

@@ -1,6 +1,6 @@
 -- Items of a list from a place on, after those before another place moved by one.
-use Rattle.std.proofs.Common.{◌≡◌, ℕ, zero, suc, ◌+◌, ◌-◌, ◌<◌, ◌≤◌, List, [], ◌∷◌, ◌++◌, length, set, take, drop, get_or, insert, remove, refl, ap, sym, ◌∙◌, add-one, arith}
-use Rattle.std.proofs.lemmas.List.{append_assoc, drop_at, drop-drop, drop-set-add, drop_more, length-append, length-drop, length-take, length-take-le, set_at}
+use Rattle.std.proofs.Common.{◌≡◌, ℕ, zero, suc, ◌+◌, ◌-◌, ◌<◌, ◌≤◌, List, ◌∷◌, ◌++◌, length, set, take, drop, get_or, insert, remove, ap, sym, ◌∙◌, arith}
+use Rattle.std.proofs.lemmas.List.{append_assoc, drop_at, drop-append-le, drop-drop, drop-set-add, drop-take, drop_more, length-drop, length-take-le, set_at}
 use Rattle.std.proofs.Math.Seq.{paste}
 
 -- the item at a place goes, and those before it move back
@@ -37,3 +37,20 @@ inserted-moved xs zero p x some inside = absurd (omega arith)
 inserted-moved xs (suc k) p x some inside =
     let before : suc k - 1 ≡ k = omega arith in
     rw before (inserted-after xs k p x inside)
+
+-- an item comes in at a place, and those behind it move back
+pub inserted-behind : {X : Type 0} (xs : List X) (k p : ℕ) (x : X) → k + p ≤ length xs → drop k (insert xs (k + p) x) ≡ insert (drop k xs) p x
+inserted-behind xs k p x inside =
+    drop-append-le k (take (k + p) xs) (x ∷ drop (k + p) xs) (omega (arith, length-take-le (k + p) xs inside))
+    ∙ ap (λ ys. ys ++ x ∷ drop (k + p) xs) (drop-take k p xs)
+    ∙ ap (λ ys. take p (drop k xs) ++ x ∷ ys) (sym (drop-drop p k xs))
+
+-- the item at a place goes, and those behind it move to the front
+pub removed-behind : {X : Type 0} (xs : List X) (k p : ℕ) → k + p < length xs → drop k (remove xs (k + p)) ≡ remove (drop k xs) p
+removed-behind xs k p inside =
+    drop-append-le k (take (k + p) xs) (drop (suc (k + p)) xs) (omega (arith, length-take-le (k + p) xs (omega arith)))
+    ∙ ap (λ ys. ys ++ drop (suc (k + p)) xs) (drop-take k p xs)
+    ∙ ap (λ ys. take p (drop k xs) ++ ys) (ap (λ n. drop n xs) (places k p) ∙ sym (drop-drop (suc p) k xs))
+  where
+    places : (k p : ℕ) → suc (k + p) ≡ k + suc p
+    places k p = omega arith

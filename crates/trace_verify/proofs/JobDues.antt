@@ -1,14 +1,17 @@
 -- The slots due at each time are those left of the jobs, also after an edit of their list.
-use Rattle.std.proofs.Common.{◌≡◌, ℕ, zero, suc, ◌+◌, ◌-◌, ◌<◌, ◌≤◌, Bool, true, false, cond, List, [], ◌∷◌, length, get_or, filter, refl, sym, ap, subst, ◌∙◌, ⊎_elim, arith}
+use Rattle.std.proofs.Common.{◌≡◌, ℕ, zero, suc, ◌+◌, ◌-◌, ◌<◌, ◌≤◌, Bool, true, false, cond, not, List, [], ◌∷◌, length, get_or, filter, refl, sym, ap, subst, ◌∙◌, ⊎_elim, arith}
 use Rattle.std.specs.Prelude.{nat_lt}
 use Rattle.std.specs.List.{insert, remove, AllByRecursion}
-use Rattle.std.proofs.lemmas.Bool.{cases_lt}
+use Rattle.std.proofs.lemmas.Bool.{cases_lt, false_from_ne_true}
 use Rattle.std.proofs.lemmas.Bool.Decides.{nat_tests}
+use Rattle.std.proofs.lemmas.List.Elements.{Contains-get_or}
 use Rattle.std.proofs.lemmas.List.Sums.{sum_by-insert, sum_by-le-sum_by, sum_by-remove, sum_by-set}
 use Rattle.slot_core.specs.declared.jobs.Key.{Key}
 use Rattle.slot_core.specs.declared.jobs.Job.{Job}
 use Rattle.slot_core.specs.Claims.Safety.{after_run}
 use Rattle.slot_core.specs.Offline.Keys.{same_key}
+use Rattle.slot_facts.proofs.Choice.Earliest.{same_from_key}
+use Rattle.slot_facts.proofs.Lists.Members.{Has-from_Contains}
 use Rattle.slot_facts.proofs.Offline.DistinctKeys.{IsApart}
 use Rattle.trace_verify.specs.Dues.{due_before, left_before, AreDues}
 use Rattle.trace_verify.proofs.JobEdits.{after_run-last, after_run-more, HasNoneBefore}
@@ -119,6 +122,20 @@ filter-all p [] pass = refl
 filter-all p (j ∷ jobs) pass =
     ap (λ b. cond b (j ∷ filter p jobs) (filter p jobs)) (pass zero j (omega arith))
     ∙ ap (λ js. j ∷ js) (filter-all p jobs (λ k d low. pass (suc k) d (omega arith)))
+
+-- where keys are apart no other job has the key of one that goes
+pub removed-apart : (key : Key) (jobs : List Job) (i : ℕ) (d : Job) → IsApart (λ (j : Job). j.key) jobs → i < length jobs → same_key (get_or jobs i d).key key ≡ true → filter (λ (j : Job). not (same_key j.key key)) (remove jobs i) ≡ remove jobs i
+removed-apart key [] i d apart inside same = absurd (omega arith)
+removed-apart key (j ∷ jobs) zero d apart inside same =
+    filter-all (λ (o : Job). not (same_key o.key key)) jobs (λ k e low.
+    let at = Has-from_Contains jobs (get_or jobs k e) (Contains-get_or jobs k e low) in
+    ap not (false_from_ne_true (same_key (get_or jobs k e).key key) (λ own. apart.0 (get_or jobs k e) at (same_from_key j.key key same ∙ sym (same_from_key (get_or jobs k e).key key own)))))
+removed-apart key (j ∷ jobs) (suc i) d apart inside same =
+    let low : i < length jobs = omega arith in
+    let at = Has-from_Contains jobs (get_or jobs i d) (Contains-get_or jobs i d low) in
+    let other : not (same_key j.key key) ≡ true = ap not (false_from_ne_true (same_key j.key key) (λ own. apart.0 (get_or jobs i d) at (same_from_key j.key key own ∙ sym (same_from_key (get_or jobs i d).key key same)))) in
+    let rest = filter (λ (o : Job). not (same_key o.key key)) (remove jobs i) in
+    ap (λ b. cond b (j ∷ rest) rest) other ∙ ap (λ js. j ∷ js) (removed-apart key jobs i d apart.1 low same)
 
 -- with one more job its slots are due at its deadline
 pub due-added : (due more : List ℕ) (job : Job) → ((n : ℕ) → due_before more n ≡ due_before due n + cond (nat_lt job.dl n) job.left 0) → due_before more job.dl + job.left ≤ due_before more (job.dl + 1)

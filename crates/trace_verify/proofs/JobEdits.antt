@@ -1,5 +1,5 @@
 -- What edits of a list of jobs leave: an insertion, a run, and the first of jobs in deadline order.
-use Rattle.std.proofs.Common.{◌≡◌, ℕ, zero, suc, ◌+◌, ◌-◌, ◌<◌, ◌≤◌, Bool, true, false, cond, List, [], ◌∷◌, length, get_or, set, take, filter, fold, sum_by, Some, None, refl, sym, ap, ◌∙◌, subst, arith}
+use Rattle.std.proofs.Common.{◌≡◌, ℕ, zero, suc, ◌+◌, ◌-◌, ◌<◌, ◌≤◌, Bool, true, false, cond, List, [], ◌∷◌, length, get_or, set, filter, fold, Some, None, refl, sym, ap, ◌∙◌, subst, arith}
 use Rattle.std.specs.Prelude.{nat_le, nat_lt, not, slice_get}
 use Rattle.std.specs.List.{insert, list_all, remove, prefix_len, AllByRecursion}
 use Rattle.std.proofs.lemmas.Bool.{cond-true, cond-false, le-leb, lt-leb, lt-ltb, le-ltb}
@@ -11,14 +11,11 @@ use Rattle.slot_core.specs.Keeping.Plans.{with_job, AreInDeadlineOrder}
 use Rattle.slot_core.specs.Offline.Keys.{is_earlier, same_key}
 use Rattle.slot_core.specs.Offline.Windows.{precedes}
 use Rattle.slot_core.specs.Runs.Choice.{earlier_of, earliest}
-use Rattle.slot_core.specs.Runs.Demand.{work_by}
-use Rattle.interval_build.proofs.Due.{HasDueFront-ordered}
 use Rattle.slot_facts.proofs.Choice.Earliest.{same_from_key}
 use Rattle.slot_facts.proofs.Choice.Runs.{run_of_first, run_of_another, run_of_later}
-use Rattle.slot_facts.proofs.Lists.Sums.{sum_by-filter}
 use Rattle.slot_facts.proofs.Offline.DistinctKeys.{IsApart}
 use Rattle.slot_facts.proofs.Plans.InOrder.{is_earlier-one_way}
-use Rattle.trace_verify.proofs.LackFacts.{AreDueFrom-first, work_by-none}
+use Rattle.trace_verify.proofs.LackFacts.{AreDueFrom-first}
 
 -- behind the jobs that go before it a job is at its place
 pub insert-with_job : (job : Job) (jobs : List Job) → insert jobs (prefix_len (λ (j : Job). is_earlier j job) jobs) job ≡ with_job job jobs
@@ -109,24 +106,6 @@ first_late-none time (j ∷ jobs) job ordered there later =
 pub first_late-empty : (time : ℕ) (jobs : List Job) → slice_get jobs 0 ≡ None → None ≡ earliest (filter (λ (j : Job). nat_le j.dl time) jobs)
 first_late-empty time [] none = refl
 first_late-empty time (j ∷ jobs) none = absurd (cc none)
-
--- before the first deadline no work is due
-pub work_by-first : (z : ℕ) (jobs : List Job) (job : Job) → AreInDeadlineOrder jobs → slice_get jobs 0 ≡ Some job → z < job.dl → work_by jobs z ≡ 0
-work_by-first z [] job ordered there low = refl
-work_by-first z (j ∷ jobs) job ordered there low =
-    let is : j ≡ job = cc there in
-    let before : z < j.dl = omega (arith, ap (λ (o : Job). o.dl) is) in
-    let self : j.dl ≤ j.dl = omega arith in
-    work_by-none j.dl z (j ∷ jobs) (self, AreDueFrom-first j jobs ordered.0) before
-
-pub work_by-empty : (z : ℕ) (jobs : List Job) → slice_get jobs 0 ≡ None → work_by jobs z ≡ 0
-work_by-empty z [] none = refl
-work_by-empty z (j ∷ jobs) none = absurd (cc none)
-
--- the jobs up to the first that is due later have the work that is due
-pub work_by-front : (x : ℕ) (jobs : List Job) → AreInDeadlineOrder jobs → sum_by (λ (j : Job). j.left) (take (prefix_len (λ (j : Job). nat_le j.dl x) jobs) jobs) ≡ work_by jobs x
-work_by-front x jobs ordered =
-    ap (sum_by (λ (j : Job). j.left)) (HasDueFront-ordered x jobs ordered).front ∙ sum_by-filter (λ (j : Job). j.left) (λ (j : Job). nat_le j.dl x) jobs
 
 -- where nothing precedes a job, no job of a list does
 pub none_precedes : (set : TaskSet) (key : Key) (jobs : List Job) → ((before : Key) → precedes set before key ≡ false) → list_all (λ (j : Job). not (precedes set j.key key)) jobs ≡ true

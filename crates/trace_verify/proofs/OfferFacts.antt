@@ -1,48 +1,16 @@
 -- The need of an offer grows at the deadlines of jobs and where sporadic demand rises alone.
-use Rattle.std.proofs.Common.{◌≡◌, ℕ, zero, suc, ◌+◌, ◌-◌, ◌<◌, ◌≤◌, Bool, true, false, cond, ltb, leb, List, [], filter, get_or, sum_by, Option, Some, None, refl, sym, ap, ◌∙◌, ⊎_elim, arith}
-use Rattle.std.specs.Prelude.{find, nat_le, All}
+use Rattle.std.proofs.Common.{◌≡◌, ℕ, zero, suc, ◌+◌, ◌-◌, ◌<◌, ◌≤◌, Bool, true, false, cond, List, Option, Some, None, refl, sym, ap, ◌∙◌, ⊎_elim, arith}
+use Rattle.std.specs.Prelude.{find}
 use Rattle.std.specs.List.{range_with_len}
 use Rattle.std.specs.Option.{option_map}
-use Rattle.std.proofs.lemmas.Bool.{cases_lt, lt-ltb, le-ltb, ltb-true}
-use Rattle.std.proofs.lemmas.Bool.Decides.{nat_tests}
+use Rattle.std.proofs.lemmas.Bool.{cases_lt, lt-ltb, le-ltb}
 use Rattle.slot_core.specs.declared.jobs.Job.{Job}
 use Rattle.slot_core.specs.declared.jobs.Evidence.{Evidence}
 use Rattle.slot_core.specs.declared.tasks.Sporadic.{Sporadic}
 use Rattle.slot_core.specs.Feasibility.Sporadics.{sporadic_demand}
 use Rattle.slot_core.specs.Runs.Answers.{evidence_at}
 use Rattle.slot_core.specs.Runs.Demand.{is_overloaded, work_by}
-use Rattle.std.proofs.lemmas.List.Elements.{Contains-get_or}
-use Rattle.slot_facts.proofs.Lists.Members.{Has-filter_passes, Has-from_Contains}
-use Rattle.slot_facts.proofs.Lists.Sums.{sum_by-filter, sum_by-plus}
-use Rattle.interval_build.proofs.Due.{is_due_after}
 use Rattle.trace_verify.specs.Offers.{offer_scene}
-
-due_in_parts : (left dl x y : ℕ) → x ≤ y → cond (leb dl x) left 0 + cond (ltb x dl) (cond (leb dl y) left 0) 0 ≡ cond (leb dl y) left 0
-due_in_parts left dl x y le = grind (arith, nat_tests)
-
-left_in_parts : (left dl x : ℕ) → cond (leb dl x) left 0 + cond (ltb x dl) left 0 ≡ left
-left_in_parts left dl x = grind (arith, nat_tests)
-
--- the work due by a later time is that due by a time and that of the jobs due after it
-pub work_by-parts : (x y : ℕ) (jobs : List Job) → x ≤ y → work_by jobs y ≡ work_by jobs x + work_by (filter (is_due_after x) jobs) y
-work_by-parts x y jobs le =
-    let rest = sum_by-filter (λ (j : Job). cond (nat_le j.dl y) j.left 0) (is_due_after x) jobs in
-    let both = sum_by-plus (λ (j : Job). cond (nat_le j.dl x) j.left 0) (λ (j : Job). cond (is_due_after x j) (cond (nat_le j.dl y) j.left 0) 0) (λ (j : Job). cond (nat_le j.dl y) j.left 0) jobs (λ j. due_in_parts j.left j.dl x y le) in
-    omega (arith, rest, both)
-
--- and so is all that is left
-pub left-parts : (x : ℕ) (jobs : List Job) → work_by jobs x + sum_by (λ (j : Job). j.left) (filter (is_due_after x) jobs) ≡ sum_by (λ (j : Job). j.left) jobs
-left-parts x jobs =
-    let rest = sum_by-filter (λ (j : Job). j.left) (is_due_after x) jobs in
-    let both = sum_by-plus (λ (j : Job). cond (nat_le j.dl x) j.left 0) (λ (j : Job). cond (is_due_after x j) j.left 0) (λ (j : Job). j.left) jobs (λ j. left_in_parts j.left j.dl x) in
-    omega (arith, rest, both)
-
--- the jobs due after a time are due later
-pub all_after : (x : ℕ) (jobs : List Job) → All (λ (j : Job). x < j.dl) (filter (is_due_after x) jobs)
-all_after x jobs k d inside =
-    let rest = filter (is_due_after x) jobs in
-    let at = Has-from_Contains rest (get_or rest k d) (Contains-get_or rest k d inside) in
-    ltb-true x (get_or rest k d).dl (Has-filter_passes (is_due_after x) jobs (get_or rest k d) at).1
 
 -- a search over a range finds nothing where nothing passes
 pub find-none : (p : ℕ → Bool) (a n : ℕ) → ((y : ℕ) → a ≤ y → y < a + n → p y ≡ false) → find p (range_with_len a n) ≡ None
@@ -83,11 +51,30 @@ find-from p from end start later none =
     let count : from + (end + 1 - from) - start ≡ end + 1 - start = omega arith in
     find-later p from (end + 1 - from) start later none ∙ ap (λ m. find p (range_with_len start m)) count
 
--- without sporadic tasks a time is not short where the jobs fit
-pub fits-none : (sporadics : List Sporadic) (nexts : List ℕ) (now slots : ℕ) (jobs : List Job) (y : ℕ) → sporadics ≡ [] → slots + work_by jobs y ≤ y - now → is_overloaded sporadics (offer_scene now jobs nexts) slots now y ≡ false
-fits-none sporadics nexts now slots jobs y none fits =
-    let no_demand : sporadic_demand sporadics nexts now y ≡ 0 = ap (λ ss. sporadic_demand ss nexts now y) none in
-    le-ltb (y - now) (slots + (work_by jobs y + sporadic_demand sporadics nexts now y)) (omega (arith, fits, no_demand))
+-- what is found first in a range is found first in a longer one
+pub found-longer : {X : Type 0} (p : ℕ → Bool) (f : ℕ → X) (a n m : ℕ) (x : X) → n ≤ m → Some x ≡ option_map f (find p (range_with_len a n)) → Some x ≡ option_map f (find p (range_with_len a m))
+found-longer p f a zero m x le is = absurd (cc is)
+found-longer p f a (suc n) zero x le is = absurd (omega arith)
+found-longer {X = X} p f a (suc n) (suc m) x le is = by_test (p a) is (found-longer p f (a + 1) n m x (omega arith))
+  where
+    by_test : (b : Bool) → Some x ≡ option_map f (cond b (Some a) (find p (range_with_len (a + 1) n))) → (Some x ≡ option_map f (find p (range_with_len (a + 1) n)) → Some x ≡ option_map f (find p (range_with_len (a + 1) m))) → Some x ≡ option_map f (cond b (Some a) (find p (range_with_len (a + 1) m)))
+    by_test true here later = here
+    by_test false here later = later here
+
+-- and where nothing is found in a range, nothing in it passes
+pub none-found : {X : Type 0} (p : ℕ → Bool) (f : ℕ → X) (a n y : ℕ) → None ≡ option_map f (find p (range_with_len a n)) → a ≤ y → y < a + n → p y ≡ false
+none-found p f a zero y is low high = absurd (omega arith)
+none-found p f a (suc n) y is low high = by_test (p a) refl is (λ rest later. none-found p f (a + 1) n y rest later (omega arith))
+  where
+    by_test : (b : Bool) → p a ≡ b → None ≡ option_map f (cond b (Some a) (find p (range_with_len (a + 1) n))) → (None ≡ option_map f (find p (range_with_len (a + 1) n)) → a + 1 ≤ y → p y ≡ false) → p y ≡ false
+    by_test true here is later = absurd (cc is)
+    by_test false here is later =
+        ⊎_elim
+        (λ (less : a < y). later is (omega arith))
+        (λ (same : y ≤ a).
+        let at : y ≡ a = omega arith in
+        ap p at ∙ here)
+        (cases_lt a y)
 
 module _ (sporadics : List Sporadic) (nexts : List ℕ) (now slots : ℕ) (jobs : List Job) where
   -- more is needed by the time than there are slots

@@ -1,5 +1,5 @@
 -- Slots due at each time, and what stretches of times tell of them.
-use Rattle.std.specs.Prelude.{◌≡◌, ℕ, ◌+◌, ◌-◌, ◌*◌, ◌<◌, ◌≤◌, ◌⊎◌, ◌^◌, List, get_or, length, take, sum, sum_by, nat_lt, if◌then◌else◌}
+use Rattle.std.specs.Prelude.{◌≡◌, ℕ, ◌+◌, ◌-◌, ◌*◌, ◌/◌, ◌<◌, ◌≤◌, ◌⊎◌, ◌^◌, List, get_or, length, take, sum, sum_by, nat_lt, if◌then◌else◌}
 use Rattle.slot_core.specs.declared.jobs.Job.{Job}
 use Rattle.trace_verify.specs.declared.dues.Stretch.{Stretch}
 
@@ -10,6 +10,10 @@ due_before due n = sum (take n due)
 -- the slots left of the jobs that are due before a time
 abbrev pub left_before : List Job → ℕ → ℕ
 left_before jobs n = sum_by (λ (j : Job). if nat_lt j.dl n then j.left else 0) jobs
+
+-- the end of the block of 64 times in which a time lies
+abbrev pub block_end : ℕ → ℕ
+block_end time = 64 * (time / 64 + 1)
 
 -- the slots due are those left of the jobs
 pub record AreDues (due : List ℕ) (jobs : List Job) : Type 0 where

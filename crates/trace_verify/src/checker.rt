@@ -362,6 +362,7 @@ impl Checker {
 
     /// The job of this key ends early, where it has started.
     fn end_job(&mut self, key: Key) -> Done
+        requires { AreApart self.old.scene.jobs }
         ensures told { result ≡ done_answer self.old.scene key }
         ensures ended { (n : ℕ) → result ≡ Done.Freed n
             → self.new ≡ record self.old { scene = without key self.old.scene } }
@@ -391,6 +392,7 @@ impl Checker {
 
     /// The firm job of this row is taken back, where it remains.
     fn take_back(&mut self, firm: u32) -> Gone
+        requires { AreApart self.old.scene.jobs }
         ensures told { result ≡ withdraw_answer self.old.scene firm }
         ensures ended { (n : ℕ) → result ≡ Gone.Freed n
             → self.new ≡ record self.old { scene = without (Key.Firm firm) self.old.scene } }
@@ -408,6 +410,7 @@ impl Checker {
 
     /// The job of this key goes.
     fn remove(&mut self, key: Key)
+        requires { AreApart self.old.scene.jobs }
         ensures { self.new ≡ record self.old { scene = without key self.old.scene } }
     {
         self.jobs.remove(key);

@@ -1,7 +1,7 @@
 //! The slots due at each time, with sums kept by blocks of times.
 
 ghost use Rattle.std.specs.Prelude.{◌≡◌, ◌+◌, ◌-◌, ◌*◌, ◌<◌, ◌≤◌, ◌^◌, ℕ, [], length, max, nat_lt, set, if◌then◌else◌, OnErr, OnOk};
-ghost use Rattle.trace_verify.specs.Dues.{due_before, AreBlocks, IsLackAfter, IsStretch};
+ghost use Rattle.trace_verify.specs.Dues.{block_end, due_before, AreBlocks, IsLackAfter, IsStretch};
 
 use slot_core::Memory;
 use std::alloc::Global;
@@ -14,10 +14,10 @@ const BLOCK: usize = 64;
 #[derive(Clone, Copy)]
 pub(crate) struct Stretch {
     /// The slots due in it.
-    work: u64,
+    pub(crate) work: u64,
     /// The most by which those due by one of its times are above the slots from its start to that
     /// time.
-    lack: u64,
+    pub(crate) lack: u64,
 }
 
 /// The slots due at each time from 0 on.
@@ -80,62 +80,103 @@ impl Dues {
         lack_after(&self.due, &self.blocks, from)
     }
 
-    /// A time from `from` on before which the slots due, with so many more, fit the slots from
-    /// `now`. Each block is looked at once.
-    pub(crate) fn fits_until(&self, now: u64, slots: u32, from: u64) -> u64
-        requires later { now ≤ from }
-        requires near { from ≤ 2 ^ 41 }
-        ensures later { from ≤ result }
-        ensures fits { (x : ℕ) → from ≤ x → x < result
-            → slots + due_before self.now (x + 1) ≤ x - now }
+    /// The slots due before a time. Each block before it is looked at once.
+    pub(crate) fn work_before(&self, time: u64) -> u64
+        requires near { time ≤ 2 ^ 41 }
+        ensures { result ≡ due_before self.now time }
     {
-        fits_until(&self.due, &self.blocks, now, slots, from)
+        work_before(&self.due, &self.blocks, time as usize)
+    }
+
+    /// What is told of the times from one on to the end of its block.
+    pub(crate) fn to_block_end(&self, start: u64) -> Stretch
+        requires near { start ≤ 2 ^ 41 }
+        ensures { IsStretch (due_before self.now) start (block_end start) result }
+    {
+        to_block_end(&self.due, &self.blocks, start as usize)
+    }
+
+    /// The slots due at a time.
+    pub(crate) fn due_at(&self, time: u64) -> u64
+        requires near { time ≤ 2 ^ 41 }
+        ensures { due_before self.now (time + 1) ≡ due_before self.now time + result }
+    {
+        due_at(&self.due, &self.blocks, time as usize)
+    }
+}
+
+/// The end of the block in which a time lies.
+pub(crate) fn block_end(time: u64) -> u64
+    requires { time ≤ 2 ^ 41 }
+    ensures { result ≡ block_end time }
+{
+    let block = BLOCK as u64;
+    block * (time / block + 1)
+}
+
+/// The slots due before a time.
+fn work_before(due: &[u64], blocks: &[Stretch], time: usize) -> u64
+    requires blocks { AreBlocks due.now blocks.now }
+    requires near { time ≤ 2 ^ 41 }
+    ensures { result ≡ due_before due.now time }
+{
+    if time / BLOCK < blocks.len() {
+        work_in_blocks(due, blocks, time)
+    } else {
+        work_in_blocks_before(due, blocks, blocks.len())
+    }
+}
+
+/// What is told of the times from one on to the end of its block. Nothing is due behind the blocks.
+fn to_block_end(due: &[u64], blocks: &[Stretch], start: usize) -> Stretch
+    requires blocks { AreBlocks due.now blocks.now }
+    requires near { start ≤ 2 ^ 41 }
+    ensures { IsStretch (due_before due.now) start (block_end start) result }
+{
+    let block = start / BLOCK;
+    if blocks.len() <= block {
+        return Stretch { work: 0, lack: 0 };
+    }
+    if start == BLOCK * block {
+        return blocks[block];
+    }
+    stretch_of(due, start, BLOCK * (block + 1))
+}
+
+/// The slots due at a time. Nothing is due behind the blocks.
+fn due_at(due: &[u64], blocks: &[Stretch], time: usize) -> u64
+    requires blocks { AreBlocks due.now blocks.now }
+    requires near { time ≤ 2 ^ 41 }
+    ensures { due_before due.now (time + 1) ≡ due_before due.now time + result }
+{
+    if time / BLOCK < blocks.len() {
+        due[time]
+    } else {
+        0
     }
 }
 
 /// The slots due before a time in one of the blocks.
-fn work_before(due: &[u64], blocks: &[Stretch], time: usize) -> u64
+fn work_in_blocks(due: &[u64], blocks: &[Stretch], time: usize) -> u64
     requires blocks { AreBlocks due.now blocks.now }
     requires within { time < 64 * length blocks.now }
     ensures { result ≡ due_before due.now time }
 {
     let first = time / BLOCK;
-    let mut work = 0;
-    for k in 0..first {
-        work += blocks[k].work;
-    }
-    work + stretch_of(due, BLOCK * first, time).work
+    work_in_blocks_before(due, blocks, first) + stretch_of(due, BLOCK * first, time).work
 }
 
-/// A time from `from` on before which the slots due, with so many more, fit the slots from `now`:
-/// the start of the first block in which they do not, or the end of all.
-fn fits_until(due: &[u64], blocks: &[Stretch], now: u64, slots: u32, from: u64) -> u64
+/// The slots due in so many blocks.
+fn work_in_blocks_before(due: &[u64], blocks: &[Stretch], count: usize) -> u64
     requires blocks { AreBlocks due.now blocks.now }
-    requires later { now ≤ from }
-    requires near { from ≤ 2 ^ 41 }
-    ensures later { from ≤ result }
-    ensures fits { (x : ℕ) → from ≤ x → x < result
-        → slots + due_before due.now (x + 1) ≤ x - now }
+    requires within { count ≤ length blocks.now }
+    ensures { result ≡ due_before due.now (64 * count) }
 {
-    let start = from as usize;
-    let next = start / BLOCK + 1;
-    if blocks.len() < next {
-        return from;
-    }
-    let mut work = u64::from(slots) + work_before(due, blocks, start);
-    let rest = stretch_of(due, start, BLOCK * next);
-    if from - now < work + rest.lack {
-        return from;
-    }
-    work += rest.work;
-    for k in next..blocks.len() {
-        let time = (BLOCK * k) as u64;
-        if time - now < work + blocks[k].lack {
-            return time;
-        }
+    let mut work = 0;
+    for k in 0..count {
         work += blocks[k].work;
     }
-    (BLOCK * blocks.len()) as u64
+    work
 }
 
 /// So many slots more are due at a time in one of the blocks.

@@ -7,7 +7,7 @@ use std::alloc::Global;
 use std::marker::Model;
 
 /// A list in a `Vec` whose first places may be free: an item that comes or goes moves those before
-/// it, and not the others.
+/// it or those behind it, whichever are fewer.
 #[derive(Drop)]
 pub(crate) struct Front<T> {
     row: Vec<T>,
@@ -70,32 +70,45 @@ impl<T: Copy + Drop> Front<T> {
         Ok(())
     }
 
-    /// Puts an item in at a place: those before it move to the front, where a place is free there.
+    /// Puts an item in at a place. Where fewer stand before it than behind it, those move to the
+    /// front, if a place is free there.
     pub(crate) fn insert(&mut self, place: usize, item: T) -> Result<(), Memory>
         requires { place ≤ length self.old }
         ensures inserted { OnOk result (self.new ≡ insert self.old place item) }
         ensures stays { OnErr result (self.new ≡ self.old) }
     {
-        if self.start == 0 {
-            self.row.insert(place, item)?;
+        if self.start == 0 || self.len() - place <= place {
+            self.row.insert(self.start + place, item)?;
         } else {
             self.start = put_before(&mut self.row, self.start, place, item);
         }
         Ok(())
     }
 
-    /// Takes the item at a place out: those before it move back.
+    /// Takes the item at a place out.
     pub(crate) fn remove(&mut self, place: usize) -> T
         requires { place < length self.old }
         ensures value { result ≡ get_or self.old place result }
         ensures rest { self.new ≡ remove self.old place }
     {
-        let start = self.start;
-        let item = self.row[start + place];
-        self.row.copy_within(start..start + place, start + 1);
-        self.start = start + 1;
+        if self.len() - place <= place {
+            return self.row.remove(self.start + place);
+        }
+        let item = self.row[self.start + place];
+        self.start = close_before(&mut self.row, self.start, place);
         item
     }
+}
+
+/// Of the items from `start` on, that at a place goes, and those before it move back. Returns where
+/// they begin afterwards.
+fn close_before<T: Copy + Drop>(row: &mut Vec<T>, start: usize, place: usize) -> usize
+    requires { start + place < vec_len row.old }
+    ensures rest { drop result row.new.items ≡ remove (drop start row.old.items) place }
+    ensures within { result ≤ vec_len row.new }
+{
+    row.copy_within(start..start + place, start + 1);
+    start + 1
 }
 
 /// Puts an item in at a place of the items from `start` on, of which those before it move to the

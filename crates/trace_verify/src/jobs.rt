@@ -13,12 +13,11 @@ ghost use Rattle.slot_core.specs.Offline.OfflineJobs.{tasks_of};
 ghost use Rattle.slot_core.specs.Offline.Precedence.{after_of, comes_after};
 ghost use Rattle.slot_core.specs.Offline.Windows.{precedes};
 ghost use Rattle.slot_core.specs.Runs.Choice.{earliest};
-ghost use Rattle.slot_core.specs.Runs.Demand.{work_by};
 ghost use Rattle.trace_verify.specs.Checked.{AreDueInOrder};
-ghost use Rattle.trace_verify.specs.Dues.{AreDues};
+ghost use Rattle.trace_verify.specs.Dues.{block_end, left_before, AreDues, IsStretch};
 ghost use Rattle.trace_verify.specs.Lacks.{lack};
 
-use crate::dues::Dues;
+use crate::dues::{Dues, Stretch};
 use crate::front::Front;
 use slot_core::{Job, Key, Memory, Task, TaskSet};
 use std::alloc::Global;
@@ -89,15 +88,17 @@ impl JobList {
         requires some { All (λ (j : Job). 1 ≤ j.left) self.old }
         ensures { self.new ≡ after_run key self.old }
     {
-        run_due(&mut self.dues, self.jobs.items(), key);
-        run_job(&mut self.jobs, key);
+        let place = place_of(self.jobs.items(), key);
+        run_due(&mut self.dues, self.jobs.items(), key, place);
+        run_job(&mut self.jobs, key, place);
     }
 
     /// The job of this key goes.
     pub(crate) fn remove(&mut self, key: Key)
+        requires { AreApart self.old }
         ensures { self.new ≡ filter (λ (j : Job). not (same_key j.key key)) self.old }
     {
-        remove_all(&mut self.jobs, &mut self.dues, key);
+        remove_job(&mut self.jobs, &mut self.dues, key);
     }
 
     /// What the jobs that are due after a time lack from it on. Each block of times is looked at
@@ -111,15 +112,28 @@ impl JobList {
         self.dues.lack_after(from)
     }
 
-    /// A time from `from` on before which the jobs that are due fit the slots from `now`, with so
-    /// many slots more. Each block of times is looked at once.
-    pub(crate) fn fits_until(&self, now: u64, slots: u32, from: u64) -> u64
-        requires later { now ≤ from }
-        requires near { from ≤ 2 ^ 41 }
-        ensures later { from ≤ result }
-        ensures fits { (x : ℕ) → from ≤ x → x < result → slots + work_by self.now x ≤ x - now }
+    /// The slots left of the jobs due before a time. Each block of times is looked at once.
+    pub(crate) fn work_before(&self, time: u64) -> u64
+        requires near { time ≤ 2 ^ 41 }
+        ensures { result ≡ left_before self.now time }
     {
-        self.dues.fits_until(now, slots, from)
+        self.dues.work_before(time)
+    }
+
+    /// What is told of the times from one on to the end of its block.
+    pub(crate) fn to_block_end(&self, start: u64) -> Stretch
+        requires near { start ≤ 2 ^ 41 }
+        ensures { IsStretch (left_before self.now) start (block_end start) result }
+    {
+        self.dues.to_block_end(start)
+    }
+
+    /// The slots left of the jobs due at a time.
+    pub(crate) fn due_at(&self, time: u64) -> u64
+        requires near { time ≤ 2 ^ 41 }
+        ensures { left_before self.now (time + 1) ≡ left_before self.now time + result }
+    {
+        self.dues.due_at(time)
     }
 }
 
@@ -152,25 +166,27 @@ fn put_job(jobs: &mut Front<Job>, place: usize, job: Job) -> Result<(), Memory>
     Ok(())
 }
 
-/// One slot less is due of the job of this key.
-fn run_due(dues: &mut Dues, jobs: &[Job], key: Key)
+/// One slot less is due of the job of this key, which stands at this place.
+fn run_due(dues: &mut Dues, jobs: &[Job], key: Key, place: Option<usize>)
+    requires place { place ≡ position (λ (j : Job). same_key j.key key) jobs.now }
     requires dues { AreDues dues.old jobs.now }
     requires apart { AreApart jobs.now }
     requires some { All (λ (j : Job). 1 ≤ j.left) jobs.now }
     ensures { AreDues dues.new (after_run key jobs.now) }
 {
-    if let Some(place) = place_of(jobs, key) {
+    if let Some(place) = place {
         dues.take(jobs[place].dl, 1);
     }
 }
 
-/// The jobs of this key go.
-fn remove_all(jobs: &mut Front<Job>, dues: &mut Dues, key: Key)
-    requires { AreDues dues.old jobs.old }
+/// The job of this key goes.
+fn remove_job(jobs: &mut Front<Job>, dues: &mut Dues, key: Key)
+    requires dues { AreDues dues.old jobs.old }
+    requires apart { AreApart jobs.old }
     ensures dues { AreDues dues.new jobs.new }
     ensures jobs { jobs.new ≡ filter (λ (j : Job). not (same_key j.key key)) jobs.old }
 {
-    while let Some(place) = place_of(jobs.items(), key) {
+    if let Some(place) = place_of(jobs.items(), key) {
         let job = jobs.remove(place);
         dues.take(job.dl, job.left);
     }
@@ -327,13 +343,15 @@ fn afters(tasks: &[Task], task: u16) -> &[u16]
     }
 }
 
-/// One slot of the job of this key has run: it goes where that was its last one.
-fn run_job(jobs: &mut Front<Job>, key: Key)
+/// One slot of the job of this key, which stands at this place, has run: it goes where that was its
+/// last one.
+fn run_job(jobs: &mut Front<Job>, key: Key, place: Option<usize>)
+    requires place { place ≡ position (λ (j : Job). same_key j.key key) jobs.old }
     requires apart { AreApart jobs.old }
     requires some { All (λ (j : Job). 1 ≤ j.left) jobs.old }
     ensures { jobs.new ≡ after_run key jobs.old }
 {
-    if let Some(place) = place_of(jobs.items(), key) {
+    if let Some(place) = place {
         let job = jobs.items()[place];
         if job.left > 1 {
             jobs.set(place, one_less(job));

@@ -1,20 +1,20 @@
 //! Answers to firm offers, from the remaining jobs and what sporadic tasks may still ask for.
 
-ghost use Rattle.std.specs.Prelude.{◌≡◌, ◌+◌, ◌-◌, ◌*◌, ◌/◌, ◌≤◌, ◌<◌, ◌^◌, ℕ, false, find, sum_by, take, drop, filter, nat_le, nat_lt, slice_get, Some, All, length};
-ghost use Rattle.std.specs.List.{prefix_len, range_with_len};
+ghost use Rattle.std.specs.Prelude.{◌≡◌, ◌+◌, ◌-◌, ◌*◌, ◌/◌, ◌≤◌, ◌<◌, ◌^◌, ℕ, find, sum_by};
+ghost use Rattle.std.specs.List.{range_with_len};
 ghost use Rattle.std.specs.Option.{option_map};
 ghost use Rattle.slot_core.specs.declared.TheConstants.{OFFER_LIMIT};
 ghost use Rattle.slot_core.specs.declared.jobs.Job.{Job};
 ghost use Rattle.slot_core.specs.Feasibility.Sporadics.{sporadic_demand};
-ghost use Rattle.slot_core.specs.Keeping.Plans.{AreInDeadlineOrder};
 ghost use Rattle.slot_core.specs.Runs.Answers.{evidence_at, firm_answer};
-ghost use Rattle.slot_core.specs.Runs.Demand.{is_overloaded, work_by};
+ghost use Rattle.slot_core.specs.Runs.Demand.{is_overloaded};
 ghost use Rattle.sporadic_reserve.specs.Reserves.{demand_limit};
+ghost use Rattle.trace_verify.specs.Dues.{block_end, left_before};
 ghost use Rattle.trace_verify.specs.Offers.{offer_scene};
 
+use crate::dues::block_end;
 use crate::jobs::JobList;
-use interval_build::due_after;
-use slot_core::{Evidence, Firm, Job};
+use slot_core::{Evidence, Firm};
 use sporadic_reserve::Reserve;
 
 /// The answer to an offer of so many slots within so many from now, in a plan of this cycle.
@@ -28,7 +28,6 @@ pub(crate) fn offer_answer(
 ) -> Firm
     requires cycle { 1 ≤ cycle }
     requires early { now ≤ 2 ^ 32 }
-    requires ordered { AreInDeadlineOrder jobs.now }
     requires small { sum_by (λ (j : Job). j.left) jobs.now ≤ 2 ^ 40 }
     ensures { result
         ≡ firm_answer
@@ -52,7 +51,8 @@ pub(crate) fn offer_answer(
 }
 
 /// The first time from `from` to the end by which an offer of so many slots, the jobs and the
-/// densest sporadic arrivals need more than there are slots.
+/// densest sporadic arrivals need more than there are slots. Each block of times is looked at once,
+/// but for those that may hold such a time.
 fn first_short(
     jobs: &JobList,
     reserve: &Reserve,
@@ -64,59 +64,6 @@ fn first_short(
     requires near { end < 2 ^ 40 }
     requires early { from ≤ 2 ^ 40 }
     requires later { now ≤ from }
-    requires ordered { AreInDeadlineOrder jobs.now }
-    requires small { sum_by (λ (j : Job). j.left) jobs.now ≤ 2 ^ 40 }
-    ensures { result
-        ≡ option_map
-        (evidence_at reserve.now.sporadics (offer_scene now jobs.now reserve.now.nexts) slots)
-        (find
-        (is_overloaded
-        reserve.now.sporadics
-        (offer_scene now jobs.now reserve.now.nexts)
-        slots
-        now)
-        (range_with_len from (end + 1 - from))) }
-{
-    let start = first_look(jobs, reserve, now, slots, from);
-    short_from(jobs.items(), reserve, now, end, slots, start)
-}
-
-/// A time from `from` on before which nothing is short. It is `from` where sporadic tasks may ask
-/// for slots.
-fn first_look(jobs: &JobList, reserve: &Reserve, now: u64, slots: u32, from: u64) -> u64
-    requires early { from ≤ 2 ^ 40 }
-    requires later { now ≤ from }
-    ensures later { from ≤ result }
-    ensures fits { (y : ℕ) → from ≤ y → y < result
-        → is_overloaded
-        reserve.now.sporadics
-        (offer_scene now jobs.now reserve.now.nexts)
-        slots
-        now
-        y
-        ≡ false }
-{
-    if reserve.is_empty() {
-        jobs.fits_until(now, slots, from)
-    } else {
-        from
-    }
-}
-
-/// The first time from `from` to the end by which an offer of so many slots, the jobs and the
-/// densest sporadic arrivals need more than there are slots. It looks at `from` and the times at
-/// which the need grows alone.
-fn short_from(
-    jobs: &[Job],
-    reserve: &Reserve,
-    now: u64,
-    end: u64,
-    slots: u32,
-    from: u64,
-) -> Option<Evidence>
-    requires near { end < 2 ^ 40 }
-    requires later { now ≤ from }
-    requires ordered { AreInDeadlineOrder jobs.now }
     requires small { sum_by (λ (j : Job). j.left) jobs.now ≤ 2 ^ 40 }
     ensures { result
         ≡ option_map
@@ -130,23 +77,94 @@ fn short_from(
         (range_with_len from (end + 1 - from))) }
 {
     let mut x = from;
-    let mut work = u64::from(slots);
-    let mut rest = jobs;
-    let mut demand = 0;
-    let mut rise = from;
+    let mut work = u64::from(slots) + jobs.work_before(from);
     while x <= end {
-        (demand, rise) = demand_from(reserve, now, x, end, (demand, rise));
-        work += work_due(rest, x);
-        rest = due_after(rest, x);
+        let next = block_end(x);
+        let last = end.min(next - 1);
+        if let Some(evidence) = short_in_block(jobs, reserve, now, slots, work, (x, last)) {
+            return Some(evidence);
+        }
+        work += jobs.to_block_end(x).work;
+        x = next;
+    }
+    None
+}
+
+/// The same of times of one block, from a first to a last one, where so much work is due before the
+/// first with the slots of the offer. The times are looked at only where what is due in the block,
+/// with all that sporadic arrivals need by the last of them, does not fit.
+fn short_in_block(
+    jobs: &JobList,
+    reserve: &Reserve,
+    now: u64,
+    slots: u32,
+    work: u64,
+    times: (u64, u64),
+) -> Option<Evidence>
+    requires near { times.1 < 2 ^ 40 }
+    requires rising { times.0 ≤ times.1 }
+    requires block { times.1 < block_end times.0 }
+    requires later { now ≤ times.0 }
+    requires small { sum_by (λ (j : Job). j.left) jobs.now ≤ 2 ^ 40 }
+    requires work { work ≡ slots + left_before jobs.now times.0 }
+    ensures { result
+        ≡ option_map
+        (evidence_at reserve.now.sporadics (offer_scene now jobs.now reserve.now.nexts) slots)
+        (find
+        (is_overloaded
+        reserve.now.sporadics
+        (offer_scene now jobs.now reserve.now.nexts)
+        slots
+        now)
+        (range_with_len times.0 (times.1 + 1 - times.0))) }
+{
+    let (first, last) = times;
+    let most = jobs.to_block_end(first).lack + reserve.demand(now, last);
+    if work + most <= first - now {
+        return None;
+    }
+    short_from(jobs, reserve, now, slots, work, times)
+}
+
+/// The same, where each of the times is looked at.
+fn short_from(
+    jobs: &JobList,
+    reserve: &Reserve,
+    now: u64,
+    slots: u32,
+    work: u64,
+    times: (u64, u64),
+) -> Option<Evidence>
+    requires near { times.1 < 2 ^ 40 }
+    requires rising { times.0 ≤ times.1 }
+    requires later { now ≤ times.0 }
+    requires small { sum_by (λ (j : Job). j.left) jobs.now ≤ 2 ^ 40 }
+    requires work { work ≡ slots + left_before jobs.now times.0 }
+    ensures { result
+        ≡ option_map
+        (evidence_at reserve.now.sporadics (offer_scene now jobs.now reserve.now.nexts) slots)
+        (find
+        (is_overloaded
+        reserve.now.sporadics
+        (offer_scene now jobs.now reserve.now.nexts)
+        slots
+        now)
+        (range_with_len times.0 (times.1 + 1 - times.0))) }
+{
+    let (first, last) = times;
+    let mut work = work;
+    let mut known = (0, first);
+    for x in first..last + 1 {
+        known = demand_from(reserve, now, x, last, known);
+        work += jobs.due_at(x);
         let evidence = Evidence {
             until: x,
-            need: work + demand,
+            need: work + known.0,
             room: x - now,
         };
         if evidence.room < evidence.need {
             return Some(evidence);
         }
-        x = next_deadline(rest, rise.min(end + 1));
     }
     None
 }
@@ -183,43 +201,4 @@ fn demand_until(reserve: &Reserve, now: u64, x: u64, end: u64) -> (u64, u64)
 {
     let (demand, rise) = reserve.demand_and_rise(now, x);
     (demand, rise.unwrap_or(end + 1))
-}
-
-/// The first deadline of jobs in deadline order, or the end where that is earlier.
-fn next_deadline(jobs: &[Job], end: u64) -> u64
-    requires { AreInDeadlineOrder jobs.now }
-    ensures none { (z : ℕ) → z < result → work_by jobs.now z ≡ 0 }
-    ensures within { result ≤ end }
-    ensures after { (x : ℕ) → x < end → All (λ (j : Job). x < j.dl) jobs.now → x < result }
-{
-    match jobs.first() {
-        Some(job) => job.dl.min(end),
-        None => end,
-    }
-}
-
-/// The slots left of the jobs, which stand in deadline order, that are due by a time.
-fn work_due(jobs: &[Job], x: u64) -> u64
-    requires ordered { AreInDeadlineOrder jobs.now }
-    requires small { sum_by (λ (j : Job). j.left) jobs.now ≤ 2 ^ 40 }
-    ensures { result ≡ work_by jobs.now x }
-{
-    let (due, _later) = jobs.split_at(count_due(jobs, x));
-    work_of(due)
-}
-
-/// How many jobs at the front are due by a time.
-fn count_due(jobs: &[Job], x: u64) -> usize
-    ensures count { result ≡ prefix_len (λ (j : Job). nat_le j.dl x) jobs.now }
-    ensures within { result ≤ length jobs.now }
-{
-    jobs.iter().take_while(|job| job.dl <= x).count()
-}
-
-/// The slots that the jobs have still to run.
-fn work_of(jobs: &[Job]) -> u64
-    requires { sum_by (λ (j : Job). j.left) jobs.now ≤ 2 ^ 40 }
-    ensures { result ≡ sum_by (λ (j : Job). j.left) jobs.now }
-{
-    jobs.iter().map(|job| u64::from(job.left)).sum()
 }

@@ -21,7 +21,7 @@ pub take-requires : goal.take-requires
 take-requires c =
     let jobs = c.args.jobs.now in
     let i = c.in-Some.place in
-    let at = λ (d : Job). position-Some (λ (j : Job). same_key j.key c.args.key) jobs i d (sym c.place_of.ensures ∙ c.in-Some.is) in
+    let at = λ (d : Job). position-Some (λ (j : Job). same_key j.key c.args.key) jobs i d (sym c.requires.place ∙ c.in-Some.is) in
     let inside = (at none).0 in
     let x = get_or jobs i none in
     record {
@@ -32,7 +32,7 @@ pub returns-in-Some : goal.returns-in-Some
 returns-in-Some c =
     let jobs = c.args.jobs.now in
     let i = c.in-Some.place in
-    let at = λ (d : Job). position-Some (λ (j : Job). same_key j.key c.args.key) jobs i d (sym c.place_of.ensures ∙ c.in-Some.is) in
+    let at = λ (d : Job). position-Some (λ (j : Job). same_key j.key c.args.key) jobs i d (sym c.requires.place ∙ c.in-Some.is) in
     let inside = (at none).0 in
     let x = get_or jobs i none in
     let left = recursion_from_All (λ (j : Job). 1 ≤ j.left) jobs c.requires.some in
@@ -41,7 +41,7 @@ returns-in-Some c =
 pub returns-in_default : goal.returns-in_default
 returns-in_default c =
     let jobs = c.args.jobs.now in
-    let found = sym c.place_of.ensures ∙ c.in_default.is in
+    let found = sym c.requires.place ∙ c.in_default.is in
     let left = recursion_from_All (λ (j : Job). 1 ≤ j.left) jobs c.requires.some in
     subst
     (AreDues c.args.dues.now)

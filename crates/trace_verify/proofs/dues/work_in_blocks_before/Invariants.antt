@@ -1,6 +1,6 @@
 use Rattle.std.proofs.Common.{◌≡◌, ◌*◌}
 use Rattle.trace_verify.specs.Dues.{due_before}
-use Rattle.trace_verify.proofs.dues.work_before.Given as goal
+use Rattle.trace_verify.proofs.dues.work_in_blocks_before.Given as goal
 
 -- the slots due before the block
 abbrev pub invariant-loop-k : goal.invariant-loop-k
