@@ -18,7 +18,7 @@ use Rattle.sporadic_reserve.specs.Reserves.{Reserved}
 use Rattle.guarantee.specs.Offers.{evidence_at, first_short, is_short, need_until}
 use Rattle.guarantee.specs.declared.search.Level.{Level}
 use Rattle.guarantee.specs.declared.search.Ask.{Ask}
-use Rattle.guarantee.specs.Stretches.{exceeds, evidence_of, IsLevelFrom, Leaves, LeavesAll, LeavesBetween, MostBetween, MostFrom}
+use Rattle.guarantee.specs.Stretches.{exceeds, evidence_of, IsLevelFrom, Leaves, LeavesAll, LeavesAllBetween, LeavesBetween, MostBetween, MostFrom}
 use Rattle.guarantee.proofs.Places.{least-at}
 use Rattle.guarantee.proofs.Searches.{fails-from_none, find-here, find-none, find-skip, search-parts, search-same}
 
@@ -266,3 +266,42 @@ not_covered spans reserve t r slots now needed from i s follow full at time due 
     let fails = fails-from_none (is_short spans reserve t r slots) from (last_end t spans + 1 - from) none x (omega (arith, least.reached.1)) (omega (arith, high, least.reached.1)) in
     let room : slots + need_until spans reserve r x ≤ x - t = ltb-false (x - t) (slots + need_until spans reserve r x) fails in
     omega (arith, ints)
+
+-- what is due by the last time before a stretch leaves so much at each time that has room for it
+pub LeavesAll-look : (reserve : Reserved) (ask : Ask) (due left first end next most : ℕ) → ((z : ℕ) → z ≤ first - 1 → demand reserve ask.arrivals z ≤ most) → next ≡ ask.now + ask.slots + due + left + most → LeavesAllBetween reserve ask due left first end → LeavesAllBetween reserve ask due left next end
+LeavesAll-look reserve ask due left first end next most bound is all =
+    record {
+      at = λ x low high. elim (cases_lt x first) [
+        | inl early ↦ omega (arith, bound x (omega arith))
+        | inr late ↦ all.at x late high
+      ];
+    }
+
+-- where so many slots are left at the later times, none of them is found
+pub found-before : (reserve : Reserved) (ask : Ask) (due left at first end : ℕ) → first ≤ end → LeavesAllBetween reserve ask due left first end → found_from reserve ask.now ask.arrivals (ask.slots + due) at end ≡ found_from reserve ask.now ask.arrivals (ask.slots + due) at first
+found-before reserve ask due left at first end le all =
+    let short = exceeds reserve ask.now ask.arrivals (ask.slots + due) in
+    let fits : (x : ℕ) → first ≤ x → x < end → short x ≡ false = (λ x low high.
+    let most = all.at x low high in
+    le-ltb (x - ask.now) (ask.slots + due + demand reserve ask.arrivals x) (omega (arith, most))) in
+    elim (cases_lt at first) [
+      | inl some ↦
+          search-parts short at first end (omega arith) le
+          ∙ ap (option_or (find short (range_with_len at (first - at)))) (find-none short first end fits)
+          ∙ or-None (find short (range_with_len at (first - at)))
+      | inr none ↦
+          let empty : first - at ≡ 0 = omega arith in
+          find-none short at end (λ x low high. fits x (omega arith) high)
+          ∙ sym (ap (λ n. find short (range_with_len at n)) empty)
+    ]
+  where
+    or-None : (o : Option ℕ) → option_or o None ≡ o
+    or-None None = refl
+    or-None (Some x) = refl
+
+-- so as many are left in the later times, and fewer too
+pub Leaves-later : (reserve : Reserved) (ask : Ask) (due left less first end until : ℕ) → less ≤ left → LeavesAllBetween reserve ask due left first end → LeavesBetween reserve ask due left end until → LeavesBetween reserve ask due less first until
+Leaves-later reserve ask due left less first end until fewer all later =
+    let need : ℕ → ℕ = λ x. due + demand reserve ask.arrivals x in
+    Leaves-part need ask.now ask.slots left less first until first until fewer (omega arith) (omega arith)
+    (Leaves-join need ask.now ask.slots left first end until (Leaves-all need ask.now ask.slots left first end all) later)

@@ -54,6 +54,17 @@ LeavesBetween reserve ask due left a b =
     a
     b
 
+-- the same, also at the times by which nothing is needed
+abbrev pub LeavesAllBetween : Reserved → Ask → ℕ → ℕ → ℕ → ℕ → Type 0
+LeavesAllBetween reserve ask due left a b =
+    LeavesAll
+    (λ x. due + sporadic_demand reserve.sporadics reserve.nexts ask.arrivals x)
+    ask.now
+    ask.slots
+    left
+    a
+    b
+
 -- so many are left beside `slots` slots and what is needed, from a time to the last end
 abbrev pub LeavesFrom : List Span → Reserved → ℕ → ℕ → ℕ → ℕ → ℕ → Type 0
 LeavesFrom spans reserve t r slots left from =

@@ -13,13 +13,21 @@ ghost use Rattle.interval_row.specs.Tables.{span_at, spans_of_pairs, IsFront, Is
 ghost use Rattle.sporadic_reserve.specs.Reserves.{demand_limit, Reserved};
 ghost use Rattle.guarantee.specs.Offers.{evidence_at, first_short, need_until};
 ghost use Rattle.guarantee.specs.Places.{IsPlace};
-ghost use Rattle.guarantee.specs.Stretches.{exceeds, evidence_of, IsLevelFrom, LeavesAll, LeavesBetween, LeavesFrom, MostBetween, MostFrom, NeedsNone};
+ghost use Rattle.guarantee.specs.Stretches.{exceeds, evidence_of, IsLevelFrom, LeavesAll, LeavesAllBetween, LeavesBetween, LeavesFrom, MostBetween, MostFrom, NeedsNone};
 
 use crate::walk::{SpanPlace, after, passed, past, place_of};
 use interval_row::{Front, PAGE, SpareTable};
 use slot_core::{Evidence, Span, Steps};
 use sporadic_reserve::Reserve;
 use std::sync::ledger::Ledger;
+
+/// So many rises of the sporadic demand in a span are tried one by one before its later times are
+/// looked at.
+const FEW_RISES: u64 = 4;
+
+/// A look from the end of a span goes on while it passes at least one of so many parts of what is
+/// left of it.
+const FEW_PARTS: u64 = 16;
 
 /// What a search asks: whether there is room for `slots` slots more, counted from `now` on, where
 /// sporadic tasks arrive from `arrivals` on.
@@ -102,7 +110,8 @@ pub(crate) fn short_or_left<T: SpareTable, L: Ledger>(
 /// The same, from the place of the first span that ends at `from` or later.
 ///
 /// Between two ends and without a rise of the sporadic demand nothing more is due, so only such
-/// times are tried, and pages whose times leave as much as those before are passed. The search ends
+/// times are tried. Pages whose times leave as much as those before are passed, and so are such
+/// times in a span of many rises, which is looked at from its end. The search ends
 /// at a span whose capacity, with the slack before it, covers what may come up to the last end and
 /// the least that is left so far: no later time leaves less.
 /// Without sporadic tasks a span that does not cover what is due tells that a later time is short.
@@ -421,6 +430,7 @@ fn left_between(
     requires arrivals { ask.arrivals < HORIZON_LIMIT }
     requires near { until ≤ HORIZON_LIMIT }
     requires few { ask.slots + due < 2 ^ 62 }
+    requires small { tried.left < HORIZON_LIMIT }
     requires level { IsLevelFrom reserve.now ask.arrivals from tried.level }
     ensures short { result_err result
         ≡ option_map (evidence_of reserve.now ask.now ask.arrivals (ask.slots + due))
@@ -454,6 +464,7 @@ fn short_between(
     requires arrivals { ask.arrivals < HORIZON_LIMIT }
     requires near { until ≤ HORIZON_LIMIT }
     requires few { ask.slots + due < 2 ^ 62 }
+    requires small { tried.old.left < HORIZON_LIMIT }
     requires level { IsLevelFrom reserve.now ask.arrivals from tried.old.level }
     ensures short { result
         ≡ option_map (evidence_of reserve.now ask.now ask.arrivals (ask.slots + due))
@@ -474,7 +485,8 @@ fn short_between(
     short_by_levels(reserve, ask, due, from, until, tried)
 }
 
-/// The same, tried at `from` and at each rise of the sporadic demand.
+/// The same, tried at `from` and at each rise of the sporadic demand. After some rises the later
+/// times are looked at from the last one on, and those that leave as much are not tried.
 #[inline(always)]
 fn short_by_levels(
     reserve: &Reserve,
@@ -488,6 +500,7 @@ fn short_by_levels(
     requires arrivals { ask.arrivals < HORIZON_LIMIT }
     requires near { until ≤ HORIZON_LIMIT }
     requires few { ask.slots + due < 2 ^ 62 }
+    requires small { tried.old.left < HORIZON_LIMIT }
     requires level { IsLevelFrom reserve.now ask.arrivals from tried.old.level }
     ensures short { result
         ≡ option_map (evidence_of reserve.now ask.now ask.arrivals (ask.slots + due))
@@ -500,14 +513,71 @@ fn short_by_levels(
     ensures least { tried.new.left ≤ tried.old.left }
 {
     let mut at = from;
-    while at < until {
+    let mut end = until;
+    let mut rises = 0;
+    while at < end {
         tried.level = level_at(tried.level, reserve, ask.arrivals, at);
         if let Some(evidence) = short_at(ask, due, at, tried) {
             return Some(evidence);
         }
         at = tried.level.until;
+        rises += 1;
+        end = end_after(reserve, ask, due, at, end, tried.left, rises);
+    }
+    if at < until {
+        tried.level = risen(reserve, ask.arrivals, until - 1);
     }
     None
+}
+
+/// The end of the times that are still to be tried after so many rises. Those from there on to
+/// `end` leave `left` slots. They are looked at each time that twice as many rises are tried, so
+/// that the looks are few beside them.
+#[inline(always)]
+fn end_after(reserve: &Reserve, ask: Ask, due: u64, at: u64, end: u64, left: u64, rises: u64) -> u64
+    requires now { ask.now ≤ at }
+    requires arrivals { ask.arrivals < HORIZON_LIMIT }
+    requires near { end ≤ HORIZON_LIMIT }
+    requires few { ask.slots + due < 2 ^ 62 }
+    requires small { left < HORIZON_LIMIT }
+    ensures end { result ≤ end }
+    ensures left { LeavesAllBetween reserve.now ask due left result end }
+{
+    if at < end && FEW_RISES <= rises && rises.is_power_of_two() {
+        left_from(reserve, ask, due, at, end, left)
+    } else {
+        end
+    }
+}
+
+/// A time from which on to `end` so many slots are left, found from the end on: what is due by the
+/// last time leaves so many at each time before it that has room for as much, so these are passed
+/// at once. It ends at `at`, where the last time leaves fewer, and where a look passes few times.
+#[inline(never)]
+fn left_from(reserve: &Reserve, ask: Ask, due: u64, at: u64, end: u64, left: u64) -> u64
+    requires now { ask.now ≤ at }
+    requires some { at < end }
+    requires arrivals { ask.arrivals < HORIZON_LIMIT }
+    requires near { end ≤ HORIZON_LIMIT }
+    requires few { ask.slots + due < 2 ^ 62 }
+    requires small { left < HORIZON_LIMIT }
+    ensures end { result ≤ end }
+    ensures left { LeavesAllBetween reserve.now ask due left result end }
+{
+    let needed = ask.now + ask.slots + due + left;
+    let mut first = end;
+    while at < first {
+        let next = needed + reserve.demand(ask.arrivals, first - 1);
+        if first <= next {
+            break;
+        }
+        let passes_few = first - next < (first - at) / FEW_PARTS;
+        first = next;
+        if passes_few {
+            break;
+        }
+    }
+    first
 }
 
 /// Whether a time is too short at the level that holds there. Where it is not, and something is

@@ -133,23 +133,24 @@ best_of_first now (Some best) j jobs starts none =
     ] refl in
     ap (fold earlier_of (Some best)) (ready-first_now now j jobs starts) ∙ by_test
 
--- of jobs that have come, looked at from the last, the first that may start is the best
+-- of jobs that have come, looked at from the last, none goes before one that is looked at sooner
+pub none-behind : (come : List Job) (i : ℕ) (x : Job) → IsEarliestLast come → i < length come → x ≡ get_or (reverse come) i x → (k : ℕ) (d : Job) → k < length (drop (i + 1) (reverse come)) → is_earlier (get_or (drop (i + 1) (reverse come)) k d) x ≡ false
+none-behind come i x ordered inside is k d low =
+    let back = reverse come in
+    let long = length-reverse come in
+    let fits : i + 1 + k < length come = omega (arith, length-drop (i + 1) back) in
+    let there = get_or-drop (i + 1) back k d ∙ get_or-reverse come (i + 1 + k) d fits in
+    let here = get_or_read back i x (omega arith) is d ∙ get_or-reverse come i d inside in
+    let order = ordered (length come - 1 - (i + 1 + k)) (length come - 1 - i) d (omega arith) (omega arith) in
+    ap (λ j. is_earlier j x) there ∙ ap (λ j. is_earlier (get_or come (length come - 1 - (i + 1 + k)) d) j) here ∙ order
+
+-- so the first of them that may start is the best
 pub best_of_come : (now : ℕ) (best : Option Job) (come : List Job) (i : ℕ) (x : Job) → IsEarliestLast come → i < length come → x ≡ get_or (reverse come) i x → x.est ≤ now → fold earlier_of best (ready now (drop i (reverse come))) ≡ earlier_of best x
 best_of_come now best come i x ordered inside is starts =
     let back = reverse come in
     let long = length-reverse come in
     let rest = drop_more back i x (omega arith) ∙ ap (λ j. j ∷ drop (i + 1) back) (sym is) in
-    ap (λ js. fold earlier_of best (ready now js)) rest ∙ best_of_first now best x (drop (i + 1) back) starts none
-  where
-    none : (k : ℕ) (d : Job) → k < length (drop (i + 1) (reverse come)) → is_earlier (get_or (drop (i + 1) (reverse come)) k d) x ≡ false
-    none k d low =
-        let back = reverse come in
-        let long = length-reverse come in
-        let fits : i + 1 + k < length come = omega (arith, length-drop (i + 1) back) in
-        let there = get_or-drop (i + 1) back k d ∙ get_or-reverse come (i + 1 + k) d fits in
-        let here = get_or_read back i x (omega arith) is d ∙ get_or-reverse come i d inside in
-        let order = ordered (length come - 1 - (i + 1 + k)) (length come - 1 - i) d (omega arith) (omega arith) in
-        ap (λ j. is_earlier j x) there ∙ ap (λ j. is_earlier (get_or come (length come - 1 - (i + 1 + k)) d) j) here ∙ order
+    ap (λ js. fold earlier_of best (ready now js)) rest ∙ best_of_first now best x (drop (i + 1) back) starts (none-behind come i x ordered inside is)
 
 -- where none stands beside and no listed one may start, the last of those that have come is the best, where it may start
 pub earliest-first_come : (now : ℕ) (beside come listed : List Job) (first : Job) → IsEarliestLast come → beside ≡ [] → slice_get come (length come - 1) ≡ Some first → first.est ≤ now → ready now listed ≡ [] → Some first ≡ earliest (ready now (beside ++ reverse come ++ listed))

@@ -1,14 +1,17 @@
 -- The first start of some jobs: what it is, and how a walk finds it.
 use Rattle.std.proofs.Common.{◌≡◌, ℕ, zero, suc, ◌+◌, ◌<◌, ◌≤◌, ◌⊎◌, ◌&&◌, min, Bool, true, false, cond, List, [], ◌∷◌, ◌++◌, fold, Option, Some, None, refl, sym, ap, ◌∙◌, inl, inr, arith}
-use Rattle.std.specs.Prelude.{count_by, filter, get_or, length, nat_lt, reverse}
+use Rattle.std.specs.Prelude.{count_by, filter, drop, get_or, length, nat_lt, reverse}
 use Rattle.std.specs.List.Sorted.{IsNonDecreasingBy}
-use Rattle.std.proofs.lemmas.Bool.{and_parts, cond-true, cases_lt, le-ltb, ltb-true, lt-ltb}
-use Rattle.std.proofs.lemmas.List.{reverse-append}
+use Rattle.std.proofs.lemmas.Bool.{and_parts, cond-false, cond-true, cases_lt, le-ltb, ltb-true, lt-ltb}
+use Rattle.std.proofs.lemmas.List.{drop_more, length-reverse}
 use Rattle.std.proofs.lemmas.List.Elements.{filter-append}
 use Rattle.std.proofs.lemmas.List.Sums.{fold-append, sum_by-cons}
 use Rattle.slot_core.specs.declared.jobs.Job.{Job}
 use Rattle.slot_facts.proofs.Lists.Members.{Has, Contains-from_Has, Has-filter, Has-filter_passes}
+use Rattle.slot_core.specs.Offline.Keys.{is_earlier}
+use Rattle.job_queue.specs.Queues.{IsEarliestLast}
 use Rattle.job_queue.specs.Starts.{first_start, first_start_within, goes_before, sooner, starts_before, starts_within}
+use Rattle.job_queue.proofs.Comes.{none-behind, not_earlier-trans}
 
 some_same : (a b : ℕ) → Some a ≡ Some b → a ≡ b
 some_same a b e = cc
@@ -88,35 +91,49 @@ first_least x js j ordered at =
     let (k, below, is) = Contains-from_Has js j at in
     omega (arith, ordered zero (suc k) j (omega arith) (omega (arith, below)), ap (λ (o : Job). o.est) is)
 
--- in which order jobs are looked at changes nothing
-sooner-swap : (best : Option ℕ) (x y : Job) → sooner (sooner best x) y ≡ sooner (sooner best y) x
-sooner-swap None x y = let same : min x.est y.est ≡ min y.est x.est = omega arith in ap (λ (n : ℕ). Some n) same
-sooner-swap (Some a) x y = let same : min (min a x.est) y.est ≡ min (min a y.est) x.est = omega arith in ap (λ (n : ℕ). Some n) same
-
-sooner-last : (best : Option ℕ) (x : Job) (js : List Job) → fold sooner (sooner best x) js ≡ sooner (fold sooner best js) x
-sooner-last best x [] = refl
-sooner-last best x (y ∷ js) = ap (λ b. fold sooner b js) (sooner-swap best x y) ∙ sooner-last (sooner best y) x js
-
-pub sooner-reverse : (p : Job → Bool) (best : Option ℕ) (js : List Job) → fold sooner best (filter p (reverse js)) ≡ fold sooner best (filter p js)
-sooner-reverse p best [] = refl
-sooner-reverse p best (x ∷ js) =
-    ap (λ ys. fold sooner best (filter p ys)) (reverse-append (x ∷ []) js)
-    ∙ ap (fold sooner best) (filter-append p (reverse js) (x ∷ []))
-    ∙ fold-append sooner best (filter p (reverse js)) (filter p (x ∷ []))
-    ∙ ap (λ b. fold sooner b (filter p (x ∷ []))) (sooner-reverse p best js)
-    ∙ by_test (p x)
-  where
-    by_test : (b : Bool) → fold sooner (fold sooner best (filter p js)) (cond b (x ∷ []) []) ≡ fold sooner best (cond b (x ∷ filter p js) (filter p js))
-    by_test true = sym (sooner-last best x (filter p js))
-    by_test false = refl
-
--- the first start of jobs in three parts, the second in the other order
-pub sooner-parts : (p : Job → Bool) (xs ys zs : List Job) → fold sooner (fold sooner (fold sooner None (filter p xs)) (filter p ys)) (filter p zs) ≡ fold sooner None (filter p (xs ++ reverse ys ++ zs))
+-- the first start of jobs in three parts
+pub sooner-parts : (p : Job → Bool) (xs ys zs : List Job) → fold sooner (fold sooner (fold sooner None (filter p xs)) (filter p ys)) (filter p zs) ≡ fold sooner None (filter p (xs ++ ys ++ zs))
 sooner-parts p xs ys zs =
-    let both = sym (sooner-reverse p (fold sooner None (filter p xs)) ys) ∙ sym (fold-append sooner None (filter p xs) (filter p (reverse ys))) ∙ ap (fold sooner None) (sym (filter-append p xs (reverse ys))) in
+    let both = sym (fold-append sooner None (filter p xs) (filter p ys)) ∙ ap (fold sooner None) (sym (filter-append p xs ys)) in
     ap (λ b. fold sooner b (filter p zs)) both
-    ∙ sym (fold-append sooner None (filter p (xs ++ reverse ys)) (filter p zs))
-    ∙ ap (fold sooner None) (sym (filter-append p (xs ++ reverse ys) zs))
+    ∙ sym (fold-append sooner None (filter p (xs ++ ys)) (filter p zs))
+    ∙ ap (fold sooner None) (sym (filter-append p (xs ++ ys) zs))
+
+-- one more job that is looked at, or not counted
+pub sooner-more : (p : Job → Bool) (best : Option ℕ) (jobs : List Job) (i : ℕ) (x : Job) → i < length jobs → x ≡ get_or jobs i x → p x ≡ true → fold sooner (sooner best x) (filter p (drop (i + 1) jobs)) ≡ fold sooner best (filter p (drop i jobs))
+sooner-more p best jobs i x inside is passes =
+    let rest = drop_more jobs i x inside ∙ ap (λ j. j ∷ drop (i + 1) jobs) (sym is) in
+    sym (ap (λ js. fold sooner best (filter p js)) rest ∙ ap (fold sooner best) (cond-true (p x) (x ∷ filter p (drop (i + 1) jobs)) (filter p (drop (i + 1) jobs)) passes))
+
+pub sooner-skip : (p : Job → Bool) (best : Option ℕ) (jobs : List Job) (i : ℕ) (x : Job) → i < length jobs → x ≡ get_or jobs i x → p x ≡ false → fold sooner best (filter p (drop (i + 1) jobs)) ≡ fold sooner best (filter p (drop i jobs))
+sooner-skip p best jobs i x inside is fails =
+    let rest = drop_more jobs i x inside ∙ ap (λ j. j ∷ drop (i + 1) jobs) (sym is) in
+    sym (ap (λ js. fold sooner best (filter p js)) rest ∙ ap (fold sooner best) (cond-false (p x) (x ∷ filter p (drop (i + 1) jobs)) (filter p (drop (i + 1) jobs)) fails))
+
+-- of jobs none of which goes before the other one, none counts
+none-before : (now until : ℕ) (other : Job) (jobs : List Job) → ((k : ℕ) (d : Job) → k < length jobs → is_earlier (get_or jobs k d) other ≡ false) → filter (starts_within now until (Some other)) jobs ≡ []
+none-before now until other [] none = refl
+none-before now until other (j ∷ jobs) none =
+    cond-false (starts_within now until (Some other) j) (j ∷ filter (starts_within now until (Some other)) jobs) (filter (starts_within now until (Some other)) jobs) (by_tests (nat_lt j.est until) (nat_lt now j.est) (none zero j (omega arith)))
+    ∙ none-before now until other jobs (λ k d low. none (suc k) d (omega arith))
+  where
+    by_tests : (soon later : Bool) → is_earlier j other ≡ false → (soon && (later && is_earlier j other)) ≡ false
+    by_tests false later fails = refl
+    by_tests true false fails = refl
+    by_tests true true fails = fails
+
+-- of jobs that have come, looked at from the last, none counts from one on that does not go before it
+pub within-come : (now until : ℕ) (other : Option Job) (come : List Job) (i : ℕ) (x : Job) → IsEarliestLast come → i < length come → x ≡ get_or (reverse come) i x → goes_before other x ≡ false → filter (starts_within now until other) (drop i (reverse come)) ≡ []
+within-come now until None come i x ordered inside is fails = absurd (cc fails)
+within-come now until (Some other) come i x ordered inside is fails =
+    let back = reverse come in
+    let long = length-reverse come in
+    let rest = drop_more back i x (omega arith) ∙ ap (λ j. j ∷ drop (i + 1) back) (sym is) in
+    ap (filter (starts_within now until (Some other))) rest ∙ none-before now until other (x ∷ drop (i + 1) back) none
+  where
+    none : (k : ℕ) (d : Job) → k < length (x ∷ drop (i + 1) (reverse come)) → is_earlier (get_or (x ∷ drop (i + 1) (reverse come)) k d) other ≡ false
+    none zero d low = fails
+    none (suc k) d low = not_earlier-trans (get_or (drop (i + 1) (reverse come)) k d) x other (none-behind come i x ordered inside is k d (omega arith)) fails
 
 -- where none starts sooner, a start stays
 sooner-least : (s : ℕ) (js : List Job) → ((j : Job) → Has js j → s ≤ j.est) → fold sooner (Some s) js ≡ Some s

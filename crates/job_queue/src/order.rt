@@ -76,7 +76,7 @@ pub(crate) fn starts_within(job: &Job, now: u64, until: u64, other: Option<&Job>
 }
 
 /// Whether the job goes before the other one, where there is one.
-fn goes_before(job: &Job, other: Option<&Job>) -> bool
+pub(crate) fn goes_before(job: &Job, other: Option<&Job>) -> bool
     ensures { result ≡ goes_before (option_copied other.entry) job.now }
 {
     match other {

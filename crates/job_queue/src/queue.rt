@@ -13,7 +13,7 @@ ghost use Rattle.job_queue.specs.Starts.{first_start_within, sooner, starts_with
 ghost use Rattle.job_queue.specs.Queues.{IsEarliestLast, IsQueue, IsReadyPlace, after_run_at, search_steps};
 
 use crate::marked::MarkedJobs;
-use crate::order::{earlier_of, has_key, is_earlier, sooner, starts_within};
+use crate::order::{earlier_of, goes_before, has_key, is_earlier, sooner, starts_within};
 use slot_core::{Job, Key, Memory, Steps};
 use std::alloc::Global;
 use std::collections::VecDeque;
@@ -220,8 +220,9 @@ impl JobQueue {
 
     /// The first start after `now` and before `until` of the jobs that earliest deadline first takes
     /// before this one, or of all jobs where none is given. None exactly where no such job starts
-    /// between. One step a job looked at: those beside, those that have come, and the listed ones
-    /// up to the first that is such a job or starts at `until` or later.
+    /// between. One step a job looked at: those beside, those that have come up to the first that
+    /// does not go before that one, and the listed ones up to the first that is such a job or starts
+    /// at `until` or later.
     pub fn next_start<L: Ledger>(
         &self,
         now: u64,
@@ -235,7 +236,7 @@ impl JobQueue {
         ensures few_steps { steps.new ≤ steps.old + length self.now.jobs }
     {
         let start = first_start(None, &self.beside, now, until, other, steps);
-        let start = first_start(start, self.come.jobs(), now, until, other, steps);
+        let start = first_come_start(start, self.come.jobs(), now, until, other, steps);
         first_listed(start, &self.listed, now, until, other, steps)
     }
 
@@ -747,6 +748,39 @@ fn first_start<L: Ledger>(
     let mut first = start;
     for job in jobs {
         steps.tick();
+        if starts_within(job, now, until, other) {
+            first = sooner(first, job);
+        }
+    }
+    first
+}
+
+/// The same of these, of which the one that earliest deadline first takes first stands last. One
+/// step a job, from the last up to one that does not go before the other one.
+fn first_come_start<L: Ledger>(
+    start: Option<u64>,
+    come: &[Job],
+    now: u64,
+    until: u64,
+    other: Option<&Job>,
+    steps: &mut Steps<L>,
+) -> Option<u64>
+    requires { IsEarliestLast come.now }
+    ensures start { result
+        ≡ fold
+        sooner
+        start
+        (filter (starts_within now until (option_copied other.entry)) (reverse come.now)) }
+    ensures steps { steps.old ≤ steps.new }
+    ensures few_steps { steps.new ≤ steps.old + length come.now }
+{
+    let mut first = start;
+    for behind in 0..come.len() {
+        let job = from_end(come, behind);
+        steps.tick();
+        if !goes_before(job, other) {
+            break;
+        }
         if starts_within(job, now, until, other) {
             first = sooner(first, job);
         }
