@@ -24,6 +24,7 @@ CASES = [
     ("slotview jobs --table examples/", "examples/first.bin", "examples/loop.toml"),
     ("slotunits ''", "tasks", "load"),
     ("slotunits tasks examples/", "examples/loop.toml", "examples/loop.csv"),
+    ("slotunits arrivals examples/flight.units.toml examples/", "examples/flight.units.csv", "examples/loop.toml"),
     ("slotlint -", "--json", "--record"),
     ("slotlint examples/", "examples/loop.toml", "examples/loop.csv"),
     ("slotlint --tasks examples/loop.toml examples/", "examples/loop.csv", "examples/loop.toml"),

@@ -5,7 +5,7 @@ use Rattle.std.specs.Str.{bytes_eq}
 use Rattle.command_line.specs.Refusals.{word_at}
 use Rattle.time_texts.specs.Reading.{time_of_text}
 use Rattle.units_run.specs.declared.questions.Question.{Question}
-use Rattle.units_run.specs.declared.questions.Question.TheVariants.{Tasks, Check}
+use Rattle.units_run.specs.declared.questions.Question.TheVariants.{Tasks, Check, Arrivals}
 
 -- the question of this name, with no range
 abbrev pub plain_question : List ℕ → Option Question
@@ -21,9 +21,10 @@ range_question from to =
     (λ (low : ℕ). option_map (λ (high : ℕ). Check low high) (time_of_text to))
     (time_of_text from)
 
--- the question that the words ask, or none: tasks U, check U, check U FROM TO
+-- the question that the words ask, or none: tasks U, check U, check U FROM TO, arrivals U A
 abbrev pub question_of : List (List ℕ) → Option Question
 question_of words =
     if length words == 2 then plain_question (word_at words 0)
+    else if length words == 3 && bytes_eq (word_at words 0) (codes "arrivals") then Some Arrivals
     else if length words == 4 && bytes_eq (word_at words 0) (codes "check")
     then range_question (word_at words 2) (word_at words 3) else None

@@ -1,7 +1,7 @@
 -- What slotunits writes, and why a run is refused.
-use Rattle.std.specs.Prelude.{◌≡◌, ℕ, ◌<◌, true, ⊤, List, length, Option, Some, IfSome, Ok, Err}
+use Rattle.std.specs.Prelude.{◌≡◌, ◌⊎◌, ℕ, ◌<◌, true, ⊤, List, length, Option, Some, IfSome, Ok, Err}
 use Rattle.std.specs.Io.KnownBytes.{Appends}
-use Rattle.slot_core.specs.declared.TheConstants.{TASK_FILE_LIMIT}
+use Rattle.slot_core.specs.declared.TheConstants.{ARRIVALS_FILE_LIMIT, TASK_FILE_LIMIT}
 use Rattle.slot_core.specs.declared.tasks.TaskSet.{TaskSet}
 use Rattle.slot_core.specs.Calls.Counts.{Rose}
 use Rattle.slot_core.specs.Sets.Faults.{set_fault}
@@ -13,15 +13,23 @@ use Rattle.clock_units.specs.declared.sets.PhysicalSet.{PhysicalSet}
 use Rattle.clock_units.specs.Derived.{derived_set}
 use Rattle.unit_toml.specs.Reading.{reading_of_units}
 use Rattle.slot_lengths.specs.Lines.{IsLengthsText}
+use Rattle.timed_arrivals.specs.Texts.{arrivals_text}
 use Rattle.units_run.specs.declared.questions.Question.{Question}
-use Rattle.units_run.specs.declared.questions.Question.TheVariants.{Tasks, Check}
+use Rattle.units_run.specs.declared.questions.Question.TheVariants.{Tasks, Check, Arrivals}
 use Rattle.units_run.specs.declared.refusal.UnitsRefusal.{UnitsRefusal}
-use Rattle.units_run.specs.declared.refusal.UnitsRefusal.TheVariants.{Unreadable, TooLarge, BadUnits, NoSlots, BadTasks, ReadsOtherwise, WriteFault, Memory}
+use Rattle.units_run.specs.declared.refusal.UnitsRefusal.TheVariants.{Unreadable, TooLarge, UnreadableArrivals, TooLargeArrivals, BadArrivals, BadUnits, NoSlots, BadTasks, ReadsOtherwise, WriteFault, Memory}
 
--- the bytes are the first ones of the file, where contracts see what the files hold
+-- the bytes are the first ones of the file, up to a limit, where contracts see what the files hold
+abbrev pub IsReadTo : ℕ → Option Held → List ℕ → List ℕ → Type 0
+IsReadTo limit held name bytes =
+    IfSome held (λ files. first_bytes files name limit ≡ Some bytes)
+
+-- the same of a file of units, and of one of arrivals
 abbrev pub IsRead : Option Held → List ℕ → List ℕ → Type 0
-IsRead held name bytes =
-    IfSome held (λ files. first_bytes files name TASK_FILE_LIMIT ≡ Some bytes)
+IsRead = IsReadTo TASK_FILE_LIMIT
+
+abbrev pub AreRows : Option Held → List ℕ → List ℕ → Type 0
+AreRows = IsReadTo ARRIVALS_FILE_LIMIT
 
 -- the text is a task file of the set in slots of the set in physical time that the bytes write
 pub record IsText (bytes text : List ℕ) : Type 0 where
@@ -39,19 +47,36 @@ pub record AreLengths (from to : ℕ) (bytes text : List ℕ) : Type 0 where
   pub units : reading_of_units bytes ≡ Ok physical
   pub lengths : IsLengthsText from to physical text
 
--- the text answers the question of the bytes
-abbrev pub IsAnswer : Question → List ℕ → List ℕ → Type 0
-IsAnswer Tasks bytes text = IsText bytes text
-IsAnswer (Check from to) bytes text = AreLengths from to bytes text
+-- the text is the arrivals file of the rows with times that the file of this name holds, for the set
+-- in physical time that the bytes write, which has a set in slots
+pub record AreArrivals (held : Option Held) (name : List ℕ) (bytes text : List ℕ) : Type 0 where
+  pub physical : PhysicalSet
+  pub set : TaskSet
+  pub rows : List ℕ
+  pub units : reading_of_units bytes ≡ Ok physical
+  pub slots : derived_set physical ≡ Ok set
+  pub read : AreRows held name rows
+  pub arrivals : arrivals_text physical rows ≡ Ok text
 
--- known bytes grow by such a text of the file
-pub record IsWritten
-    (question : Question) (held : Option Held) (name : List ℕ)
-    (before after : Option (List ℕ)) : Type 0 where
+-- the text answers the question of the bytes, where the other file has this name
+abbrev pub IsAnswer : Question → Option Held → List ℕ → List ℕ → List ℕ → Type 0
+IsAnswer Tasks held other bytes text = IsText bytes text
+IsAnswer (Check from to) held other bytes text = AreLengths from to bytes text
+IsAnswer Arrivals held other bytes text = AreArrivals held other bytes text
+
+-- the text answers the question of the file of this name
+pub record IsDue
+    (question : Question) (held : Option Held) (name other text : List ℕ) : Type 0 where
   pub bytes : List ℕ
-  pub text : List ℕ
   pub read : IsRead held name bytes
-  pub is_answer : IsAnswer question bytes text
+  pub is_answer : IsAnswer question held other bytes text
+
+-- known bytes grow by such a text
+pub record IsWritten
+    (question : Question) (held : Option Held) (name other : List ℕ)
+    (before after : Option (List ℕ)) : Type 0 where
+  pub text : List ℕ
+  pub due : IsDue question held name other text
   pub written : Appends before after text
 
 -- why a set in slots has no text: its first fault, or the text that was made is read otherwise, of
@@ -93,10 +118,54 @@ IsReadingRefusal bytes (BadUnits fault) = reading_of_units bytes ≡ Err fault
 IsReadingRefusal bytes Memory = ⊤
 IsReadingRefusal bytes _ = ⊥
 
+-- why a set in physical time has no set in slots
+abbrev pub IsSlotsRefusal : PhysicalSet → UnitsRefusal → Type 0
+IsSlotsRefusal physical (NoSlots fault) = derived_set physical ≡ Err fault
+IsSlotsRefusal physical Memory = ⊤
+IsSlotsRefusal physical _ = ⊥
+
+-- why a file of arrivals is not read
+abbrev pub IsRowsRefusal : Option Held → List ℕ → Option (List ℕ) → ℕ → ℕ → UnitsRefusal → Type 0
+IsRowsRefusal held name blamed before after UnreadableArrivals =
+    (blamed ≡ Some name) × Rose before after
+IsRowsRefusal held name blamed before after TooLargeArrivals =
+    (rows : List ℕ) × AreRows held name rows × (ARRIVALS_FILE_LIMIT < length rows)
+IsRowsRefusal held name blamed before after Memory = ⊤
+IsRowsRefusal held name blamed before after _ = ⊥
+
+-- why rows with times are refused
+abbrev pub IsRowRefusal : PhysicalSet → List ℕ → UnitsRefusal → Type 0
+IsRowRefusal physical rows (BadArrivals fault) = arrivals_text physical rows ≡ Err fault
+IsRowRefusal physical rows Memory = ⊤
+IsRowRefusal physical rows _ = ⊥
+
+-- why they have no arrivals with the other file, over its name, its blame and the counts of faults:
+-- they write no set in physical time, that has no set in slots, the other file is not read, or a row
+-- of it has a fault
+abbrev pub IsArrivalsRefusal :
+    Option Held → List ℕ → List ℕ → Option (List ℕ) → ℕ × ℕ → UnitsRefusal → Type 0
+IsArrivalsRefusal held other bytes blamed of_files (BadUnits fault) =
+    reading_of_units bytes ≡ Err fault
+IsArrivalsRefusal held other bytes blamed of_files (NoSlots fault) =
+    (physical : PhysicalSet) × (reading_of_units bytes ≡ Ok physical)
+    × (derived_set physical ≡ Err fault)
+IsArrivalsRefusal held other bytes blamed of_files UnreadableArrivals =
+    (blamed ≡ Some other) × Rose of_files.0 of_files.1
+IsArrivalsRefusal held other bytes blamed of_files TooLargeArrivals =
+    (rows : List ℕ) × AreRows held other rows × (ARRIVALS_FILE_LIMIT < length rows)
+IsArrivalsRefusal held other bytes blamed of_files (BadArrivals fault) =
+    (physical : PhysicalSet) × (reading_of_units bytes ≡ Ok physical)
+    × ((rows : List ℕ) × AreRows held other rows × (arrivals_text physical rows ≡ Err fault))
+IsArrivalsRefusal held other bytes blamed of_files Memory = ⊤
+IsArrivalsRefusal held other bytes blamed of_files _ = ⊥
+
 -- why they have no answer to the question
-abbrev pub IsAnswerRefusal : Question → List ℕ → UnitsRefusal → Type 0
-IsAnswerRefusal Tasks bytes e = IsTextRefusal bytes e
-IsAnswerRefusal (Check from to) bytes e = IsReadingRefusal bytes e
+abbrev pub IsAnswerRefusal :
+    Question → Option Held → List ℕ → List ℕ → Option (List ℕ) → ℕ × ℕ → UnitsRefusal → Type 0
+IsAnswerRefusal Tasks held other bytes blamed of_files e = IsTextRefusal bytes e
+IsAnswerRefusal (Check from to) held other bytes blamed of_files e = IsReadingRefusal bytes e
+IsAnswerRefusal Arrivals held other bytes blamed of_files e =
+    IsArrivalsRefusal held other bytes blamed of_files e
 
 -- why a file is not read: a fault was counted and its name blamed, or it is too long
 abbrev pub IsFileRefusal : Option Held → List ℕ → Option (List ℕ) → ℕ → ℕ → UnitsRefusal → Type 0
@@ -107,29 +176,30 @@ IsFileRefusal held name blamed before after TooLarge =
 IsFileRefusal held name blamed before after Memory = ⊤
 IsFileRefusal held name blamed before after _ = ⊥
 
--- why a run is refused, over a file, its blame and the counts of faults of files and output
+-- why there is no answer of the file of this name: it is not read, or its bytes have none
+abbrev pub IsDueRefusal :
+    Question → Option Held → List ℕ → List ℕ → Option (List ℕ) → ℕ × ℕ → UnitsRefusal → Type 0
+IsDueRefusal question held name other blamed of_files e =
+    IsFileRefusal held name blamed of_files.0 of_files.1 e
+    ⊎ ((bytes : List ℕ) × IsRead held name bytes
+    × IsAnswerRefusal question held other bytes blamed of_files e)
+
+-- why a run is refused, over its files, their blame and the counts of faults of files and output
 abbrev pub IsRefused :
-    Question → Option Held → List ℕ → Option (List ℕ) → ℕ × ℕ → ℕ × ℕ → UnitsRefusal
+    Question → Option Held → List ℕ → List ℕ → Option (List ℕ) → ℕ × ℕ → ℕ × ℕ → UnitsRefusal
     → Type 0
-IsRefused question held name blamed of_files of_output WriteFault = Rose of_output.0 of_output.1
-IsRefused question held name blamed of_files of_output Unreadable =
-    IsFileRefusal held name blamed of_files.0 of_files.1 Unreadable
-IsRefused question held name blamed of_files of_output TooLarge =
-    IsFileRefusal held name blamed of_files.0 of_files.1 TooLarge
-IsRefused question held name blamed of_files of_output Memory = ⊤
-IsRefused question held name blamed of_files of_output (BadUnits fault) =
-    (bytes : List ℕ) × IsRead held name bytes × IsAnswerRefusal question bytes (BadUnits fault)
-IsRefused question held name blamed of_files of_output (NoSlots fault) =
-    (bytes : List ℕ) × IsRead held name bytes × IsAnswerRefusal question bytes (NoSlots fault)
-IsRefused question held name blamed of_files of_output (BadTasks fault) =
-    (bytes : List ℕ) × IsRead held name bytes × IsAnswerRefusal question bytes (BadTasks fault)
-IsRefused question held name blamed of_files of_output ReadsOtherwise =
-    (bytes : List ℕ) × IsRead held name bytes × IsAnswerRefusal question bytes ReadsOtherwise
+IsRefused question held name other blamed of_files of_output WriteFault =
+    Rose of_output.0 of_output.1
+IsRefused question held name other blamed of_files of_output e =
+    IsDueRefusal question held name other blamed of_files e
 
 -- the status of a refusal
 abbrev pub refusal_status : UnitsRefusal → Status
 refusal_status Unreadable = Status.FileFault
 refusal_status TooLarge = Status.TooLarge
+refusal_status UnreadableArrivals = Status.FileFault
+refusal_status TooLargeArrivals = Status.TooLarge
+refusal_status (BadArrivals fault) = Status.BadArrivals
 refusal_status (BadUnits fault) = Status.BadTasks
 refusal_status (NoSlots fault) = Status.BadTasks
 refusal_status (BadTasks fault) = Status.BadTasks

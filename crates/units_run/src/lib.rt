@@ -1,5 +1,5 @@
 //! What slotunits does, over any files and sinks: a file of units to a task file in slots, or to the
-//! lengths of a slot that suit it.
+//! lengths of a slot that suit it, and arrivals with times to an arrivals file.
 #![tactic(auto)]
 
 ghost use Rattle.std.specs.Prelude.{◌≡◌, ◌≢◌, ◌↔◌, ◌⊎◌, None, Some, codes};
@@ -31,11 +31,11 @@ use std::alloc::Global;
 use work::work;
 
 /// The usage line.
-const USAGE: &[u8] = b"usage: slotunits tasks U | check U [FROM TO]\n";
+const USAGE: &[u8] = b"usage: slotunits tasks U | check U [FROM TO] | arrivals U A\n";
 
 /// Does what the words ask for: tells the help or the version; or reads the file of units, and
-/// writes the answer in one put: the task file of its set in slots, or a line for each length of a
-/// slot. It puts one line on `err` where it ends otherwise than Done.
+/// writes the answer in one put: the task file of its set in slots, a line for each length of a
+/// slot, or the arrivals file of a file of arrivals with times. It puts one line on `err` where it ends otherwise than Done.
 pub fn run<F: Files, K: Sink, E: Sink>(
     alloc: Global,
     words: &Words,
@@ -52,10 +52,10 @@ pub fn run<F: Files, K: Sink, E: Sink>(
 
     // For other words, where it is done, the file writes a set in physical time. For a task file
     // its set in slots is sound, and what was written is read as that set; for the lengths of a
-    // slot what was written are their lines.
+    // slot what was written are their lines; and for arrivals with times it is their rows in slots.
     ensures done { page_of words.now ≡ None → result ≡ Status.Done
         → (question : Question) × (question_of words.now ≡ Some question)
-        × IsWritten question (F.held files.old) (word_at words.now 1)
+        × IsWritten question (F.held files.old) (word_at words.now 1) (word_at words.now 2)
         (K.written out.old) (K.written out.new) }
     ensures done_says_nothing { result ≡ Status.Done → err.new ≡ err.old }
 
@@ -63,9 +63,9 @@ pub fn run<F: Files, K: Sink, E: Sink>(
     ensures refused { page_of words.now ≡ None → result ≢ Status.Done → result ≢ Status.Usage
         → (question : Question) × (question_of words.now ≡ Some question)
         × ((e : UnitsRefusal) × (result ≡ refusal_status e)
-        × IsRefused question (F.held files.old) (word_at words.now 1) (F.blamed files.new)
-        (F.faults files.old, F.faults files.new) (K.faults out.old, K.faults out.new) e
-        × IsTold (refusal_line (word_at words.now 1) e)
+        × IsRefused question (F.held files.old) (word_at words.now 1) (word_at words.now 2)
+        (F.blamed files.new) (F.faults files.old, F.faults files.new) (K.faults out.old, K.faults out.new) e
+        × IsTold (refusal_line (word_at words.now 1) (word_at words.now 2) e)
         (E.written err.old) (E.written err.new) (E.faults err.old) (E.faults err.new)) }
     ensures refusal_writes_nothing { result ≢ Status.Done → result ≢ Status.WriteFault
         → out.new ≡ out.old }
@@ -87,21 +87,29 @@ fn run_file_of<F: Files, K: Sink, E: Sink>(
     ensures usage { (result ≡ Status.Usage) ↔ (question_of words.now ≡ None) }
     ensures done { result ≡ Status.Done
         → (question : Question) × (question_of words.now ≡ Some question)
-        × IsWritten question (F.held files.old) (word_at words.now 1)
+        × IsWritten question (F.held files.old) (word_at words.now 1) (word_at words.now 2)
         (K.written out.old) (K.written out.new) }
     ensures done_says_nothing { result ≡ Status.Done → err.new ≡ err.old }
     ensures refused { result ≢ Status.Done → result ≢ Status.Usage
         → (question : Question) × (question_of words.now ≡ Some question)
         × ((e : UnitsRefusal) × (result ≡ refusal_status e)
-        × IsRefused question (F.held files.old) (word_at words.now 1) (F.blamed files.new)
-        (F.faults files.old, F.faults files.new) (K.faults out.old, K.faults out.new) e
-        × IsTold (refusal_line (word_at words.now 1) e)
+        × IsRefused question (F.held files.old) (word_at words.now 1) (word_at words.now 2)
+        (F.blamed files.new) (F.faults files.old, F.faults files.new) (K.faults out.old, K.faults out.new) e
+        × IsTold (refusal_line (word_at words.now 1) (word_at words.now 2) e)
         (E.written err.old) (E.written err.new) (E.faults err.old) (E.faults err.new)) }
     ensures refusal_writes_nothing { result ≢ Status.Done → result ≢ Status.WriteFault
         → out.new ≡ out.old }
 {
     match question_of(words) {
-        Some(question) => run_file(alloc, question, name_of(words), files, out, err),
+        Some(question) => run_files(
+            alloc,
+            question,
+            name_of(words),
+            other_of(words),
+            files,
+            out,
+            err,
+        ),
         None => refuse(err, USAGE, Status::Usage),
     }
 }
@@ -113,46 +121,60 @@ fn name_of(words: &Words) -> &str
     if words.len() > 1 { words.word(1) } else { "" }
 }
 
-/// Answers the question of the file of units of this name.
-fn run_file<F: Files, K: Sink, E: Sink>(
+/// The name of the other file.
+fn other_of(words: &Words) -> &str
+    ensures { result.now ≡ word_at words.now 2 }
+{
+    if words.len() > 2 { words.word(2) } else { "" }
+}
+
+/// Answers the question of the files of these names.
+fn run_files<F: Files, K: Sink, E: Sink>(
     alloc: Global,
     question: Question,
     name: &str,
+    other: &str,
     files: &mut F,
     out: &mut K,
     err: &mut E,
 ) -> Status
     ensures known { result ≢ Status.Usage }
-    ensures done { result ≡ Status.Done → IsWritten question (F.held files.old) name.now
+    ensures done { result ≡ Status.Done → IsWritten question (F.held files.old) name.now other.now
         (K.written out.old) (K.written out.new) }
     ensures done_says_nothing { result ≡ Status.Done → err.new ≡ err.old }
     ensures refused { result ≢ Status.Done → (e : UnitsRefusal) × (result ≡ refusal_status e)
-        × IsRefused question (F.held files.old) name.now (F.blamed files.new)
+        × IsRefused question (F.held files.old) name.now other.now (F.blamed files.new)
         (F.faults files.old, F.faults files.new) (K.faults out.old, K.faults out.new) e
-        × IsTold (refusal_line name.now e)
+        × IsTold (refusal_line name.now other.now e)
         (E.written err.old) (E.written err.new) (E.faults err.old) (E.faults err.new) }
     ensures refusal_writes_nothing { result ≢ Status.Done → result ≢ Status.WriteFault
         → out.new ≡ out.old }
 {
-    match work(alloc, question, name, files, out) {
+    match work(alloc, question, name, other, files, out) {
         Ok(()) => Status::Done,
-        Err(refusal) => report(alloc, name, refusal, err).status(),
+        Err(refusal) => report(alloc, name, other, refusal, err).status(),
     }
 }
 
 /// Puts the line of the refusal, and answers why the run is refused: as it was, or for want of
 /// memory where there is none for the line.
-fn report<E: Sink>(alloc: Global, name: &str, refusal: UnitsRefusal, err: &mut E) -> UnitsRefusal
+fn report<E: Sink>(
+    alloc: Global,
+    name: &str,
+    other: &str,
+    refusal: UnitsRefusal,
+    err: &mut E,
+) -> UnitsRefusal
     ensures kept { (result ≡ refusal) ⊎ ((result ≡ UnitsRefusal.Memory)
         × (refusal ≢ UnitsRefusal.WriteFault)) }
-    ensures told { IsTold (refusal_line name.now result)
+    ensures told { IsTold (refusal_line name.now other.now result)
         (E.written err.old) (E.written err.new) (E.faults err.old) (E.faults err.new) }
 {
     if let UnitsRefusal::WriteFault = refusal {
         put_line(err, b"cannot write\n");
         return refusal;
     }
-    match refusal_line(alloc, name, refusal) {
+    match refusal_line(alloc, name, other, refusal) {
         Ok(line) => {
             put_line(err, line.as_slice());
             refusal

@@ -22,7 +22,7 @@ pub(crate) fn tell_units_page<K: Sink, E: Sink>(page: Page, out: &mut K, err: &m
 fn help() -> &'static [u8]
     ensures { result.now ≡ units_help }
 {
-    b"usage: slotunits tasks U | check U [FROM TO]
+    b"usage: slotunits tasks U | check U [FROM TO] | arrivals U A
        slotunits --help
        slotunits --version
 
@@ -34,16 +34,20 @@ words:
   check U [FROM TO]
              a line for each length of a slot, from FROM to TO, that divides all
              periods: first those with which U fits, the least load first
+  arrivals U A
+             the arrivals file in slots that stands for A
 
   U          a file of units (TOML), at most 1048576 bytes
   FROM, TO   times, as 100us and 1ms
+  A          an arrivals file with times (CSV), at most 4194304 bytes
 
 statuses:
   0   done
   1   the words are none of these forms
-  2   U cannot be read
-  3   U has too many bytes
+  2   a file cannot be read
+  3   a file has too many bytes
   4   U has a fault; of tasks, its set in slots has
+  6   A has a fault
   7   standard output takes no more
   8   memory ran out
 "

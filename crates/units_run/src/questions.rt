@@ -13,6 +13,8 @@ pub enum Question {
     Tasks,
     /// The lengths of a slot, from one to another in nanoseconds.
     Check(u64, u64),
+    /// The arrivals file of a file of arrivals with times.
+    Arrivals,
 }
 
 /// The question that the words ask, or None where they ask none.
@@ -21,6 +23,9 @@ pub fn question_of(words: &Words) -> Option<Question>
 {
     if words.len() == 2 {
         return plain_question(words.word(0));
+    }
+    if words.len() == 3 && words.word(0) == "arrivals" {
+        return Some(Question::Arrivals);
     }
     if words.len() == 4 && words.word(0) == "check" {
         return range_question(words.word(2), words.word(3));

@@ -4,6 +4,7 @@ ghost use Rattle.std.specs.Prelude.{◌≡◌, ◌++◌, IfOk, OnOk, codes};
 ghost use Rattle.clock_units.specs.FaultTexts.{unit_fault_text};
 ghost use Rattle.slot_core.specs.Output.FaultTexts.{task_fault_text};
 ghost use Rattle.slot_core.specs.Output.Texts.{worded};
+ghost use Rattle.timed_arrivals.specs.FaultTexts.{timed_fault_text};
 ghost use Rattle.unit_toml.specs.FaultTexts.{units_fault_text};
 ghost use Rattle.units_run.specs.Lines.{reason_of, refusal_line};
 ghost use Rattle.units_run.specs.Runs.{refusal_status};
@@ -11,8 +12,9 @@ ghost use Rattle.units_run.specs.Runs.{refusal_status};
 use clock_units::UnitFault;
 use command_line::Status;
 use command_line::append::{push, push_worded};
-use slot_core::{Memory, TASK_FILE_LIMIT, TaskFault};
+use slot_core::{ARRIVALS_FILE_LIMIT, Memory, TASK_FILE_LIMIT, TaskFault};
 use std::alloc::Global;
+use timed_arrivals::TimedFault;
 use unit_toml::UnitsFault;
 
 /// Why a run is not done.
@@ -30,6 +32,12 @@ pub enum UnitsRefusal {
     BadTasks(TaskFault),
     /// The text that was made is read as another set.
     ReadsOtherwise,
+    /// The file of arrivals cannot be read.
+    UnreadableArrivals,
+    /// The file of arrivals has more bytes than its limit.
+    TooLargeArrivals,
+    /// A row of arrivals with times has a fault.
+    BadArrivals(TimedFault),
     /// The output takes no more.
     WriteFault,
     /// Memory ran out.
@@ -42,8 +50,9 @@ impl UnitsRefusal {
         ensures { result ≡ refusal_status self }
     {
         match self {
-            UnitsRefusal::Unreadable => Status::FileFault,
-            UnitsRefusal::TooLarge => Status::TooLarge,
+            UnitsRefusal::Unreadable | UnitsRefusal::UnreadableArrivals => Status::FileFault,
+            UnitsRefusal::TooLarge | UnitsRefusal::TooLargeArrivals => Status::TooLarge,
+            UnitsRefusal::BadArrivals(_) => Status::BadArrivals,
             UnitsRefusal::BadUnits(_)
             | UnitsRefusal::NoSlots(_)
             | UnitsRefusal::BadTasks(_)
@@ -54,16 +63,17 @@ impl UnitsRefusal {
     }
 }
 
-/// The line of the refusal, of a file of this name.
+/// The line of the refusal, of files of these names.
 pub(crate) fn refusal_line(
     alloc: Global,
     name: &str,
+    other: &str,
     refusal: UnitsRefusal,
 ) -> Result<Vec<u8>, Memory>
-    ensures { IfOk result (λ line. line.items ≡ refusal_line name.now refusal) }
+    ensures { IfOk result (λ line. line.items ≡ refusal_line name.now other.now refusal) }
 {
     let mut line = Vec::new(alloc);
-    push_reason(alloc, &mut line, name, refusal)?;
+    push_reason(alloc, &mut line, name, other, refusal)?;
     push(&mut line, b"\n")?;
     Ok(line)
 }
@@ -73,13 +83,18 @@ fn push_reason(
     alloc: Global,
     line: &mut Vec<u8>,
     name: &str,
+    other: &str,
     refusal: UnitsRefusal,
 ) -> Result<(), Memory>
-    ensures { OnOk result (line.new.items ≡ line.old.items ++ reason_of name.now refusal) }
+    ensures { OnOk result
+        (line.new.items ≡ line.old.items ++ reason_of name.now other.now refusal) }
 {
     match refusal {
         UnitsRefusal::Unreadable => push_unreadable(line, name),
-        UnitsRefusal::TooLarge => push_too_large(line, name),
+        UnitsRefusal::TooLarge => push_too_large(line, name, TASK_FILE_LIMIT),
+        UnitsRefusal::UnreadableArrivals => push_unreadable(line, other),
+        UnitsRefusal::TooLargeArrivals => push_too_large(line, other, ARRIVALS_FILE_LIMIT),
+        UnitsRefusal::BadArrivals(fault) => push_bad_arrivals(alloc, line, fault),
         UnitsRefusal::BadUnits(fault) => push_bad_units(alloc, line, fault),
         UnitsRefusal::NoSlots(fault) => push_no_slots(alloc, line, fault),
         UnitsRefusal::BadTasks(fault) => push_bad_tasks(alloc, line, fault),
@@ -97,13 +112,22 @@ fn push_unreadable(line: &mut Vec<u8>, name: &str) -> Result<(), Memory>
     push(line, name.as_bytes())
 }
 
-/// Appends that the file has too many bytes.
-fn push_too_large(line: &mut Vec<u8>, name: &str) -> Result<(), Memory>
+/// Appends that the file has more bytes than its limit.
+fn push_too_large(line: &mut Vec<u8>, name: &str, limit: usize) -> Result<(), Memory>
     ensures { OnOk result (line.new.items ≡ line.old.items
-        ++ (codes "too large " ++ worded name.now TASK_FILE_LIMIT)) }
+        ++ (codes "too large " ++ worded name.now limit)) }
 {
     push(line, b"too large ")?;
-    push_worded(line, name.as_bytes(), TASK_FILE_LIMIT as u64)
+    push_worded(line, name.as_bytes(), limit as u64)
+}
+
+/// Appends what is wrong with a row of arrivals.
+fn push_bad_arrivals(alloc: Global, line: &mut Vec<u8>, fault: TimedFault) -> Result<(), Memory>
+    ensures { OnOk result
+        (line.new.items ≡ line.old.items ++ (codes "arrivals " ++ timed_fault_text fault)) }
+{
+    let words = format!(in alloc; "arrivals {fault}")?;
+    push(line, words.as_bytes())
 }
 
 /// Appends what is wrong with the file of units.

@@ -1,55 +1,78 @@
 //! The work of a run: what is read, and what is written of it.
 
-ghost use Rattle.std.specs.Prelude.{◌≡◌, ◌≢◌, true, Ok, Err, IfOk, IfErr, OnOk};
+ghost use Rattle.std.specs.Prelude.{◌≡◌, ◌≢◌, ◌<◌, true, Ok, Err, IfOk, IfErr, OnOk};
 ghost use Rattle.slot_core.specs.declared.tasks.TaskSet.{TaskSet};
 ghost use Rattle.slot_core.specs.Sets.Ranges.{is_in_range, is_sound};
 ghost use Rattle.clock_units.specs.Derived.{derived_set, is_shaped};
 ghost use Rattle.task_toml.specs.Reading.{reading_of_tasks};
+ghost use Rattle.timed_arrivals.specs.Texts.{arrivals_text};
 ghost use Rattle.unit_toml.specs.Reading.{reading_of_units};
-ghost use Rattle.units_run.specs.Runs.{AreLengths, IsAnswer, IsAnswerRefusal, IsFileRefusal, IsRead, IsReadingRefusal, IsRefused, IsSetRefusal, IsText, IsTextRefusal, IsUnitsRefusal, IsWritten};
+ghost use Rattle.units_run.specs.Runs.{AreArrivals, AreLengths, AreRows, IsAnswer, IsAnswerRefusal, IsArrivalsRefusal, IsDue, IsDueRefusal, IsFileRefusal, IsRowRefusal, IsRowsRefusal, IsSlotsRefusal, IsRead, IsReadingRefusal, IsRefused, IsSetRefusal, IsText, IsTextRefusal, IsUnitsRefusal, IsWritten};
 ghost use Rattle.units_run.specs.declared.refusal.UnitsRefusal.TheVariants.{WriteFault as WriteRefusal};
 ghost use Rattle.units_run.specs.declared.refusal.UnitsRefusal.{UnitsRefusal};
 
 use crate::questions::Question;
 use crate::refusal::UnitsRefusal;
 use clock_units::{PhysicalSet, UnitFault, slots_of};
-use slot_core::{Failed, Memory, TASK_FILE_LIMIT, TaskFault, TaskSet};
+use slot_core::{ARRIVALS_FILE_LIMIT, Failed, Memory, TASK_FILE_LIMIT, TaskFault, TaskSet};
 use slot_io::{Files, ReadFault, Sink};
 use slot_lengths::lengths_text;
 use source_check::check;
 use std::alloc::Global;
 use task_text::{TextFault, text_of};
+use timed_arrivals::{TimedFault, arrivals_text};
 use unit_toml::{UnitsFault, read_units};
 
-/// Reads the file of units of this name, and writes the answer to the question.
+/// Reads the file of units of this name, and writes the answer to the question, which may read the
+/// other file too.
 pub(crate) fn work<F: Files, K: Sink>(
     alloc: Global,
     question: Question,
     name: &str,
+    other: &str,
     files: &mut F,
     out: &mut K,
 ) -> Result<(), UnitsRefusal>
-    ensures written { OnOk result
-        (IsWritten question (F.held files.old) name.now (K.written out.old) (K.written out.new)) }
+    ensures written { OnOk result (IsWritten question (F.held files.old) name.now other.now
+        (K.written out.old) (K.written out.new)) }
     ensures reads_well { OnOk result (F.faults files.new ≡ F.faults files.old) }
-    ensures refused { IfErr result (IsRefused question (F.held files.old) name.now
+    ensures refused { IfErr result (IsRefused question (F.held files.old) name.now other.now
         (F.blamed files.new) (F.faults files.old, F.faults files.new)
         (K.faults out.old, K.faults out.new)) }
     ensures untouched { (e : UnitsRefusal) → result ≡ Err e → e ≢ WriteRefusal
         → out.new ≡ out.old }
 {
-    let bytes = read_file(alloc, name, files)?;
-    let text = answer_to(alloc, question, bytes.as_slice())?;
+    let text = answer(alloc, question, name, other, files)?;
     match out.put(text.as_slice()) {
         Ok(()) => Ok(()),
         Err(Failed) => Err(UnitsRefusal::WriteFault),
     }
 }
 
+/// The answer to the question of the file of units of this name.
+fn answer<F: Files>(
+    alloc: Global,
+    question: Question,
+    name: &str,
+    other: &str,
+    files: &mut F,
+) -> Result<Vec<u8>, UnitsRefusal>
+    ensures due { IfOk result (λ text.
+        IsDue question (F.held files.old) name.now other.now text.items) }
+    ensures reads_well { OnOk result (F.faults files.new ≡ F.faults files.old) }
+    ensures refused { IfErr result (IsDueRefusal question (F.held files.old) name.now other.now
+        (F.blamed files.new) (F.faults files.old, F.faults files.new)) }
+    ensures writes_well { result ≢ Err WriteRefusal }
+{
+    let bytes = read_file(alloc, name, files)?;
+    answer_to(alloc, question, bytes.as_slice(), other, files)
+}
+
 /// The bytes of the file, where they are within the limit.
 fn read_file<F: Files>(alloc: Global, name: &str, files: &mut F) -> Result<Vec<u8>, UnitsRefusal>
     ensures read { IfOk result (λ bytes. IsRead (F.held files.old) name.now bytes.items) }
     ensures reads_well { OnOk result (F.faults files.new ≡ F.faults files.old) }
+    ensures keeps { F.held files.new ≡ F.held files.old }
     ensures refused { IfErr result (IsFileRefusal (F.held files.old) name.now (F.blamed files.new)
         (F.faults files.old) (F.faults files.new)) }
 {
@@ -66,13 +89,91 @@ fn read_file<F: Files>(alloc: Global, name: &str, files: &mut F) -> Result<Vec<u
 }
 
 /// The answer to the question of the bytes of a file of units.
-fn answer_to(alloc: Global, question: Question, bytes: &[u8]) -> Result<Vec<u8>, UnitsRefusal>
-    ensures answer { IfOk result (λ text. IsAnswer question bytes.now text.items) }
-    ensures refused { IfErr result (IsAnswerRefusal question bytes.now) }
+fn answer_to<F: Files>(
+    alloc: Global,
+    question: Question,
+    bytes: &[u8],
+    other: &str,
+    files: &mut F,
+) -> Result<Vec<u8>, UnitsRefusal>
+    ensures answer { IfOk result (λ text.
+        IsAnswer question (F.held files.old) other.now bytes.now text.items) }
+    ensures reads_well { OnOk result (F.faults files.new ≡ F.faults files.old) }
+    ensures refused { IfErr result (IsAnswerRefusal question (F.held files.old) other.now bytes.now
+        (F.blamed files.new) (F.faults files.old, F.faults files.new)) }
 {
     match question {
         Question::Tasks => text_from(alloc, bytes),
         Question::Check(from, to) => lengths_from(alloc, bytes, from, to),
+        Question::Arrivals => arrivals_from(alloc, bytes, other, files),
+    }
+}
+
+/// The arrivals file of the file of arrivals with times of this name.
+fn arrivals_from<F: Files>(
+    alloc: Global,
+    bytes: &[u8],
+    other: &str,
+    files: &mut F,
+) -> Result<Vec<u8>, UnitsRefusal>
+    ensures arrivals { IfOk result (λ text.
+        AreArrivals (F.held files.old) other.now bytes.now text.items) }
+    ensures reads_well { OnOk result (F.faults files.new ≡ F.faults files.old) }
+    ensures refused { IfErr result (IsArrivalsRefusal (F.held files.old) other.now bytes.now
+        (F.blamed files.new) (F.faults files.old, F.faults files.new)) }
+{
+    let physical = units_of(alloc, bytes)?;
+    check_slots(alloc, &physical)?;
+    let rows = read_rows(alloc, other, files)?;
+    rows_in_slots(alloc, &physical, rows.as_slice())
+}
+
+/// Refuses a set in physical time that has no set in slots.
+fn check_slots(alloc: Global, physical: &PhysicalSet) -> Result<(), UnitsRefusal>
+    ensures slots { OnOk result ((set : TaskSet) × (derived_set physical.now ≡ Ok set)) }
+    ensures below { OnOk result (physical.now.overhead < physical.now.slot) }
+    ensures refused { IfErr result (IsSlotsRefusal physical.now) }
+{
+    match slots_of(alloc, physical) {
+        Ok(_) => Ok(()),
+        Err(UnitFault::Memory) => Err(UnitsRefusal::Memory),
+        Err(fault) => Err(UnitsRefusal::NoSlots(fault)),
+    }
+}
+
+/// The bytes of the file of arrivals, where they are within the limit.
+fn read_rows<F: Files>(alloc: Global, name: &str, files: &mut F) -> Result<Vec<u8>, UnitsRefusal>
+    ensures read { IfOk result (λ rows. AreRows (F.held files.old) name.now rows.items) }
+    ensures reads_well { OnOk result (F.faults files.new ≡ F.faults files.old) }
+    ensures refused { IfErr result (IsRowsRefusal (F.held files.old) name.now (F.blamed files.new)
+        (F.faults files.old) (F.faults files.new)) }
+{
+    match files.read(alloc, name, ARRIVALS_FILE_LIMIT) {
+        Ok(rows) => {
+            if rows.len() > ARRIVALS_FILE_LIMIT {
+                return Err(UnitsRefusal::TooLargeArrivals);
+            }
+            Ok(rows)
+        }
+        Err(ReadFault::Memory) => Err(UnitsRefusal::Memory),
+        Err(ReadFault::Failed) => Err(UnitsRefusal::UnreadableArrivals),
+    }
+}
+
+/// The arrivals file of these rows with times.
+fn rows_in_slots(
+    alloc: Global,
+    physical: &PhysicalSet,
+    rows: &[u8],
+) -> Result<Vec<u8>, UnitsRefusal>
+    requires { physical.now.overhead < physical.now.slot }
+    ensures text { IfOk result (λ text. arrivals_text physical.now rows.now ≡ Ok text.items) }
+    ensures refused { IfErr result (IsRowRefusal physical.now rows.now) }
+{
+    match arrivals_text(alloc, physical, rows) {
+        Ok(text) => Ok(text),
+        Err(TimedFault::Memory) => Err(UnitsRefusal::Memory),
+        Err(fault) => Err(UnitsRefusal::BadArrivals(fault)),
     }
 }
 

@@ -1,0 +1,11 @@
+use Rattle.std.proofs.Common.{◌≡◌, ◌-◌, drop}
+use Rattle.timed_arrivals.specs.Texts.{arrivals_text, due_of, lines_after}
+use Rattle.timed_arrivals.proofs.text.arrivals_text.Given as goal
+
+abbrev pub invariant-loop-byte : goal.invariant-loop-byte
+invariant-loop-byte l =
+    record {
+      slot : l.so_far.slot ≡ l.set.slot;
+      worth : l.so_far.worth ≡ l.set.slot - l.set.overhead;
+      due : due_of l.so_far (lines_after l.so_far.line.items (drop l.byte-index l.bytes)) ≡ arrivals_text l.set l.bytes;
+    }

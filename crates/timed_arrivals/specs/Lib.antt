@@ -1,0 +1,3 @@
+pub mod FaultTexts
+pub mod Rows
+pub mod Texts

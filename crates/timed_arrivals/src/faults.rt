@@ -1,0 +1,56 @@
+//! Why arrivals with times are refused.
+
+ghost use Rattle.std.specs.Prelude.{◌≡◌};
+ghost use Rattle.timed_arrivals.specs.declared.faults.TimedFault.TheVariants.{Memory as MemoryFault};
+
+use slot_core::Memory;
+use std::error::Error;
+use std::fmt;
+
+/// Why arrivals with times are refused. Rows count from 1, fields too.
+#[derive(Clone, Copy, PartialEq, Eq)]
+pub enum TimedFault {
+    /// Memory ran out.
+    Memory,
+    /// A row has too few fields.
+    BadRow(u32),
+    /// A field of a row is no time.
+    BadTime(u32, u8),
+    /// The second field of a row names no kind.
+    UnknownKind(u32),
+    /// There are too many rows.
+    TooMany,
+}
+
+impl fmt::Display for TimedFault {
+    ghost use Rattle.std.specs.Prelude.{Some};
+    ghost use Rattle.timed_arrivals.specs.FaultTexts.{timed_fault_text};
+
+    ghost output = { λ fault. Some (timed_fault_text fault) };
+
+    fn fmt<W: fmt::Write>(&self, f: &mut fmt::Formatter<W>) -> fmt::Result {
+        match self {
+            TimedFault::Memory => write!(f, "out of memory"),
+            TimedFault::BadRow(row) => write!(f, "bad row {row}"),
+            TimedFault::BadTime(row, field) => write!(f, "bad time {row} {field}"),
+            TimedFault::UnknownKind(row) => write!(f, "unknown kind {row}"),
+            TimedFault::TooMany => write!(f, "too many"),
+        }
+    }
+}
+
+impl fmt::Debug for TimedFault {
+    fn fmt<W: fmt::Write>(&self, f: &mut fmt::Formatter<W>) -> fmt::Result {
+        fmt::Display::fmt(self, f)
+    }
+}
+
+impl Error for TimedFault {}
+
+impl From<Memory> for TimedFault {
+    ghost from_gives = { λ _ fault. fault ≡ MemoryFault };
+
+    fn from(_: Memory) -> TimedFault {
+        TimedFault::Memory
+    }
+}
