@@ -19,6 +19,7 @@ use Rattle.slot_core.specs.declared.jobs.Window.{Window}
 use Rattle.faults.specs.declared.table_fault.TableFault.{TableFault}
 use Rattle.faults.specs.declared.table_fault.TableFault.TheVariants.{Memory as NoMemory, Short, BadMagic, BadVersion, BadSource, Infeasible, WrongJobCount, WrongJob, WrongSpanCount, WrongSpan, Trailing}
 use Rattle.slot_port.specs.declared.TheConstants.{INDEX_LIMIT, SPORADIC_INDEX_LIMIT, KEY_TEXT_LIMIT}
+use Rattle.slot_port.specs.declared.changes.TheConstants.{DROP, STARTED, GRAPHS}
 use Rattle.slot_port.specs.declared.numbers.TheConstants.{NO_JOB, OFFLINE, SPORADIC, FIRM, SOFT}
 use Rattle.slot_port.specs.declared.status.TheConstants.{OK, MEMORY, BAD_TABLE, BAD_ROW, BAD_NUMBER, AT_END, CLOSED, STILL_OPEN, REFUSED, NOT_FRESH}
 use Rattle.slot_port.specs.Answers.{soft_numbers, firm_numbers, sporadic_numbers, done_numbers, gone_numbers}
@@ -34,6 +35,10 @@ statuses = refl
 -- the kinds of keys
 pub kinds : NO_JOB ∷ OFFLINE ∷ SPORADIC ∷ FIRM ∷ SOFT ∷ [] ≡ 0 ∷ 1 ∷ 2 ∷ 3 ∷ 4 ∷ []
 kinds = refl
+
+-- which offline jobs go on at a change of plan
+pub keeps : DROP ∷ STARTED ∷ GRAPHS ∷ [] ≡ 0 ∷ 1 ∷ 2 ∷ []
+keeps = refl
 
 -- the answers to soft work
 pub soft_answers :

@@ -1,5 +1,5 @@
 -- A change of plan in numbers: the jobs that remain, which of them go on, and what is told.
-use Rattle.std.specs.Prelude.{◌≡◌, ℕ, ◌+◌, ◌^◌, Bool, true, ◌&&◌, ◌==◌, nat_lt, if◌then◌else◌, List, length, map, Option, Some, None}
+use Rattle.std.specs.Prelude.{◌≡◌, ℕ, ◌+◌, ◌-◌, ◌^◌, Bool, true, ◌&&◌, ◌==◌, nat_lt, if◌then◌else◌, List, length, map, Option, Some, None}
 use Rattle.slot_core.specs.declared.jobs.Job.{Job}
 use Rattle.slot_core.specs.declared.tasks.TaskSet.{TaskSet}
 use Rattle.slot_core.specs.Keeping.Executives.{Executive}
@@ -11,6 +11,7 @@ use Rattle.plan_change.specs.declared.moves.Refusal.{Refusal}
 use Rattle.plan_change.specs.declared.offers.Offer.{Offer}
 use Rattle.plan_change.specs.Carrying.{carried_from, cut_count, offers_from}
 use Rattle.plan_change.specs.Changed.{CanStartWith, HasNoRoom, IsChanged, IsCutOff}
+use Rattle.plan_change.specs.SoftWork.{IsChangedWithSoft, IsCutOffWithSoft, soft_from}
 use Rattle.slot_port.specs.declared.changes.TheConstants.{DROP, STARTED, GRAPHS}
 use Rattle.slot_port.specs.declared.numbers.Told.{Told}
 use Rattle.slot_port.specs.declared.changes.JobNumbers.{JobNumbers}
@@ -98,6 +99,40 @@ CannotCarry keep first from before after told =
     × IsNoChange before.plan.tasks offers refusal told
     × IsCutOff before.plan offers refusal after
 
+-- of a change at which soft work goes over too: how many soft jobs do, how many guaranteed ones, how
+-- many of these have a deadline that is cut, and how many soft jobs are left behind
+abbrev pub moved_with_soft_numbers : Keep → Executive → ℕ → ℕ → Told
+moved_with_soft_numbers keep from cycle limit =
+    three_numbers
+    (length (soft_from from limit))
+    (length (carried_from keep from))
+    (cut_count from.scene.time cycle (carried_from keep from))
+    (length from.scene.soft - limit)
+
+-- the executive goes on as the second one with the soft work that may wait there
+abbrev pub CarriesWithSoft : Keep → ℕ → Executive → Executive → Executive → Told → Type 0
+CarriesWithSoft keep first from before after told =
+    IsChangedWithSoft
+    before.plan
+    (offers_from keep from before.plan.cycle first)
+    (soft_from from before.plan.tasks.soft_limit)
+    after
+    × (told
+    ≡ moved_with_soft_numbers keep from before.plan.cycle before.plan.tasks.soft_limit)
+
+-- or it does not, and the second one has taken what comes before the offer that has no room
+abbrev pub CannotCarryWithSoft : Keep → ℕ → Executive → Executive → Executive → Told → Type 0
+CannotCarryWithSoft keep first from before after told =
+    let offers = offers_from keep from before.plan.cycle first in
+    (refusal : Refusal)
+    × IsNoChange before.plan.tasks offers refusal told
+    × IsCutOffWithSoft
+    before.plan
+    offers
+    (soft_from from before.plan.tasks.soft_limit)
+    refusal
+    after
+
 -- an executive of the plan that the bytes spell goes on where the first one was
 abbrev pub Changes : Keep → ℕ → Executive → List ℕ → Executive → Told → Type 0
 Changes keep first from table after told =
@@ -105,6 +140,18 @@ Changes keep first from table after told =
     × Spells table after.plan
     × IsChanged after.plan (offers_from keep from after.plan.cycle first) after
     × (told ≡ moved_numbers keep from after.plan.cycle)
+
+-- and with the soft work that may wait there
+abbrev pub ChangesWithSoft : Keep → ℕ → Executive → List ℕ → Executive → Told → Type 0
+ChangesWithSoft keep first from table after told =
+    IsPlan after.plan
+    × Spells table after.plan
+    × IsChangedWithSoft
+    after.plan
+    (offers_from keep from after.plan.cycle first)
+    (soft_from from after.plan.tasks.soft_limit)
+    after
+    × (told ≡ moved_with_soft_numbers keep from after.plan.cycle after.plan.tasks.soft_limit)
 
 -- or it cannot go on with that plan
 abbrev pub CannotChange : Keep → ℕ → Executive → List ℕ → Told → Type 0

@@ -1,20 +1,20 @@
 //! The jobs that remain, and changes of plan: an executive goes on as one of another plan.
 
-ghost use Rattle.std.specs.Prelude.{◌≡◌, ◌≢◌, ◌⊎◌, ◌≤◌, ◌<◌, true, length, slice_get, Err, IfErr, IfOk, Some};
+ghost use Rattle.std.specs.Prelude.{◌≡◌, ◌≢◌, ◌⊎◌, ◌≤◌, ◌<◌, true, length, slice_get, Err, IfErr, IfOk, OnOk, Some};
 ghost use Rattle.slot_core.specs.Keeping.Executives.{StandsFor};
 ghost use Rattle.slot_core.specs.Keeping.Plans.{IsPlan, PlanParts};
 ghost use Rattle.slot_core.specs.Runs.Traces.{started};
 ghost use Rattle.table_codec.specs.Grammar.{Spells};
 ghost use Rattle.slot_port.specs.declared.status.TheConstants.{BAD_TABLE, MEMORY, OK, REFUSED};
 ghost use Rattle.slot_port.specs.Answers.{three_numbers};
-ghost use Rattle.slot_port.specs.Changes.{CannotCarry, CannotChange, Carries, Changes, asked_status, carry_status, first_fits, job_numbers, job_status, jobs_in, keep_named, refusal_numbers};
+ghost use Rattle.slot_port.specs.Changes.{CannotCarry, CannotCarryWithSoft, CannotChange, Carries, CarriesWithSoft, Changes, ChangesWithSoft, asked_status, carry_status, first_fits, job_numbers, job_status, jobs_in, keep_named, refusal_numbers};
 ghost use Rattle.slot_port.specs.Faults.{TellsFault};
 
 use crate::numbers::{KeyNumbers, Told, key_numbers, three_numbers};
 use crate::opening::open;
 use crate::status::{BAD_NUMBER, BAD_ROW, NOT_FRESH, OK, REFUSED, Status};
 use interval_row::SpareTable;
-use plan_change::{CarriedList, Keep, Moved, Refusal, is_fresh};
+use plan_change::{CarriedList, Keep, Moved, MovedWithSoft, Refusal, is_fresh};
 use slot_core::{Job, Steps};
 use slot_exec::Exec;
 use std::alloc::Global;
@@ -83,11 +83,38 @@ pub fn carry<T: SpareTable>(
     ensures plan { into.new.plan ≡ into.old.plan }
     ensures places { list.new.places ≡ list.old.places }
 {
-    if !is_fresh(into) {
-        return NOT_FRESH;
-    }
-    match asked(from, first, keep) {
+    match asked_of_both(from, into, first, keep) {
         Ok(keep) => carry_asked(from, into, list, first, keep, told),
+        Err(status) => status,
+    }
+}
+
+/// `carry`, where soft work goes over too, as with `plan_change::carry_with_soft`. After `OK` the
+/// answer in `told` is how many soft jobs go over, and its last number how many are left behind.
+pub fn carry_with_soft<T: SpareTable>(
+    from: &Exec<T>,
+    into: &mut Exec<T>,
+    list: &mut CarriedList,
+    first: u32,
+    keep: u32,
+    told: &mut Told,
+) -> Status
+    requires { from.now.plan.cycle ≤ list.old.places }
+    ensures asked { carry_status from.now into.old first keep ≢ OK
+        → result ≡ carry_status from.now into.old first keep }
+    ensures stays { carry_status from.now into.old first keep ≢ OK → into.new ≡ into.old }
+    ensures silent { carry_status from.now into.old first keep ≢ OK → told.new ≡ told.old }
+    ensures done { carry_status from.now into.old first keep ≡ OK
+        → (result ≡ OK) ⊎ (result ≡ REFUSED) }
+    ensures carries { (k : Keep) → keep_named keep ≡ Some k → result ≡ OK
+        → CarriesWithSoft k first from.now into.old into.new told.new }
+    ensures refused { (k : Keep) → keep_named keep ≡ Some k → result ≡ REFUSED
+        → CannotCarryWithSoft k first from.now into.old into.new told.new }
+    ensures plan { into.new.plan ≡ into.old.plan }
+    ensures places { list.new.places ≡ list.old.places }
+{
+    match asked_of_both(from, into, first, keep) {
+        Ok(keep) => carry_asked_with_soft(from, into, list, first, keep, told),
         Err(status) => status,
     }
 }
@@ -130,6 +157,42 @@ pub fn change<T: SpareTable>(
     }
 }
 
+/// `change`, where soft work goes over too, as with `carry_with_soft`.
+pub fn change_with_soft<T: SpareTable>(
+    alloc: Global,
+    from: &Exec<T>,
+    list: &mut CarriedList,
+    table: &[u8],
+    first: u32,
+    keep: u32,
+    told: &mut Told,
+) -> Result<Exec<T>, Status>
+    requires { from.now.plan.cycle ≤ list.old.places }
+    ensures asked { asked_status from.now first (keep_named keep) ≢ OK
+        → result ≡ Err (asked_status from.now first (keep_named keep)) }
+    ensures silent { asked_status from.now first (keep_named keep) ≢ OK → told.new ≡ told.old }
+    ensures statuses { asked_status from.now first (keep_named keep) ≡ OK
+        → IfErr result (λ status. (status ≡ MEMORY) ⊎ (status ≡ BAD_TABLE) ⊎ (status ≡ REFUSED)) }
+    ensures changes { (k : Keep) → keep_named keep ≡ Some k
+        → IfOk result (λ exec. ChangesWithSoft k first from.now table.now exec told.new) }
+    ensures refused { (k : Keep) → keep_named keep ≡ Some k → result ≡ Err REFUSED
+        → CannotChange k first from.now table.now told.new }
+    ensures faulty { result ≡ Err BAD_TABLE → TellsFault table.now told.new }
+    ensures every { (plan : PlanParts) → IsPlan plan → Spells table.now plan → IfOk
+        result
+        (λ exec. exec.plan ≡ plan) }
+    ensures spelled { (plan : PlanParts) → IsPlan plan → Spells table.now plan
+        → result ≢ Err BAD_TABLE }
+    ensures places { list.new.places ≡ list.old.places }
+{
+    let keep = asked(from, first, keep)?;
+    let mut into = open(alloc, table, told)?;
+    match carry_asked_with_soft(from, &mut into, list, first, keep, told) {
+        OK => Ok(into),
+        status => Err(status),
+    }
+}
+
 /// Which offline jobs go on, where the numbers of a change are in range; else its status.
 fn asked<T: SpareTable>(from: &Exec<T>, first: u32, keep: u32) -> Result<Keep, Status>
     ensures fits { IfOk result (λ k. (keep_named keep ≡ Some k)
@@ -144,6 +207,26 @@ fn asked<T: SpareTable>(from: &Exec<T>, first: u32, keep: u32) -> Result<Keep, S
         return Err(BAD_ROW);
     }
     Ok(keep)
+}
+
+/// The same of a change between two executives, of which the second one has to be fresh.
+fn asked_of_both<T: SpareTable>(
+    from: &Exec<T>,
+    into: &Exec<T>,
+    first: u32,
+    keep: u32,
+) -> Result<Keep, Status>
+    ensures fresh { OnOk result (StandsFor into.now started) }
+    ensures fits { IfOk result (λ k. (keep_named keep ≡ Some k)
+        × (first_fits from.now first k ≡ true)) }
+    ensures none { OnOk result (carry_status from.now into.now first keep ≡ OK) }
+    ensures status { IfErr result (λ status. (status ≡ carry_status from.now into.now first keep)
+        × (status ≢ OK)) }
+{
+    if !is_fresh(into) {
+        return Err(NOT_FRESH);
+    }
+    asked(from, first, keep)
 }
 
 /// Carries over what goes on, with numbers that are in range.
@@ -168,6 +251,38 @@ fn carry_asked<T: SpareTable>(
     match plan_change::carry(from, into, list, keep, first) {
         Ok(moved) => {
             *told = moved_numbers(moved);
+            OK
+        }
+        Err(refusal) => {
+            *told = refusal_numbers(refusal);
+            REFUSED
+        }
+    }
+}
+
+/// Carries over what goes on with soft work, with numbers that are in range.
+fn carry_asked_with_soft<T: SpareTable>(
+    from: &Exec<T>,
+    into: &mut Exec<T>,
+    list: &mut CarriedList,
+    first: u32,
+    keep: Keep,
+    told: &mut Told,
+) -> Status
+    requires fresh { StandsFor into.old started }
+    requires fits { first_fits from.now first keep ≡ true }
+    requires places { from.now.plan.cycle ≤ list.old.places }
+    ensures done { (result ≡ OK) ⊎ (result ≡ REFUSED) }
+    ensures carries { result ≡ OK
+        → CarriesWithSoft keep first from.now into.old into.new told.new }
+    ensures refused { result ≡ REFUSED
+        → CannotCarryWithSoft keep first from.now into.old into.new told.new }
+    ensures plan { into.new.plan ≡ into.old.plan }
+    ensures places { list.new.places ≡ list.old.places }
+{
+    match plan_change::carry_with_soft(from, into, list, keep, first) {
+        Ok(moved) => {
+            *told = moved_with_soft_numbers(moved);
             OK
         }
         Err(refusal) => {
@@ -230,6 +345,20 @@ fn moved_numbers(moved: Moved) -> Told
     ensures { result ≡ three_numbers 0 moved.carried moved.cut 0 }
 {
     three_numbers(0, u64::from(moved.carried), u64::from(moved.cut), 0)
+}
+
+/// What was carried over with soft work in numbers.
+fn moved_with_soft_numbers(moved: MovedWithSoft) -> Told
+    ensures { result
+        ≡ three_numbers moved.soft moved.jobs.carried moved.jobs.cut moved.behind }
+{
+    let jobs = moved.jobs;
+    three_numbers(
+        moved.soft,
+        u64::from(jobs.carried),
+        u64::from(jobs.cut),
+        u64::from(moved.behind),
+    )
 }
 
 /// A refusal in numbers.

@@ -14,7 +14,9 @@ pub mod status;
 mod versions;
 
 pub use arrivals::{done, firm, soft, sporadic, withdraw};
-pub use changes::{DROP, GRAPHS, JobNumbers, STARTED, carry, change, job};
+pub use changes::{
+    DROP, GRAPHS, JobNumbers, STARTED, carry, carry_with_soft, change, change_with_soft, job,
+};
 pub use keys::{key_text, sporadic_index};
 pub use numbers::{KeyNumbers, SpanNumbers, Told};
 pub use opening::open;
