@@ -1,9 +1,9 @@
 -- The text of a supply is read line by line.
-use Rattle.std.proofs.Common.{◌≡◌, ◌≢◌, ℕ, ◌+◌, ◌-◌, ◌≤◌, ◌<◌, Bool, true, false, ◌&&◌, nat_lt, List, [], ◌∷◌, ◌++◌, length, Option, Some, None, refl, sym, ap, subst, ◌∙◌, inl, inr, arith, append_assoc}
-use Rattle.std.specs.Prelude.{All, codes, decimal, flat_map, nat_le, if◌then◌else◌}
+use Rattle.std.proofs.Common.{◌≡◌, ◌≢◌, ℕ, ◌+◌, ◌-◌, ◌≤◌, true, ◌&&◌, nat_lt, List, [], ◌∷◌, ◌++◌, length, Some, None, refl, sym, ap, subst, ◌∙◌, inl, inr, arith, append_assoc}
+use Rattle.std.specs.Prelude.{All, codes, decimal, nat_le}
 use Rattle.std.specs.List.{AllByRecursion}
 use Rattle.std.specs.Str.{bytes_eq}
-use Rattle.std.proofs.lemmas.Bool.{and_parts, cases_Bool}
+use Rattle.std.proofs.lemmas.Bool.{cases_Bool}
 use Rattle.std.proofs.lemmas.Bool.Decides.{nat_tests}
 use Rattle.std.proofs.lemmas.Grind.{flat_map-append}
 use Rattle.std.proofs.lemmas.List.Elements.{All-from_recursion}
@@ -14,7 +14,7 @@ use Rattle.key_texts.specs.Numbers.{number_of}
 use Rattle.key_texts.proofs.CutLemmas.{Lacks, cut_at-Some, cut_at-append}
 use Rattle.key_texts.proofs.DigitLemmas.{decimal-number_of, number_of-decimal}
 use Rattle.key_texts.proofs.KeyLemmas.{Lacks-append, digits_lack, step}
-use Rattle.key_texts.proofs.NameLemmas.{bytes_eq-same, same-from_bytes_eq}
+use Rattle.key_texts.proofs.NameLemmas.{same-from_bytes_eq}
 use Rattle.key_texts.proofs.PlaceLemmas.{Some_same}
 use Rattle.supply_lines.specs.Lines.{line_of}
 use Rattle.view_stairs.specs.declared.lines.Step.{Step}

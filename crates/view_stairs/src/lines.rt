@@ -95,7 +95,11 @@ fn next_step(last: Step, bytes: &[u8]) -> Option<Step>
     ensures { result ≡ next_step last bytes.now }
 {
     let step = step_of(bytes)?;
-    if follows(last, step) { Some(step) } else { None }
+    if follows(last, step) {
+        Some(step)
+    } else {
+        None
+    }
 }
 
 /// Whether a line may stand after another.

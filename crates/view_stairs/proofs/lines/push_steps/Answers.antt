@@ -1,10 +1,10 @@
 -- One line more, or the fault of the next one.
-use Rattle.std.proofs.Common.{rules, ◌≡◌, ◌≢◌, ◌+◌, ◌<◌, ℕ, [], ◌∷◌, ◌++◌, Some, None, Err, sym, ap, subst, ◌∙◌, arith, length}
+use Rattle.std.proofs.Common.{rules, ◌≡◌, ◌≢◌, ◌+◌, [], Some, None, Err, sym, subst, arith, length}
 use Rattle.std.proofs.lemmas.Grind.{common_steps}
 use Rattle.key_texts.specs.KeyTexts.{cut_at}
 use Rattle.view_stairs.specs.declared.fault.StairsFault.TheVariants.{NoLine}
-use Rattle.view_stairs.specs.Steps.{Breaks, IsRead}
-use Rattle.view_stairs.proofs.StepReads.{Breaks-line, Breaks-none, Breaks-unended, IsRead-more}
+use Rattle.view_stairs.specs.Steps.{IsRead}
+use Rattle.view_stairs.proofs.StepReads.{Breaks-line, Breaks-unended, IsRead-more}
 use Rattle.view_stairs.proofs.lines.push_steps.Goals as goal
 
 pub returns-in_default-clause-fault : goal.returns-in_default-clause-fault
