@@ -74,7 +74,12 @@ fn draw_page(drawing: &mut Drawing, scale: &Scale) -> Result<(), Memory>
     };
     drawing.rect("page", frame, b"")?;
     drawing.label("what", 8, TOP - 20, b"slots that are always accepted")?;
-    drawing.label("what", LEFT, scale.bottom() + MARGIN - 8, b"slots up to the deadline")
+    drawing.label(
+        "what",
+        LEFT,
+        scale.bottom() + MARGIN - 8,
+        b"slots up to the deadline",
+    )
 }
 
 /// Draws a number below each tick of the slots.

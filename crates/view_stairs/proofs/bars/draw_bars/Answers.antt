@@ -1,5 +1,5 @@
 -- One bar more.
-use Rattle.std.proofs.Common.{ℕ, ◌+◌, ◌≤◌, ◌++◌, map, ap, ◌∙◌, arith}
+use Rattle.std.proofs.Common.{ℕ, ◌++◌, map, ap, ◌∙◌, arith}
 use Rattle.supply_lines.specs.Lines.{read_at}
 use Rattle.view_stairs.specs.Bars.{bar_text}
 use Rattle.view_stairs.specs.Steps.{pair_of}
@@ -15,8 +15,7 @@ draw_bar-requires-clause-few c = (
 pub loop-within-preserved : goal.loop-within-preserved
 loop-within-preserved c =
     let bar = λ (n : ℕ). bar_text c.args.scale.now n (read_at (map pair_of c.args.steps.now) n) in
-    let one = c.in_ok-draw_bar.ensures ∙ ap (λ s. c.loop-within.drawing ++ bar_text c.args.scale.now c.loop-within.within s) c.slots_within.ensures in
-    (
+    let one = c.in_ok-draw_bar.ensures ∙ ap (λ s. c.loop-within.drawing ++ bar_text c.args.scale.now c.loop-within.within s) c.slots_within.ensures in (
       omega arith,
       omega (arith, c.loop-within-test.true),
       bars-more bar c.args.drawing.now c.loop-within.drawing c.draw_bar.new.drawing c.loop-within.within c.loop-within.invariant.0 c.loop-within.invariant.2 one,

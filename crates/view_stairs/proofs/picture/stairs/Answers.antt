@@ -1,9 +1,9 @@
 -- The bars stand in front of what was drawn before.
-use Rattle.std.proofs.Common.{◌≡◌, ◌++◌, map, ap, ◌∙◌}
+use Rattle.std.proofs.Common.{◌≡◌, ap, ◌∙◌}
 use Rattle.std.proofs.lemmas.Result.{IfOk-weaker}
 use Rattle.svg_text.specs.Shapes.{document_text}
 use Rattle.view_stairs.specs.declared.style.TheConstants.{STYLE}
-use Rattle.view_stairs.specs.Bars.{bars_text, height_of, width_of, ShowsStairs}
+use Rattle.view_stairs.specs.Bars.{height_of, width_of, ShowsStairs}
 use Rattle.view_stairs.proofs.Curves.{read-most}
 use Rattle.view_stairs.proofs.picture.stairs.Goals as goal
 
