@@ -13,12 +13,12 @@
  * counts. It is tested over random sets and not proved; slotexec_arena_most returns how many are
  * really used. */
 #define SLOTEXEC_ARENA_FOR(cycle, jobs, spans, soft, tasks) \
-    (24576u + 372u * (cycle) + 320u * (jobs) + 128u * (spans) + 12u * (soft) + 512u * (tasks))
+    (24640u + 412u * (cycle) + 320u * (jobs) + 128u * (spans) + 12u * (soft) + 512u * (tasks))
 
 /* How many bytes of the array were ever in use at one time, with what lay free between them. An
  * array of that size serves for the same tables: open each once on a bench, as
  * tests/arena_fit.c does, and take the most. With a smaller one ss_open answers SS_MEMORY. The
- * flight controller of examples/ needs 44,864 bytes, and the engine 1,899,872. */
+ * flight controller of examples/ needs 46,512 bytes, and the engine 2,059,888. */
 size_t slotexec_arena_most(void);
 
 #endif

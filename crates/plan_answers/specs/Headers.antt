@@ -59,7 +59,7 @@ parts_in set =
 -- the bytes of an arena for a plan, as library/arena.h counts them by its numbers
 abbrev pub arena_bytes : PlanParts → ℕ
 arena_bytes plan =
-    24576 + 372 * plan.cycle + 320 * length plan.jobs + 128 * length plan.spans
+    24640 + 412 * plan.cycle + 320 * length plan.jobs + 128 * length plan.spans
     + 12 * plan.tasks.soft_limit
     + 512 * parts_in plan.tasks
 

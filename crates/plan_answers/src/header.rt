@@ -76,8 +76,8 @@ fn arena_bytes(plan: &Plan) -> u64
     ensures { result ≡ arena_bytes plan.now }
 {
     let tasks = plan.tasks();
-    24_576
-        + 372 * u64::from(plan.cycle())
+    24_640
+        + 412 * u64::from(plan.cycle())
         + 320 * plan.jobs().len() as u64
         + 128 * plan.spans().len() as u64
         + 12 * u64::from(tasks.soft_limit)
