@@ -23,7 +23,7 @@ use std::sync::ledger::Ledger;
 
 /// So many rises of the sporadic demand in a span are tried one by one before its later times are
 /// looked at.
-const FEW_RISES: u64 = 4;
+const FEW_RISES: u64 = 2;
 
 /// A look from the end of a span goes on while it passes at least one of so many parts of what is
 /// left of it.

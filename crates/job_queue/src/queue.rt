@@ -218,11 +218,11 @@ impl JobQueue {
         Some(*self.job(place))
     }
 
-    /// The first start after `now` and before `until` of the jobs that earliest deadline first takes
-    /// before this one, or of all jobs where none is given. None exactly where no such job starts
-    /// between. One step a job looked at: those beside, those that have come up to the first that
-    /// does not go before that one, and the listed ones up to the first that is such a job or starts
-    /// at `until` or later.
+    /// The first start after `now` and before `until` of the jobs that go before this one by
+    /// earliest deadline first, or of all jobs where none is given. None exactly where no such job
+    /// starts between. One step a job looked at: those beside, those that have come up to the first
+    /// that does not go before that one, and the listed ones up to the first that is such a job or
+    /// starts at `until` or later.
     pub fn next_start<L: Ledger>(
         &self,
         now: u64,
@@ -731,8 +731,8 @@ fn earliest_listed<'a, L: Ledger>(
     best
 }
 
-/// The first of this start and those after `now` and before `until` of these jobs that go before the
-/// other one. One step a job.
+/// The first of this start and those after `now` and before `until` of these jobs that go before
+/// the other one. One step a job.
 fn first_start<L: Ledger>(
     start: Option<u64>,
     jobs: &[Job],
@@ -742,7 +742,10 @@ fn first_start<L: Ledger>(
     steps: &mut Steps<L>,
 ) -> Option<u64>
     ensures start { result
-        ≡ fold sooner start (filter (starts_within now until (option_copied other.entry)) jobs.now) }
+        ≡ fold
+        sooner
+        start
+        (filter (starts_within now until (option_copied other.entry)) jobs.now) }
     ensures steps { steps.new ≡ steps.old + length jobs.now }
 {
     let mut first = start;
