@@ -94,10 +94,10 @@ _slotunits() {
     COMPREPLY=()
     case ${COMP_WORDS[1]}:$COMP_CWORD in
     *:1)
-        local questions='tasks check arrivals'
+        local questions='tasks check arrivals trace'
         COMPREPLY=($(compgen -W "$questions --help --version" -- "$current"))
         ;;
-    tasks:2 | check:2 | arrivals:2) _slotshift_files toml "$current" ;;
+    tasks:2 | check:2 | arrivals:2 | trace:2) _slotshift_files toml "$current" ;;
     arrivals:3) _slotshift_files csv "$current" ;;
     esac
 }

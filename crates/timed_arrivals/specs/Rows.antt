@@ -1,6 +1,5 @@
 -- A row of arrivals with times, and the row of an arrivals file that stands for it.
-use Rattle.std.specs.Prelude.{ℕ, ◌+◌, ◌-◌, List, [], ◌∷◌, ◌++◌, codes, decimal, nat_lt, if◌then◌else◌, Result, Ok, Err, ok_or}
-use Rattle.slot_core.specs.declared.TheConstants.{ARRIVAL_LIMIT}
+use Rattle.std.specs.Prelude.{ℕ, ◌+◌, ◌-◌, List, [], ◌∷◌, ◌++◌, codes, decimal, Result, Ok, Err, ok_or}
 use Rattle.slot_core.specs.Calls.Results.{◌>>=◌}
 use Rattle.key_texts.specs.KeyTexts.{cut_at}
 use Rattle.time_texts.specs.Reading.{time_of_text}
@@ -9,7 +8,7 @@ use Rattle.arrival_csv.specs.declared.kinds.Kind.{Kind}
 use Rattle.arrival_csv.specs.declared.kinds.Kind.TheVariants.{Soft, Firm, Sporadic, Done, Withdraw}
 use Rattle.arrival_csv.specs.Kinds.{kind_of, kind_word}
 use Rattle.timed_arrivals.specs.declared.faults.TimedFault.{TimedFault}
-use Rattle.timed_arrivals.specs.declared.faults.TimedFault.TheVariants.{BadRow, BadTime, UnknownKind, TooMany}
+use Rattle.timed_arrivals.specs.declared.faults.TimedFault.TheVariants.{BadRow, BadTime, UnknownKind}
 use Rattle.timed_arrivals.specs.declared.row.SlotEvent.{SlotEvent}
 use Rattle.timed_arrivals.specs.declared.row.SlotEvent.TheVariants.{Slots, Offer, Copied}
 
@@ -79,8 +78,3 @@ row_in_slots slot worth row line = do
   head ← head_of row line
   event ← event_of slot worth row head.at head.kind head.fields
   Ok (row_text (up slot head.at) head.kind event head.fields)
-
--- the same, where there may be so many rows
-abbrev pub timed_row : ℕ → ℕ → ℕ → List ℕ → Timed (List ℕ)
-timed_row slot worth row line =
-    if nat_lt ARRIVAL_LIMIT row then Err TooMany else row_in_slots slot worth row line

@@ -1,4 +1,4 @@
-//! Why arrivals with times are refused.
+//! Why arrivals with times, or a trace, are refused.
 
 ghost use Rattle.std.specs.Prelude.{◌≡◌};
 ghost use Rattle.timed_arrivals.specs.declared.faults.TimedFault.TheVariants.{Memory as MemoryFault};
@@ -7,7 +7,7 @@ use slot_core::Memory;
 use std::error::Error;
 use std::fmt;
 
-/// Why arrivals with times are refused. Rows count from 1, fields too.
+/// Why arrivals with times, or a trace, are refused. Rows and lines count from 1, fields too.
 #[derive(Clone, Copy, PartialEq, Eq)]
 pub enum TimedFault {
     /// Memory ran out.
@@ -20,6 +20,10 @@ pub enum TimedFault {
     UnknownKind(u32),
     /// There are too many rows.
     TooMany,
+    /// A line of a trace begins with no number and a space.
+    NoLine(u32),
+    /// The time of a line is past the times that texts write.
+    TooLate(u32),
 }
 
 impl fmt::Display for TimedFault {
@@ -35,6 +39,8 @@ impl fmt::Display for TimedFault {
             TimedFault::BadTime(row, field) => write!(f, "bad time {row} {field}"),
             TimedFault::UnknownKind(row) => write!(f, "unknown kind {row}"),
             TimedFault::TooMany => write!(f, "too many"),
+            TimedFault::NoLine(line) => write!(f, "no line {line}"),
+            TimedFault::TooLate(line) => write!(f, "too late {line}"),
         }
     }
 }

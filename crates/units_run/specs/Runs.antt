@@ -1,7 +1,7 @@
 -- What slotunits writes, and why a run is refused.
 use Rattle.std.specs.Prelude.{◌≡◌, ◌⊎◌, ℕ, ◌<◌, true, ⊤, List, length, Option, Some, IfSome, Ok, Err}
 use Rattle.std.specs.Io.KnownBytes.{Appends}
-use Rattle.slot_core.specs.declared.TheConstants.{ARRIVALS_FILE_LIMIT, TASK_FILE_LIMIT}
+use Rattle.slot_core.specs.declared.TheConstants.{ARRIVALS_FILE_LIMIT, READ_LIMIT, TASK_FILE_LIMIT}
 use Rattle.slot_core.specs.declared.tasks.TaskSet.{TaskSet}
 use Rattle.slot_core.specs.Calls.Counts.{Rose}
 use Rattle.slot_core.specs.Sets.Faults.{set_fault}
@@ -13,23 +13,31 @@ use Rattle.clock_units.specs.declared.sets.PhysicalSet.{PhysicalSet}
 use Rattle.clock_units.specs.Derived.{derived_set}
 use Rattle.unit_toml.specs.Reading.{reading_of_units}
 use Rattle.slot_lengths.specs.Lines.{IsLengthsText}
-use Rattle.timed_arrivals.specs.Texts.{arrivals_text}
+use Rattle.timed_arrivals.specs.declared.form.Form.{Form}
+use Rattle.timed_arrivals.specs.declared.form.Form.TheVariants.{Arrivals, Trace}
+use Rattle.timed_arrivals.specs.Texts.{timed_text}
 use Rattle.units_run.specs.declared.questions.Question.{Question}
-use Rattle.units_run.specs.declared.questions.Question.TheVariants.{Tasks, Check, Arrivals}
+use Rattle.units_run.specs.declared.questions.Question.TheVariants.{Tasks, Check, Arrivals as ArrivalsAsked, Trace as TraceAsked}
 use Rattle.units_run.specs.declared.refusal.UnitsRefusal.{UnitsRefusal}
-use Rattle.units_run.specs.declared.refusal.UnitsRefusal.TheVariants.{Unreadable, TooLarge, UnreadableArrivals, TooLargeArrivals, BadArrivals, BadUnits, NoSlots, BadTasks, ReadsOtherwise, WriteFault, Memory}
+use Rattle.units_run.specs.declared.refusal.UnitsRefusal.TheVariants.{Unreadable, TooLarge, UnreadableRows, TooLargeRows, BadRows, BadUnits, NoSlots, BadTasks, ReadsOtherwise, WriteFault, Memory}
 
 -- the bytes are the first ones of the file, up to a limit, where contracts see what the files hold
 abbrev pub IsReadTo : ℕ → Option Held → List ℕ → List ℕ → Type 0
 IsReadTo limit held name bytes =
     IfSome held (λ files. first_bytes files name limit ≡ Some bytes)
 
--- the same of a file of units, and of one of arrivals
+-- the same of a file of units
 abbrev pub IsRead : Option Held → List ℕ → List ℕ → Type 0
 IsRead = IsReadTo TASK_FILE_LIMIT
 
-abbrev pub AreRows : Option Held → List ℕ → List ℕ → Type 0
-AreRows = IsReadTo ARRIVALS_FILE_LIMIT
+-- most bytes of arrivals with times, and of a trace
+abbrev pub rows_limit : Form → ℕ
+rows_limit Arrivals = ARRIVALS_FILE_LIMIT
+rows_limit Trace = READ_LIMIT
+
+-- the same of arrivals with times, or of a trace
+abbrev pub AreRows : Form → Option Held → List ℕ → List ℕ → Type 0
+AreRows form = IsReadTo (rows_limit form)
 
 -- the text is a task file of the set in slots of the set in physical time that the bytes write
 pub record IsText (bytes text : List ℕ) : Type 0 where
@@ -47,22 +55,25 @@ pub record AreLengths (from to : ℕ) (bytes text : List ℕ) : Type 0 where
   pub units : reading_of_units bytes ≡ Ok physical
   pub lengths : IsLengthsText from to physical text
 
--- the text is the arrivals file of the rows with times that the file of this name holds, for the set
--- in physical time that the bytes write, which has a set in slots
-pub record AreArrivals (held : Option Held) (name : List ℕ) (bytes text : List ℕ) : Type 0 where
+-- the text is the arrivals file of the rows with times that the file of this name holds, or the trace
+-- with times of the trace, for the set in physical time that the bytes write, which has a set in
+-- slots
+pub record AreTimed
+    (form : Form) (held : Option Held) (name bytes text : List ℕ) : Type 0 where
   pub physical : PhysicalSet
   pub set : TaskSet
   pub rows : List ℕ
   pub units : reading_of_units bytes ≡ Ok physical
   pub slots : derived_set physical ≡ Ok set
-  pub read : AreRows held name rows
-  pub arrivals : arrivals_text physical rows ≡ Ok text
+  pub read : AreRows form held name rows
+  pub timed : timed_text form physical rows ≡ Ok text
 
 -- the text answers the question of the bytes, where the other file has this name
 abbrev pub IsAnswer : Question → Option Held → List ℕ → List ℕ → List ℕ → Type 0
 IsAnswer Tasks held other bytes text = IsText bytes text
 IsAnswer (Check from to) held other bytes text = AreLengths from to bytes text
-IsAnswer Arrivals held other bytes text = AreArrivals held other bytes text
+IsAnswer ArrivalsAsked held other bytes text = AreTimed Arrivals held other bytes text
+IsAnswer TraceAsked held other bytes text = AreTimed Trace held other bytes text
 
 -- the text answers the question of the file of this name
 pub record IsDue
@@ -124,48 +135,55 @@ IsSlotsRefusal physical (NoSlots fault) = derived_set physical ≡ Err fault
 IsSlotsRefusal physical Memory = ⊤
 IsSlotsRefusal physical _ = ⊥
 
--- why a file of arrivals is not read
-abbrev pub IsRowsRefusal : Option Held → List ℕ → Option (List ℕ) → ℕ → ℕ → UnitsRefusal → Type 0
-IsRowsRefusal held name blamed before after UnreadableArrivals =
+-- why a file of arrivals, or a trace, is not read
+abbrev pub IsRowsRefusal :
+    Form → Option Held → List ℕ → Option (List ℕ) → ℕ → ℕ → UnitsRefusal → Type 0
+IsRowsRefusal form held name blamed before after UnreadableRows =
     (blamed ≡ Some name) × Rose before after
-IsRowsRefusal held name blamed before after TooLargeArrivals =
-    (rows : List ℕ) × AreRows held name rows × (ARRIVALS_FILE_LIMIT < length rows)
-IsRowsRefusal held name blamed before after Memory = ⊤
-IsRowsRefusal held name blamed before after _ = ⊥
+IsRowsRefusal form held name blamed before after (TooLargeRows told) =
+    (told ≡ form)
+    × ((rows : List ℕ) × AreRows form held name rows × (rows_limit form < length rows))
+IsRowsRefusal form held name blamed before after Memory = ⊤
+IsRowsRefusal form held name blamed before after _ = ⊥
 
--- why rows with times are refused
-abbrev pub IsRowRefusal : PhysicalSet → List ℕ → UnitsRefusal → Type 0
-IsRowRefusal physical rows (BadArrivals fault) = arrivals_text physical rows ≡ Err fault
-IsRowRefusal physical rows Memory = ⊤
-IsRowRefusal physical rows _ = ⊥
+-- why its rows or lines are refused
+abbrev pub IsRowRefusal : Form → PhysicalSet → List ℕ → UnitsRefusal → Type 0
+IsRowRefusal form physical rows (BadRows told fault) =
+    (told ≡ form) × (timed_text form physical rows ≡ Err fault)
+IsRowRefusal form physical rows Memory = ⊤
+IsRowRefusal form physical rows _ = ⊥
 
--- why they have no arrivals with the other file, over its name, its blame and the counts of faults:
--- they write no set in physical time, that has no set in slots, the other file is not read, or a row
--- of it has a fault
-abbrev pub IsArrivalsRefusal :
-    Option Held → List ℕ → List ℕ → Option (List ℕ) → ℕ × ℕ → UnitsRefusal → Type 0
-IsArrivalsRefusal held other bytes blamed of_files (BadUnits fault) =
+-- why they have no rows with the other file, over its name, its blame and the counts of faults: they
+-- write no set in physical time, that has no set in slots, the other file is not read, or a row or a
+-- line of it has a fault
+abbrev pub IsTimedRefusal :
+    Form → Option Held → List ℕ → List ℕ → Option (List ℕ) → ℕ × ℕ → UnitsRefusal → Type 0
+IsTimedRefusal form held other bytes blamed of_files (BadUnits fault) =
     reading_of_units bytes ≡ Err fault
-IsArrivalsRefusal held other bytes blamed of_files (NoSlots fault) =
+IsTimedRefusal form held other bytes blamed of_files (NoSlots fault) =
     (physical : PhysicalSet) × (reading_of_units bytes ≡ Ok physical)
     × (derived_set physical ≡ Err fault)
-IsArrivalsRefusal held other bytes blamed of_files UnreadableArrivals =
+IsTimedRefusal form held other bytes blamed of_files UnreadableRows =
     (blamed ≡ Some other) × Rose of_files.0 of_files.1
-IsArrivalsRefusal held other bytes blamed of_files TooLargeArrivals =
-    (rows : List ℕ) × AreRows held other rows × (ARRIVALS_FILE_LIMIT < length rows)
-IsArrivalsRefusal held other bytes blamed of_files (BadArrivals fault) =
+IsTimedRefusal form held other bytes blamed of_files (TooLargeRows told) =
+    (told ≡ form)
+    × ((rows : List ℕ) × AreRows form held other rows × (rows_limit form < length rows))
+IsTimedRefusal form held other bytes blamed of_files (BadRows told fault) =
     (physical : PhysicalSet) × (reading_of_units bytes ≡ Ok physical)
-    × ((rows : List ℕ) × AreRows held other rows × (arrivals_text physical rows ≡ Err fault))
-IsArrivalsRefusal held other bytes blamed of_files Memory = ⊤
-IsArrivalsRefusal held other bytes blamed of_files _ = ⊥
+    × ((rows : List ℕ) × AreRows form held other rows
+    × IsRowRefusal form physical rows (BadRows told fault))
+IsTimedRefusal form held other bytes blamed of_files Memory = ⊤
+IsTimedRefusal form held other bytes blamed of_files _ = ⊥
 
 -- why they have no answer to the question
 abbrev pub IsAnswerRefusal :
     Question → Option Held → List ℕ → List ℕ → Option (List ℕ) → ℕ × ℕ → UnitsRefusal → Type 0
 IsAnswerRefusal Tasks held other bytes blamed of_files e = IsTextRefusal bytes e
 IsAnswerRefusal (Check from to) held other bytes blamed of_files e = IsReadingRefusal bytes e
-IsAnswerRefusal Arrivals held other bytes blamed of_files e =
-    IsArrivalsRefusal held other bytes blamed of_files e
+IsAnswerRefusal ArrivalsAsked held other bytes blamed of_files e =
+    IsTimedRefusal Arrivals held other bytes blamed of_files e
+IsAnswerRefusal TraceAsked held other bytes blamed of_files e =
+    IsTimedRefusal Trace held other bytes blamed of_files e
 
 -- why a file is not read: a fault was counted and its name blamed, or it is too long
 abbrev pub IsFileRefusal : Option Held → List ℕ → Option (List ℕ) → ℕ → ℕ → UnitsRefusal → Type 0
@@ -197,9 +215,10 @@ IsRefused question held name other blamed of_files of_output e =
 abbrev pub refusal_status : UnitsRefusal → Status
 refusal_status Unreadable = Status.FileFault
 refusal_status TooLarge = Status.TooLarge
-refusal_status UnreadableArrivals = Status.FileFault
-refusal_status TooLargeArrivals = Status.TooLarge
-refusal_status (BadArrivals fault) = Status.BadArrivals
+refusal_status UnreadableRows = Status.FileFault
+refusal_status (TooLargeRows form) = Status.TooLarge
+refusal_status (BadRows Arrivals fault) = Status.BadArrivals
+refusal_status (BadRows Trace fault) = Status.NotVerified
 refusal_status (BadUnits fault) = Status.BadTasks
 refusal_status (NoSlots fault) = Status.BadTasks
 refusal_status (BadTasks fault) = Status.BadTasks

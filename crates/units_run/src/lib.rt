@@ -1,5 +1,5 @@
 //! What slotunits does, over any files and sinks: a file of units to a task file in slots, or to the
-//! lengths of a slot that suit it, and arrivals with times to an arrivals file.
+//! lengths of a slot that suit it, arrivals with times to an arrivals file, and a trace to times.
 #![tactic(auto)]
 
 ghost use Rattle.std.specs.Prelude.{◌≡◌, ◌≢◌, ◌↔◌, ◌⊎◌, None, Some, codes};
@@ -8,7 +8,7 @@ ghost use Rattle.command_line.specs.Refusals.{word_at};
 ghost use Rattle.command_line.specs.Reports.{IsTold};
 ghost use Rattle.command_line.specs.declared.pages.Page.{Page};
 ghost use Rattle.units_run.specs.Lines.{refusal_line, units_help, units_usage};
-ghost use Rattle.units_run.specs.Questions.{question_of};
+ghost use Rattle.units_run.specs.Questions.{other_of, question_of};
 ghost use Rattle.units_run.specs.Runs.{IsRefused, IsWritten, refusal_status};
 ghost use Rattle.units_run.specs.declared.questions.Question.{Question};
 ghost use Rattle.units_run.specs.declared.refusal.UnitsRefusal.{UnitsRefusal};
@@ -31,11 +31,12 @@ use std::alloc::Global;
 use work::work;
 
 /// The usage line.
-const USAGE: &[u8] = b"usage: slotunits tasks U | check U [FROM TO] | arrivals U A\n";
+const USAGE: &[u8] = b"usage: slotunits tasks U | check U [FROM TO] | arrivals U A | trace U\n";
 
 /// Does what the words ask for: tells the help or the version; or reads the file of units, and
 /// writes the answer in one put: the task file of its set in slots, a line for each length of a
-/// slot, or the arrivals file of a file of arrivals with times. It puts one line on `err` where it ends otherwise than Done.
+/// slot, the arrivals file of a file of arrivals with times, or the trace with times of a trace. It
+/// puts one line on `err` where it ends otherwise than Done.
 pub fn run<F: Files, K: Sink, E: Sink>(
     alloc: Global,
     words: &Words,
@@ -52,10 +53,11 @@ pub fn run<F: Files, K: Sink, E: Sink>(
 
     // For other words, where it is done, the file writes a set in physical time. For a task file
     // its set in slots is sound, and what was written is read as that set; for the lengths of a
-    // slot what was written are their lines; and for arrivals with times it is their rows in slots.
+    // slot what was written are their lines; and for arrivals with times and for a trace
+    // it is what stands for their rows and lines.
     ensures done { page_of words.now ≡ None → result ≡ Status.Done
         → (question : Question) × (question_of words.now ≡ Some question)
-        × IsWritten question (F.held files.old) (word_at words.now 1) (word_at words.now 2)
+        × IsWritten question (F.held files.old) (word_at words.now 1) (other_of words.now)
         (K.written out.old) (K.written out.new) }
     ensures done_says_nothing { result ≡ Status.Done → err.new ≡ err.old }
 
@@ -63,9 +65,9 @@ pub fn run<F: Files, K: Sink, E: Sink>(
     ensures refused { page_of words.now ≡ None → result ≢ Status.Done → result ≢ Status.Usage
         → (question : Question) × (question_of words.now ≡ Some question)
         × ((e : UnitsRefusal) × (result ≡ refusal_status e)
-        × IsRefused question (F.held files.old) (word_at words.now 1) (word_at words.now 2)
+        × IsRefused question (F.held files.old) (word_at words.now 1) (other_of words.now)
         (F.blamed files.new) (F.faults files.old, F.faults files.new) (K.faults out.old, K.faults out.new) e
-        × IsTold (refusal_line (word_at words.now 1) (word_at words.now 2) e)
+        × IsTold (refusal_line (word_at words.now 1) (other_of words.now) e)
         (E.written err.old) (E.written err.new) (E.faults err.old) (E.faults err.new)) }
     ensures refusal_writes_nothing { result ≢ Status.Done → result ≢ Status.WriteFault
         → out.new ≡ out.old }
@@ -87,15 +89,15 @@ fn run_file_of<F: Files, K: Sink, E: Sink>(
     ensures usage { (result ≡ Status.Usage) ↔ (question_of words.now ≡ None) }
     ensures done { result ≡ Status.Done
         → (question : Question) × (question_of words.now ≡ Some question)
-        × IsWritten question (F.held files.old) (word_at words.now 1) (word_at words.now 2)
+        × IsWritten question (F.held files.old) (word_at words.now 1) (other_of words.now)
         (K.written out.old) (K.written out.new) }
     ensures done_says_nothing { result ≡ Status.Done → err.new ≡ err.old }
     ensures refused { result ≢ Status.Done → result ≢ Status.Usage
         → (question : Question) × (question_of words.now ≡ Some question)
         × ((e : UnitsRefusal) × (result ≡ refusal_status e)
-        × IsRefused question (F.held files.old) (word_at words.now 1) (word_at words.now 2)
+        × IsRefused question (F.held files.old) (word_at words.now 1) (other_of words.now)
         (F.blamed files.new) (F.faults files.old, F.faults files.new) (K.faults out.old, K.faults out.new) e
-        × IsTold (refusal_line (word_at words.now 1) (word_at words.now 2) e)
+        × IsTold (refusal_line (word_at words.now 1) (other_of words.now) e)
         (E.written err.old) (E.written err.new) (E.faults err.old) (E.faults err.new)) }
     ensures refusal_writes_nothing { result ≢ Status.Done → result ≢ Status.WriteFault
         → out.new ≡ out.old }
@@ -121,11 +123,15 @@ fn name_of(words: &Words) -> &str
     if words.len() > 1 { words.word(1) } else { "" }
 }
 
-/// The name of the other file.
+/// The name of the other file, or of standard input.
 fn other_of(words: &Words) -> &str
-    ensures { result.now ≡ word_at words.now 2 }
+    ensures { result.now ≡ other_of words.now }
 {
-    if words.len() > 2 { words.word(2) } else { "" }
+    if words.len() > 2 {
+        words.word(2)
+    } else {
+        "/dev/stdin"
+    }
 }
 
 /// Answers the question of the files of these names.

@@ -22,7 +22,7 @@ pub(crate) fn tell_units_page<K: Sink, E: Sink>(page: Page, out: &mut K, err: &m
 fn help() -> &'static [u8]
     ensures { result.now ≡ units_help }
 {
-    b"usage: slotunits tasks U | check U [FROM TO] | arrivals U A
+    b"usage: slotunits tasks U | check U [FROM TO] | arrivals U A | trace U
        slotunits --help
        slotunits --version
 
@@ -36,6 +36,7 @@ words:
              periods: first those with which U fits, the least load first
   arrivals U A
              the arrivals file in slots that stands for A
+  trace U    a trace from standard input, with times in front of its lines
 
   U          a file of units (TOML), at most 1048576 bytes
   FROM, TO   times, as 100us and 1ms
@@ -44,11 +45,12 @@ words:
 statuses:
   0   done
   1   the words are none of these forms
-  2   a file cannot be read
+  2   a file or standard input cannot be read
   3   a file has too many bytes
   4   U has a fault; of tasks, its set in slots has
   6   A has a fault
   7   standard output takes no more
   8   memory ran out
+  10  a line of standard input has a fault
 "
 }

@@ -15,6 +15,8 @@ pub enum Question {
     Check(u64, u64),
     /// The arrivals file of a file of arrivals with times.
     Arrivals,
+    /// The trace with times of a trace on standard input.
+    Trace,
 }
 
 /// The question that the words ask, or None where they ask none.
@@ -40,6 +42,7 @@ fn plain_question(word: &str) -> Option<Question>
     match word {
         "tasks" => Some(Question::Tasks),
         "check" => Some(Question::Check(0, u64::MAX)),
+        "trace" => Some(Question::Trace),
         _ => None,
     }
 }

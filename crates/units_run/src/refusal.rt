@@ -9,12 +9,13 @@ ghost use Rattle.unit_toml.specs.FaultTexts.{units_fault_text};
 ghost use Rattle.units_run.specs.Lines.{reason_of, refusal_line};
 ghost use Rattle.units_run.specs.Runs.{refusal_status};
 
+use crate::work::rows_limit;
 use clock_units::UnitFault;
 use command_line::Status;
 use command_line::append::{push, push_worded};
-use slot_core::{ARRIVALS_FILE_LIMIT, Memory, TASK_FILE_LIMIT, TaskFault};
+use slot_core::{Memory, TASK_FILE_LIMIT, TaskFault};
 use std::alloc::Global;
-use timed_arrivals::TimedFault;
+use timed_arrivals::{Form, TimedFault};
 use unit_toml::UnitsFault;
 
 /// Why a run is not done.
@@ -32,12 +33,12 @@ pub enum UnitsRefusal {
     BadTasks(TaskFault),
     /// The text that was made is read as another set.
     ReadsOtherwise,
-    /// The file of arrivals cannot be read.
-    UnreadableArrivals,
-    /// The file of arrivals has more bytes than its limit.
-    TooLargeArrivals,
-    /// A row of arrivals with times has a fault.
-    BadArrivals(TimedFault),
+    /// The file of arrivals, or the trace, cannot be read.
+    UnreadableRows,
+    /// It has more bytes than its limit.
+    TooLargeRows(Form),
+    /// A row or a line of it has a fault.
+    BadRows(Form, TimedFault),
     /// The output takes no more.
     WriteFault,
     /// Memory ran out.
@@ -50,9 +51,10 @@ impl UnitsRefusal {
         ensures { result ≡ refusal_status self }
     {
         match self {
-            UnitsRefusal::Unreadable | UnitsRefusal::UnreadableArrivals => Status::FileFault,
-            UnitsRefusal::TooLarge | UnitsRefusal::TooLargeArrivals => Status::TooLarge,
-            UnitsRefusal::BadArrivals(_) => Status::BadArrivals,
+            UnitsRefusal::Unreadable | UnitsRefusal::UnreadableRows => Status::FileFault,
+            UnitsRefusal::TooLarge | UnitsRefusal::TooLargeRows(_) => Status::TooLarge,
+            UnitsRefusal::BadRows(Form::Arrivals, _) => Status::BadArrivals,
+            UnitsRefusal::BadRows(Form::Trace, _) => Status::NotVerified,
             UnitsRefusal::BadUnits(_)
             | UnitsRefusal::NoSlots(_)
             | UnitsRefusal::BadTasks(_)
@@ -92,9 +94,10 @@ fn push_reason(
     match refusal {
         UnitsRefusal::Unreadable => push_unreadable(line, name),
         UnitsRefusal::TooLarge => push_too_large(line, name, TASK_FILE_LIMIT),
-        UnitsRefusal::UnreadableArrivals => push_unreadable(line, other),
-        UnitsRefusal::TooLargeArrivals => push_too_large(line, other, ARRIVALS_FILE_LIMIT),
-        UnitsRefusal::BadArrivals(fault) => push_bad_arrivals(alloc, line, fault),
+        UnitsRefusal::UnreadableRows => push_unreadable(line, other),
+        UnitsRefusal::TooLargeRows(form) => push_too_large(line, other, rows_limit(form)),
+        UnitsRefusal::BadRows(Form::Arrivals, fault) => push_bad_arrivals(alloc, line, fault),
+        UnitsRefusal::BadRows(Form::Trace, fault) => push_bad_trace(alloc, line, fault),
         UnitsRefusal::BadUnits(fault) => push_bad_units(alloc, line, fault),
         UnitsRefusal::NoSlots(fault) => push_no_slots(alloc, line, fault),
         UnitsRefusal::BadTasks(fault) => push_bad_tasks(alloc, line, fault),
@@ -127,6 +130,15 @@ fn push_bad_arrivals(alloc: Global, line: &mut Vec<u8>, fault: TimedFault) -> Re
         (line.new.items ≡ line.old.items ++ (codes "arrivals " ++ timed_fault_text fault)) }
 {
     let words = format!(in alloc; "arrivals {fault}")?;
+    push(line, words.as_bytes())
+}
+
+/// Appends what is wrong with a line of a trace.
+fn push_bad_trace(alloc: Global, line: &mut Vec<u8>, fault: TimedFault) -> Result<(), Memory>
+    ensures { OnOk result
+        (line.new.items ≡ line.old.items ++ (codes "trace " ++ timed_fault_text fault)) }
+{
+    let words = format!(in alloc; "trace {fault}")?;
     push(line, words.as_bytes())
 }
 

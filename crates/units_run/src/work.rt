@@ -1,26 +1,29 @@
 //! The work of a run: what is read, and what is written of it.
 
-ghost use Rattle.std.specs.Prelude.{◌≡◌, ◌≢◌, ◌<◌, true, Ok, Err, IfOk, IfErr, OnOk};
+ghost use Rattle.std.specs.Prelude.{◌≡◌, ◌≢◌, ◌<◌, ◌≤◌, true, Ok, Err, IfOk, IfErr, OnOk};
+ghost use Rattle.slot_core.specs.declared.TheConstants.{READ_LIMIT};
 ghost use Rattle.slot_core.specs.declared.tasks.TaskSet.{TaskSet};
 ghost use Rattle.slot_core.specs.Sets.Ranges.{is_in_range, is_sound};
 ghost use Rattle.clock_units.specs.Derived.{derived_set, is_shaped};
 ghost use Rattle.task_toml.specs.Reading.{reading_of_tasks};
-ghost use Rattle.timed_arrivals.specs.Texts.{arrivals_text};
+ghost use Rattle.timed_arrivals.specs.Texts.{timed_text};
 ghost use Rattle.unit_toml.specs.Reading.{reading_of_units};
-ghost use Rattle.units_run.specs.Runs.{AreArrivals, AreLengths, AreRows, IsAnswer, IsAnswerRefusal, IsArrivalsRefusal, IsDue, IsDueRefusal, IsFileRefusal, IsRowRefusal, IsRowsRefusal, IsSlotsRefusal, IsRead, IsReadingRefusal, IsRefused, IsSetRefusal, IsText, IsTextRefusal, IsUnitsRefusal, IsWritten};
+ghost use Rattle.units_run.specs.Runs.{AreLengths, AreRows, AreTimed, IsAnswer, IsAnswerRefusal, IsTimedRefusal, IsDue, IsDueRefusal, IsFileRefusal, IsRowRefusal, IsRowsRefusal, IsSlotsRefusal, IsRead, IsReadingRefusal, IsRefused, IsSetRefusal, IsText, IsTextRefusal, IsUnitsRefusal, IsWritten, rows_limit};
 ghost use Rattle.units_run.specs.declared.refusal.UnitsRefusal.TheVariants.{WriteFault as WriteRefusal};
 ghost use Rattle.units_run.specs.declared.refusal.UnitsRefusal.{UnitsRefusal};
 
 use crate::questions::Question;
 use crate::refusal::UnitsRefusal;
 use clock_units::{PhysicalSet, UnitFault, slots_of};
-use slot_core::{ARRIVALS_FILE_LIMIT, Failed, Memory, TASK_FILE_LIMIT, TaskFault, TaskSet};
+use slot_core::{
+    ARRIVALS_FILE_LIMIT, Failed, Memory, READ_LIMIT, TASK_FILE_LIMIT, TaskFault, TaskSet,
+};
 use slot_io::{Files, ReadFault, Sink};
 use slot_lengths::lengths_text;
 use source_check::check;
 use std::alloc::Global;
 use task_text::{TextFault, text_of};
-use timed_arrivals::{TimedFault, arrivals_text};
+use timed_arrivals::{Form, TimedFault, timed_text};
 use unit_toml::{UnitsFault, read_units};
 
 /// Reads the file of units of this name, and writes the answer to the question, which may read the
@@ -105,27 +108,30 @@ fn answer_to<F: Files>(
     match question {
         Question::Tasks => text_from(alloc, bytes),
         Question::Check(from, to) => lengths_from(alloc, bytes, from, to),
-        Question::Arrivals => arrivals_from(alloc, bytes, other, files),
+        Question::Arrivals => timed_from(alloc, Form::Arrivals, bytes, other, files),
+        Question::Trace => timed_from(alloc, Form::Trace, bytes, other, files),
     }
 }
 
-/// The arrivals file of the file of arrivals with times of this name.
-fn arrivals_from<F: Files>(
+/// The arrivals file of the file of arrivals with times of this name, or the trace with times of the
+/// trace.
+fn timed_from<F: Files>(
     alloc: Global,
+    form: Form,
     bytes: &[u8],
     other: &str,
     files: &mut F,
 ) -> Result<Vec<u8>, UnitsRefusal>
-    ensures arrivals { IfOk result (λ text.
-        AreArrivals (F.held files.old) other.now bytes.now text.items) }
+    ensures timed { IfOk result (λ text.
+        AreTimed form (F.held files.old) other.now bytes.now text.items) }
     ensures reads_well { OnOk result (F.faults files.new ≡ F.faults files.old) }
-    ensures refused { IfErr result (IsArrivalsRefusal (F.held files.old) other.now bytes.now
+    ensures refused { IfErr result (IsTimedRefusal form (F.held files.old) other.now bytes.now
         (F.blamed files.new) (F.faults files.old, F.faults files.new)) }
 {
     let physical = units_of(alloc, bytes)?;
     check_slots(alloc, &physical)?;
-    let rows = read_rows(alloc, other, files)?;
-    rows_in_slots(alloc, &physical, rows.as_slice())
+    let rows = read_rows(alloc, form, other, files)?;
+    timed_rows(alloc, form, &physical, rows.as_slice())
 }
 
 /// Refuses a set in physical time that has no set in slots.
@@ -141,39 +147,57 @@ fn check_slots(alloc: Global, physical: &PhysicalSet) -> Result<(), UnitsRefusal
     }
 }
 
-/// The bytes of the file of arrivals, where they are within the limit.
-fn read_rows<F: Files>(alloc: Global, name: &str, files: &mut F) -> Result<Vec<u8>, UnitsRefusal>
-    ensures read { IfOk result (λ rows. AreRows (F.held files.old) name.now rows.items) }
-    ensures reads_well { OnOk result (F.faults files.new ≡ F.faults files.old) }
-    ensures refused { IfErr result (IsRowsRefusal (F.held files.old) name.now (F.blamed files.new)
-        (F.faults files.old) (F.faults files.new)) }
+/// Most bytes of arrivals with times, and of a trace.
+pub(crate) fn rows_limit(form: Form) -> usize
+    ensures limit { result ≡ rows_limit form }
+    ensures few { result ≤ READ_LIMIT }
 {
-    match files.read(alloc, name, ARRIVALS_FILE_LIMIT) {
+    match form {
+        Form::Arrivals => ARRIVALS_FILE_LIMIT,
+        Form::Trace => READ_LIMIT,
+    }
+}
+
+/// The bytes of the file of arrivals, or of the trace, where they are within the limit.
+fn read_rows<F: Files>(
+    alloc: Global,
+    form: Form,
+    name: &str,
+    files: &mut F,
+) -> Result<Vec<u8>, UnitsRefusal>
+    ensures read { IfOk result (λ rows. AreRows form (F.held files.old) name.now rows.items) }
+    ensures reads_well { OnOk result (F.faults files.new ≡ F.faults files.old) }
+    ensures refused { IfErr result (IsRowsRefusal form (F.held files.old) name.now
+        (F.blamed files.new) (F.faults files.old) (F.faults files.new)) }
+{
+    let limit = rows_limit(form);
+    match files.read(alloc, name, limit) {
         Ok(rows) => {
-            if rows.len() > ARRIVALS_FILE_LIMIT {
-                return Err(UnitsRefusal::TooLargeArrivals);
+            if rows.len() > limit {
+                return Err(UnitsRefusal::TooLargeRows(form));
             }
             Ok(rows)
         }
         Err(ReadFault::Memory) => Err(UnitsRefusal::Memory),
-        Err(ReadFault::Failed) => Err(UnitsRefusal::UnreadableArrivals),
+        Err(ReadFault::Failed) => Err(UnitsRefusal::UnreadableRows),
     }
 }
 
-/// The arrivals file of these rows with times.
-fn rows_in_slots(
+/// What stands for these rows or lines.
+fn timed_rows(
     alloc: Global,
+    form: Form,
     physical: &PhysicalSet,
     rows: &[u8],
 ) -> Result<Vec<u8>, UnitsRefusal>
     requires { physical.now.overhead < physical.now.slot }
-    ensures text { IfOk result (λ text. arrivals_text physical.now rows.now ≡ Ok text.items) }
-    ensures refused { IfErr result (IsRowRefusal physical.now rows.now) }
+    ensures text { IfOk result (λ text. timed_text form physical.now rows.now ≡ Ok text.items) }
+    ensures refused { IfErr result (IsRowRefusal form physical.now rows.now) }
 {
-    match arrivals_text(alloc, physical, rows) {
+    match timed_text(alloc, form, physical, rows) {
         Ok(text) => Ok(text),
         Err(TimedFault::Memory) => Err(UnitsRefusal::Memory),
-        Err(fault) => Err(UnitsRefusal::BadArrivals(fault)),
+        Err(fault) => Err(UnitsRefusal::BadRows(form, fault)),
     }
 }
 
