@@ -233,4 +233,5 @@ def main():
     print(f"modes.c: {counts['mode']} changes of mode and {counts['refused']} refused, as the model")
 
 
-main()
+if __name__ == "__main__":
+    main()
