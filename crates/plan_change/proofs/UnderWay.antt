@@ -1,10 +1,9 @@
 -- An offer that has no room after others: all of them cannot be served, and the evidence shows it.
-use Rattle.std.proofs.Common.{◌≡◌, ℕ, ◌+◌, ◌-◌, ◌*◌, ◌<◌, ◌≤◌, true, cond, List, [], ◌∷◌, ◌++◌, refl, sym, ap, ◌∙◌, subst, inl, inr, arith}
+use Rattle.std.proofs.Common.{◌≡◌, ℕ, ◌+◌, ◌-◌, ◌*◌, ◌<◌, ◌≤◌, true, cond, List, [], ◌∷◌, ◌++◌, refl, sym, ap, ◌∙◌, inl, inr, arith}
 use Rattle.std.specs.Prelude.{nat_le}
 use Rattle.std.proofs.Math.Nat.{zero-div}
 use Rattle.std.proofs.lemmas.Bool.{cases_lt}
 use Rattle.std.proofs.lemmas.Bool.Decides.{nat_tests}
-use Rattle.std.proofs.lemmas.List.{append-nil, append_assoc}
 use Rattle.slot_core.specs.declared.jobs.Evidence.{Evidence}
 use Rattle.slot_core.specs.declared.tasks.TaskSet.{TaskSet}
 use Rattle.slot_core.specs.declared.events.What.TheVariants.{Firm}
@@ -14,7 +13,6 @@ use Rattle.slot_core.specs.Sets.Cycles.{cycle_of}
 use Rattle.slot_core.specs.Sets.Ranges.{is_sound}
 use Rattle.slot_core.specs.Feasibility.Feasible.{IsFeasible}
 use Rattle.slot_core.specs.Keeping.Executives.{Executive, StandsFor}
-use Rattle.slot_core.specs.Keeping.Plans.{IsPlan, PlanParts}
 use Rattle.slot_core.specs.Runs.Answers.{firm_answer}
 use Rattle.slot_core.specs.Runs.Demand.{need_by, work_by}
 use Rattle.slot_core.specs.Runs.Histories.{History, time_of}
@@ -22,7 +20,7 @@ use Rattle.slot_core.specs.Runs.Scenes.{horizon, scene_of}
 use Rattle.slot_core.specs.Runs.Traces.{started}
 use Rattle.slot_facts.proofs.Offers.Answers.{short-from_no_room}
 use Rattle.plan_change.specs.declared.offers.Offer.{Offer}
-use Rattle.plan_change.specs.Changed.{CanStartWith, HasNoRoom, IsChanged, IsCutOff}
+use Rattle.plan_change.specs.Changed.{CanStartWith, HasNoRoom}
 use Rattle.plan_change.specs.Offers.{accepted_after, AllAccepted, first_jobs, MayBeOffered}
 use Rattle.plan_change.proofs.FirstOffers.{due-first, first_exactly}
 use Rattle.plan_change.proofs.Together.{fit-from_accepted, need-after, work_by-offers}

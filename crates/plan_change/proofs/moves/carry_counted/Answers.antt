@@ -1,6 +1,6 @@
 -- The offers and the soft jobs may be made, and what is told of them is told of what the executive carries over.
 use Rattle.std.proofs.Common.{◌≡◌, ℕ, ◌≤◌, List, ap, filter, length, refl, subst, sym, take, ◌∙◌, arith}
-use Rattle.std.specs.Prelude.{Contains, IfErr, IfOk, OnErr, OnOk}
+use Rattle.std.specs.Prelude.{IfErr, IfOk, OnErr, OnOk}
 use Rattle.slot_core.specs.declared.jobs.Job.{Job}
 use Rattle.slot_facts.proofs.Lists.Members.{Has, Has-from_Contains}
 use Rattle.slot_facts.proofs.Plans.Items.{plan_cycle-bounds}

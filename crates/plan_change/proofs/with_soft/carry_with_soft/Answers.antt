@@ -1,5 +1,5 @@
 -- As many soft jobs go over as there are, or as the limit allows.
-use Rattle.std.proofs.Common.{ℕ, List, ap, length, min, subst, take, ◌∙◌, arith}
+use Rattle.std.proofs.Common.{ℕ, List, ap, min, subst, ◌∙◌, arith}
 use Rattle.std.proofs.lemmas.List.{length-take}
 use Rattle.slot_core.specs.declared.jobs.SoftJob.{SoftJob}
 use Rattle.slot_core.specs.declared.tasks.TaskSet.{TaskSet}
