@@ -1,14 +1,14 @@
 //! A change of plan at which soft work goes over too.
 
-ghost use Rattle.std.specs.Prelude.{◌≡◌, ◌≢◌, ℕ, ◌+◌, ◌-◌, ◌≤◌, ◌<◌, ◌^◌, ◌∷◌, [], false, true, Contains, drop, filter, length, take, IfErr, IfOk, None, OnErr, OnOk, Some, slice_get};
+ghost use Rattle.std.specs.Prelude.{◌≡◌, ◌≢◌, ℕ, ◌+◌, ◌-◌, ◌≤◌, ◌<◌, ◌^◌, ◌∷◌, [], false, true, drop, length, take, IfErr, IfOk, None, OnErr, OnOk, Some, slice_get};
 ghost use Rattle.slot_core.specs.declared.TheConstants.{OFFER_LIMIT};
 ghost use Rattle.slot_core.specs.declared.jobs.SoftJob.{SoftJob};
 ghost use Rattle.slot_core.specs.Keeping.Executives.{StandsFor};
 ghost use Rattle.slot_core.specs.Runs.Histories.{History};
 ghost use Rattle.slot_core.specs.Runs.Traces.{started};
-ghost use Rattle.plan_change.specs.Carrying.{carried_from, cut_count, offers_from, offers_of};
+ghost use Rattle.plan_change.specs.Carrying.{carried_from, offers_from};
 ghost use Rattle.plan_change.specs.Changed.{CanStartWith, HasNoRoom};
-ghost use Rattle.plan_change.specs.SoftWork.{AreTaken, IsChangedWithSoft, IsCutOffWithSoft, IsMovedWithSoft, MayWait, RowsAreApart, goes_soft, moved_after, soft_from};
+ghost use Rattle.plan_change.specs.SoftWork.{AreTaken, IsChangedWithSoft, IsCutOffWithSoft, IsMovedWithSoft, MayWait, goes_soft, moved_after, soft_from};
 
 use crate::keep::Keep;
 use crate::list::CarriedList;
