@@ -1,8 +1,10 @@
 /* A control loop with three modes, each a plan of its own. A fault asks for the next one, and the
- * unit changes to it at that very slot: what is under way goes on there, or it stays where it is
- * and asks again at the next slot. All three are open from the start, so a change takes no memory.
+ * unit changes to it at that very slot: what is under way goes on there, soft work too, or it stays
+ * where it is and asks again at the next slot. All three are open from the start, so a change takes
+ * no memory.
  * usage: modes TABLE TABLE TABLE EVENTS SLOTS
- * (EVENTS has lines `SLOT firm WORK WITHIN`, `SLOT sporadic INDEX 0` and `SLOT fault 0 0`, by slot)
+ * (EVENTS has lines `SLOT firm WORK WITHIN`, `SLOT soft WORK 0`, `SLOT sporadic INDEX 0` and
+ * `SLOT fault 0 0`, by slot)
  * After `make lib`: cc -O2 modes.c heap.c out/libslotexec.a -o modes */
 #include "slotexec.h"
 
@@ -49,12 +51,13 @@ static void renew(unsigned m)
     want("open", ss_open(&units[m], tables[m], bytes[m], &fault));
 }
 
-/* Goes on in the mode that is wanted, or stays. Firm and sporadic jobs keep their rows; offline
- * ones that go on have rows from the next one on. */
+/* Goes on in the mode that is wanted, or stays. Firm, sporadic and soft jobs keep their rows;
+ * offline ones that go on have rows from the next one on. */
 static void change(unsigned long slot)
 {
     ss_told told;
-    uint32_t last, status = ss_carry(&units[mode], &units[wanted], row + 1, keep[wanted], &told);
+    uint32_t last, status;
+    status = ss_carry_with_soft(&units[mode], &units[wanted], row + 1, keep[wanted], &told);
     if (status == SS_REFUSED) {
         printf("%lu refused %lu %lu %lu %lu\n", slot, (unsigned long)told.answer,
                (unsigned long)told.first, (unsigned long)told.second, (unsigned long)told.third);
@@ -62,8 +65,9 @@ static void change(unsigned long slot)
         return;
     }
     want("carry", status);
-    printf("%lu mode %u carried %lu cut %lu\n", slot, wanted, (unsigned long)told.first,
-           (unsigned long)told.second);
+    printf("%lu mode %u carried %lu cut %lu soft %lu behind %lu\n", slot, wanted,
+           (unsigned long)told.first, (unsigned long)told.second, (unsigned long)told.answer,
+           (unsigned long)told.third);
     renew(mode);
     mode = wanted;
     want("last row", ss_last_row(&units[mode], &last));
@@ -79,6 +83,8 @@ static void arrive(unsigned long slot, const char *what, unsigned first, unsigne
     }
     if (strcmp(what, "firm") == 0) {
         want("firm", ss_firm(&units[mode], ++row, first, second, &told));
+    } else if (strcmp(what, "soft") == 0) {
+        want("soft", ss_soft(&units[mode], ++row, first, &told));
     } else {
         uint32_t status = ss_sporadic(&units[mode], ++row, first, &told);
         if (status == SS_BAD_NUMBER) return; /* this mode has no such task: the row is unused */

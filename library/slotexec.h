@@ -12,10 +12,10 @@
  * arrival is SS_BAD_ROW, while slots pass and the plan goes on. Close and open before: jobs that
  * are under way, and the last arrivals of sporadic tasks, are forgotten then.
  *
- * Every call but `ss_open`, `ss_close` and `ss_change` takes no memory and gives none back.
- * `ss_open` takes all that the executive will ever need, by the three functions of heap.c or
- * arena.c (arena.h tells how large its array has to be), and `ss_close` gives all of it back.
- * `ss_change` opens a second executive, and closes one of the two.
+ * Every call but `ss_open`, `ss_close`, `ss_change` and `ss_change_with_soft` takes no memory and
+ * gives none back. `ss_open` takes all that the executive will ever need, by the three functions of
+ * heap.c or arena.c (arena.h tells how large its array has to be), and `ss_close` gives all of it
+ * back. The two that change open a second executive, and close one of both.
  *
  * The library is tried on x86-64, and on aarch64 under qemu, with Linux (`make aarch64`) and
  * without a system (`make bare`). Of other processors nothing is said.
@@ -34,15 +34,15 @@
  *   copies only the last one written is used.
  * - One call at a time on a handle: the next one begins after the last one has ended, and sees what
  *   it wrote, as after a mutex, or on one core with interrupts masked. Which thread, core or stack
- *   makes it does not count: the library has no variables and no locks of its own. ss_carry is a
- *   call on both of its handles, which are two.
- * - ss_open, ss_close and ss_change call the functions of the heap, so they are made where these
- *   may be: with heap.c not in a signal handler, nor in the forked child of a process with threads;
- *   with arena.c one at a time for all handles.
+ *   makes it does not count: the library has no variables and no locks of its own. ss_carry, with
+ *   soft work or without, is a call on both of its handles, which are two.
+ * - Those four call the functions of the heap, so they are made where these may be: with heap.c not
+ *   in a signal handler, nor in the forked child of a process with threads; with arena.c one at a
+ *   time for all handles.
  * - rattle_alloc, rattle_realloc and rattle_dealloc are linked, and are as heap.h says. The library
  *   also needs memcpy, memmove and memset, and nothing else (bare/memory.c has these three).
  *
- * An interrupt or a signal handler may make every call but these three, while no other call on the
+ * An interrupt or a signal handler may make every call but those four, while no other call on the
  * handle is under way: mask it around those that are made outside of it. The library
  * uses vector registers. So an interrupt's entry that calls it saves all of them, and those that
  * any call in C may change (bare/start.S). It uses the stack of what was interrupted;
@@ -234,9 +234,10 @@ uint32_t ss_get_job(ss_slots *slots, uint32_t place, ss_job *job);
 
 /* A change of plan: what one executive has left goes on in another, before its first slot. Each
  * firm and sporadic job goes on, and of the offline ones those that `keep` says; soft work does
- * not. Each is offered to the second executive as a firm task, with the slots that it has left and
- * its deadline counted from the change on. All are accepted exactly where all of them can be served
- * there, beside its own jobs and whatever sporadic ones come. Then it goes on with them:
+ * only by the two calls further below. Each is offered to the second executive as a firm task, with
+ * the slots that it has left and its deadline counted from the change on. All are accepted exactly
+ * where all of them can be served there, beside its own jobs and whatever sporadic ones come. Then
+ * it goes on with them:
  * - A job that was carried over is SS_FIRM, whatever it was. A firm or sporadic one keeps its row;
  *   offline ones have the rows from `first` on, by deadline and then by key: so map their keys
  *   first, as ss_get_job tells them. An old key names no job there, or another one.
@@ -266,6 +267,18 @@ uint32_t ss_carry(ss_slots *from, ss_slots *into, uint32_t first, uint32_t keep,
  * then the handle stays as it was. Both executives take memory for a while. */
 uint32_t ss_change(ss_slots *slots, const uint8_t *table, size_t bytes, uint32_t first,
                    uint32_t keep, ss_told *told);
+
+/* The same two, where soft work goes over too: the soft jobs that wait come among the offers in the
+ * order of all rows, each in its own row with the slots that it has left. It plays no part in
+ * whether the change is made. No more soft jobs go over than may wait in the second plan: where its
+ * limit is lower, the last ones are left behind.
+ * After SS_OK `told->answer` is how many soft jobs go over, the first two numbers are as above, and
+ * the third is how many soft jobs are left behind. After SS_REFUSED `into` has taken the soft work
+ * before the offer that has no room too. Numbers and statuses are as above. */
+uint32_t ss_carry_with_soft(ss_slots *from, ss_slots *into, uint32_t first, uint32_t keep,
+                            ss_told *told);
+uint32_t ss_change_with_soft(ss_slots *slots, const uint8_t *table, size_t bytes, uint32_t first,
+                             uint32_t keep, ss_told *told);
 
 /* Writes the text of a key, as traces have it, to the front of `text`, with no zero after it, and
  * tells its length: at most SS_KEY_TEXT bytes. SS_BAD_NUMBER where it is no key, or it names what

@@ -96,6 +96,7 @@ Key = collections.namedtuple("Key", "kind group task number", defaults=(0, 0, 0)
 Span = collections.namedtuple("Span", "start end work spare")
 Job = collections.namedtuple("Job", "key left deadline start")
 Carried = collections.namedtuple("Carried", "jobs cut")
+CarriedWithSoft = collections.namedtuple("CarriedWithSoft", "jobs cut soft behind")
 Refusal = collections.namedtuple("Refusal", "row until need room")
 
 
@@ -189,8 +190,10 @@ def _numbers(told):
     return (told.answer, told.first, told.second, told.third)
 
 
-def _carried(status, told):
+def _carried(status, told, with_soft=False):
     """What a change of plan has carried over; an error where it is not made."""
+    if status == Status.OK and with_soft:
+        return CarriedWithSoft(told.first, told.second, told.answer, told.third)
     if status == Status.OK:
         return Carried(told.first, told.second)
     if status == Status.REFUSED:
@@ -332,6 +335,21 @@ class Executive:
         words = (ctypes.c_size_t(len(table)), _number(first), _number(keep), ctypes.byref(told))
         status = self._library.ss_change(self._handle(), table, *words)
         return _carried(status, told)
+
+    def carry_with_soft(self, into, first, keep):
+        """`carry`, where soft work goes over too: `CarriedWithSoft` tells as well how many soft
+        jobs go over, and how many are left behind since no more may wait there."""
+        told = _Told()
+        words = (_number(first), _number(keep), ctypes.byref(told))
+        status = self._library.ss_carry_with_soft(self._handle(), into._handle(), *words)
+        return _carried(status, told, with_soft=True)
+
+    def change_with_soft(self, table, first, keep):
+        """`change`, where soft work goes over too, as with `carry_with_soft`."""
+        told = _Told()
+        words = (ctypes.c_size_t(len(table)), _number(first), _number(keep), ctypes.byref(told))
+        status = self._library.ss_change_with_soft(self._handle(), table, *words)
+        return _carried(status, told, with_soft=True)
 
     def key_text(self, key):
         """The text of a key, as traces have it."""

@@ -133,11 +133,28 @@ def try_changes(library, table, after):
         assert sorted(first.jobs()) == jobs and first.last_row() == 40
 
 
+def try_soft_changes(library, table, after):
+    """Soft work goes over too, by either call, and runs there in its order."""
+    with Executive.of_file(table, library) as first, Executive.of_file(after, library) as second:
+        for row, work in ((2, 3), (5, 1)):
+            assert first.soft(row, work).answer == Soft.TAKEN
+        assert first.firm(7, 9, 20).answer == Firm.ACCEPTED
+        assert first.carry_with_soft(second, 0, Keep.DROP) == (1, 0, 2, 0)
+        assert second.last_row() == 7
+        with open(after, "rb") as file:
+            assert first.change_with_soft(file.read(), 8, Keep.DROP) == (1, 0, 2, 0)
+        for executive in (first, second):
+            ran = [executive.slot() for _ in range(1000)]
+            rows = [key.number for key in ran if key.kind == Kind.SOFT]
+            assert rows == [2, 2, 2, 5], rows
+
+
 def main():
     library, table, trace, later, old, after = sys.argv[1:]
     assert header_numbers() == python_numbers() | {"OFFER_LIMIT": 65535}
     try_versions(library, table, later, old)
     try_changes(library, table, after)
+    try_soft_changes(library, table, after)
     lines = open(trace, encoding="ascii").read().splitlines()
     with Executive.of_file(table, library) as executive:
         told = [f"0 start{spans_text(executive)}"]

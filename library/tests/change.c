@@ -96,6 +96,48 @@ static void carried(const ss_job *job)
     HOLDS(ss_close(&other) == SS_OK);
 }
 
+/* Three soft jobs wait beside the job of row 7; they go over in their order and rows, each with what
+ * it has left, and nothing is allocated. The first one runs once before. */
+static void carried_with_soft(void)
+{
+    static const uint32_t rows[] = {3, 5, 9}, works[] = {2, 4, 1};
+    uint32_t row, slot, place = 0, run = 0;
+    unsigned long calls;
+    ss_key ran;
+    ss_slots before = {false, NULL};
+    HOLDS(ss_open(&before, table, bytes, &told) == SS_OK);
+    HOLDS(ss_soft(&before, 3, 3, &told) == SS_OK && ss_soft(&before, 5, 4, &told) == SS_OK);
+    HOLDS(ss_firm(&before, 7, 2, 20, &told) == SS_OK && told.answer == SS_ACCEPTED);
+    HOLDS(ss_soft(&before, 9, 1, &told) == SS_OK);
+    do HOLDS(ss_slot(&before, &ran) == SS_OK);
+    while (ran.kind != SS_SOFT);
+    HOLDS(ran.number == 3);
+    HOLDS(ss_open(&other, next, size, &told) == SS_OK);
+    calls = heap_calls;
+    HOLDS(ss_carry_with_soft(&before, &other, 10, 3, &told) == SS_BAD_NUMBER);
+    HOLDS(ss_carry_with_soft(&before, &other, 0, SS_DROP, &told) == SS_OK);
+    HOLDS(heap_calls == calls);
+    HOLDS(told.answer == 3 && told.first <= 1 && told.second == 0 && told.third == 0);
+    HOLDS(ss_last_row(&other, &row) == SS_OK && row == 9);
+    HOLDS(ss_carry_with_soft(&before, &other, 0, SS_DROP, &told) == SS_NOT_FRESH);
+    for (slot = 0; place < 3 && slot < 4000; slot++) {
+        HOLDS(ss_slot(&other, &ran) == SS_OK);
+        if (ran.kind != SS_SOFT) continue;
+        HOLDS(ran.number == rows[place]);
+        run++;
+        if (run < works[place]) continue;
+        run = 0;
+        place++;
+    }
+    HOLDS(place == 3 && ss_close(&other) == SS_OK);
+    HOLDS(ss_change_with_soft(&before, next, size - 1, 10, SS_DROP, &told) == SS_BAD_TABLE);
+    HOLDS(ss_change_with_soft(&before, next, size, 10, SS_DROP, &told) == SS_OK);
+    HOLDS(told.answer == 3 && told.third == 0);
+    HOLDS(ss_close(&before) == SS_OK);
+    HOLDS(ss_carry_with_soft(&before, &other, 1, SS_DROP, &told) == SS_CLOSED);
+    HOLDS(ss_change_with_soft(&before, next, size, 1, SS_DROP, &told) == SS_CLOSED);
+}
+
 /* Refuses each allocation of ss_change in turn: the handle stays as it was. Then it is made. */
 static unsigned long changed(const ss_job *job)
 {
@@ -156,10 +198,11 @@ int main(int count, char **words)
     HOLDS(job.left > 0 && job.left < 9 && job.deadline == 20);
     wrong_numbers();
     carried(&job);
+    carried_with_soft();
     allocations = changed(&job);
     refused();
     printf("changes of plan: %lu allocations of ss_change, each refused in turn, and none by "
-           "ss_carry; %lu passed, %lu failed\n",
+           "ss_carry, with soft work or without; %lu passed, %lu failed\n",
            allocations, passed, failed);
     return failed == 0 ? 0 : 1;
 }

@@ -1,9 +1,10 @@
 """Runs modes.c over random events, and compares each line with a model of its own: jobs by earliest
-deadline first, offers by the demand of each time, and a change of plan by the demand of all that is
-carried over together.
+deadline first, offers and soft work by the demand of each time, and a change of plan by the demand
+of all that is carried over together.
 usage: modes.py MODES SEED TOML TABLE TOML TABLE TOML TABLE
 """
 
+import collections
 import math
 import random
 import subprocess
@@ -11,7 +12,7 @@ import sys
 import tempfile
 import tomllib
 
-OFFLINE, SPORADIC, FIRM = range(3)  # the kinds of keys, in the order in which level ones run
+OFFLINE, SPORADIC, FIRM, SOFT = range(4)  # the kinds of keys, in the order in which level ones run
 DROP, STARTED, GRAPHS = range(3)
 KEEP = (DROP, GRAPHS, STARTED)  # as in modes.c
 SLOTS = 400
@@ -24,6 +25,7 @@ class Set:
         with open(path, "rb") as file:
             read = tomllib.load(file)
         self.sporadics = read.get("sporadic", [])
+        self.limit = read.get("soft", 64)  # of soft jobs that wait
         self.graphs = [self.graph(graph) for graph in read["graph"]]
         lengths = [graph["period"] for graph in self.graphs]
         self.cycle = math.lcm(*lengths, *(task["separation"] for task in self.sporadics))
@@ -75,7 +77,7 @@ class Set:
             return f"{graph['name']}.{graph['names'][key[2]]}#{key[3]}"
         if key[0] == SPORADIC:
             return f"{self.sporadics[key[1]]['name']}@{key[2]}"
-        return f"firm:{key[1]}"
+        return f"{'soft' if key[0] == SOFT else 'firm'}:{key[1]}"
 
 
 def chain(wcet, beside, task):
@@ -92,19 +94,32 @@ class Unit:
         self.row = 0
         self.nexts = [0] * len(tasks.sporadics)
         self.jobs_left = [job for n in range(3) for job in tasks.jobs(n)]
+        self.waiting = []  # soft jobs: the row, and the slots left
 
-    def shortage(self, more):
+    def shortage(self, more, soon=0):
         """The least time by which these jobs and what remains need more slots than there are, with
-        the need and the room; None where all fit."""
+        the need and the room; None where all fit. Sporadic jobs come so many slots from now on."""
         end = (self.now // self.set.cycle + 3) * self.set.cycle
-        for x in range(self.now + 1, end + 1):
-            need = sum(job["left"] for job in self.jobs_left + more if job["dl"] <= x)
-            for task, first in zip(self.set.sporadics, self.nexts):
-                space = x - task["deadline"] - max(first, self.now)
-                need += task["wcet"] * (space // task["separation"] + 1 if space >= 0 else 0)
-            if need > x - self.now:
+        due = collections.Counter()
+        for job in self.jobs_left + more:
+            due[job["dl"]] += job["left"]
+        for task, first in zip(self.set.sporadics, self.nexts):
+            soonest = max(first, self.now + soon) + task["deadline"]
+            for x in range(soonest, end + 1, task["separation"]):
+                due[x] += task["wcet"]
+        need = 0
+        for x in sorted(due):
+            need += due[x]
+            if x <= end and need > x - self.now:
                 return x, need, x - self.now
         return None
+
+    def soft(self, row, work):
+        self.row = row
+        if len(self.waiting) == self.set.limit:
+            return 1, self.set.limit, 0, 0
+        self.waiting.append((row, work))
+        return 0, 0, 0, 0
 
     def firm(self, row, work, within):
         self.row = row
@@ -130,17 +145,27 @@ class Unit:
         return 0, job["dl"], 0, 0
 
     def slot(self):
+        """A slot passes: the key of what runs in it, or None. Soft work runs where all else still
+        fits with one slot more."""
+        if self.waiting and not self.shortage([firm_job(0, self.now, 1, 1)], soon=1):
+            (row, left), *later = self.waiting
+            self.waiting = ([(row, left - 1)] if left > 1 else []) + later
+            self.end_slot()
+            return SOFT, row
         ready = [job for job in self.jobs_left if job["est"] <= self.now]
         ran = min(ready, key=lambda job: (job["dl"], job["key"]), default=None)
         if ran:
             ran["left"] -= 1
+        self.end_slot()
+        return ran["key"] if ran else None
+
+    def end_slot(self):
         self.now += 1
         for job in self.jobs_left:
             assert job["left"] == 0 or job["dl"] > self.now, "a job is late"
         self.jobs_left = [job for job in self.jobs_left if job["left"]]
         if self.now % self.set.cycle == 0:
             self.jobs_left += self.set.jobs(self.now // self.set.cycle + 2)
-        return self.set.text(ran["key"]) if ran else None
 
     def goes_on(self, keep, job):
         if job["key"][0] != OFFLINE or keep == DROP:
@@ -148,6 +173,12 @@ class Unit:
         if keep == STARTED:
             return job["left"] < job["declared"]
         return self.set.release(job) < self.now
+
+    def begin(self, offers, waiting):
+        """These offers and soft jobs, as many as may wait, have come; how many are left behind."""
+        self.jobs_left += offers
+        self.waiting = waiting[: self.set.limit]
+        return len(waiting) - len(self.waiting)
 
     def offers(self, keep, cycle, first):
         """What goes on, as firm jobs of the second unit at its time 0; how many deadlines are cut."""
@@ -177,6 +208,8 @@ def expected(sets, events, slots):
             row += 1
             if what == "firm":
                 told = units[mode].firm(row, first, second)
+            elif what == "soft":
+                told = units[mode].soft(row, first)
             elif first < len(sets[mode].sporadics):
                 told = units[mode].sporadic(row, first)
             else:
@@ -190,12 +223,13 @@ def expected(sets, events, slots):
                 short = second.shortage(offers[:count])
                 lines.append(f"{slot} refused {offers[count - 1]['key'][1]} {' '.join(map(str, short))}")
             else:
-                lines.append(f"{slot} mode {wanted} carried {len(offers)} cut {cut}")
-                second.jobs_left += offers
+                behind = second.begin(offers, units[mode].waiting)
+                goes = len(second.waiting)
+                lines.append(f"{slot} mode {wanted} carried {len(offers)} cut {cut} soft {goes} behind {behind}")
                 row = max([row] + [offer["key"][1] for offer in offers])
                 units[mode], units[wanted], mode = Unit(sets[mode]), second, wanted
         ran = units[mode].slot()
-        lines.append(f"{slot} run {ran}" if ran else f"{slot} idle")
+        lines.append(f"{slot} run {units[mode].set.text(ran)}" if ran else f"{slot} idle")
     return lines
 
 
@@ -207,6 +241,8 @@ def random_events(seed, slots):
             made.append((slot, "firm", draw.randint(1, 6), draw.randint(0, 45)))
         if draw.random() < 0.15:
             made.append((slot, "sporadic", 0, 0))
+        if draw.random() < 0.1:
+            made.append((slot, "soft", draw.randint(1, 4), 0))
         if draw.random() < 0.08:
             made.append((slot, "fault", 0, 0))
     return made
@@ -233,4 +269,5 @@ def main():
     print(f"modes.c: {counts['mode']} changes of mode and {counts['refused']} refused, as the model")
 
 
-main()
+if __name__ == "__main__":
+    main()

@@ -17,8 +17,9 @@ use Rattle.slot_core.specs.Runs.Histories.{History}
 use Rattle.slot_core.specs.Runs.Scenes.{scene_of}
 use Rattle.slot_core.specs.Runs.Traces.{started}
 use Rattle.slot_facts.proofs.Lists.Members.{Contains-from_Has, Has, Has-append_left, Has-append_right, Has-from_slice_get}
+use Rattle.plan_change.specs.declared.moves.Refusal.{Refusal}
 use Rattle.plan_change.specs.declared.offers.Offer.{Offer}
-use Rattle.plan_change.specs.Changed.{CanStartWith, HasNoRoom}
+use Rattle.plan_change.specs.Changed.{CanStartWith, HasNoRoom, IsChanged, IsCutOff}
 use Rattle.plan_change.specs.Offers.{accepted_after, AllAccepted, MayBeOffered}
 use Rattle.plan_change.specs.SoftWork.{AreTaken, begun_anew, goes_firm, goes_soft, Going, IsChangedWithSoft, IsCutOffWithSoft, MayWait, moved_after, offers_in, RowsAreApart, softs_in}
 use Rattle.plan_change.proofs.FirstOffers.{first_exactly}
@@ -274,3 +275,37 @@ none_stop n count jobs few stops =
           absurd (cc is)
       | inr end ↦ omega (arith, end, few)
     ]
+
+-- with no soft job it is a change by offers alone
+moved-alone : (h : History) (going : List Going) → softs_in going ≡ [] → moved_after h going ≡ accepted_after h (offers_in going)
+moved-alone h [] none = refl
+moved-alone h (goes_firm x ∷ going) none = moved-alone (Firm x.row x.slots x.within Accepted ∷ h) going none
+moved-alone h (goes_soft x ∷ going) none = absurd (cc none)
+
+none-before : (xs ys : List SoftJob) → [] ≡ xs ++ ys → xs ≡ []
+none-before [] ys none = refl
+none-before (x ∷ xs) ys none = absurd (cc none)
+
+pub IsChanged-alone : (plan : PlanParts) (offers : List Offer) (after : Executive) → IsChangedWithSoft plan offers [] after → IsChanged plan offers after
+IsChanged-alone plan offers after changed =
+    let same = moved-alone started changed.going changed.softs_of ∙ ap (accepted_after started) changed.offers_of in
+    record {
+      plan_of = changed.plan_of;
+      served = changed.served;
+      accepted = changed.accepted;
+      stands = subst (StandsFor after) same changed.stands;
+    }
+
+pub IsCutOff-alone : (plan : PlanParts) (offers : List Offer) (refusal : Refusal) (after : Executive) → IsCutOffWithSoft plan offers [] refusal after → IsCutOff plan offers refusal after
+IsCutOff-alone plan offers refusal after cut =
+    let none = none-before (softs_in cut.before) cut.waits cut.soft_parts in
+    let same = moved-alone started cut.before none in
+    record {
+      before = offers_in cut.before;
+      offer = cut.offer;
+      rest = cut.rest;
+      parts = cut.parts;
+      row = cut.row;
+      plan_of = cut.plan_of;
+      stands = subst (λ (h : History). StandsFor after (Firm cut.offer.row cut.offer.slots cut.offer.within (NoRoom refusal.evidence) ∷ h)) same cut.stands;
+    }

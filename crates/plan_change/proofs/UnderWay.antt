@@ -1,10 +1,9 @@
--- Offers that are made one after the other: what is known on the way, at the end, and where one has no room.
-use Rattle.std.proofs.Common.{◌≡◌, ℕ, ◌+◌, ◌-◌, ◌*◌, ◌<◌, ◌≤◌, true, cond, List, [], ◌∷◌, ◌++◌, refl, sym, ap, ◌∙◌, subst, inl, inr, arith}
+-- An offer that has no room after others: all of them cannot be served, and the evidence shows it.
+use Rattle.std.proofs.Common.{◌≡◌, ℕ, ◌+◌, ◌-◌, ◌*◌, ◌<◌, ◌≤◌, true, cond, List, [], ◌∷◌, ◌++◌, refl, sym, ap, ◌∙◌, inl, inr, arith}
 use Rattle.std.specs.Prelude.{nat_le}
 use Rattle.std.proofs.Math.Nat.{zero-div}
 use Rattle.std.proofs.lemmas.Bool.{cases_lt}
 use Rattle.std.proofs.lemmas.Bool.Decides.{nat_tests}
-use Rattle.std.proofs.lemmas.List.{append-nil, append_assoc}
 use Rattle.slot_core.specs.declared.jobs.Evidence.{Evidence}
 use Rattle.slot_core.specs.declared.tasks.TaskSet.{TaskSet}
 use Rattle.slot_core.specs.declared.events.What.TheVariants.{Firm}
@@ -14,7 +13,6 @@ use Rattle.slot_core.specs.Sets.Cycles.{cycle_of}
 use Rattle.slot_core.specs.Sets.Ranges.{is_sound}
 use Rattle.slot_core.specs.Feasibility.Feasible.{IsFeasible}
 use Rattle.slot_core.specs.Keeping.Executives.{Executive, StandsFor}
-use Rattle.slot_core.specs.Keeping.Plans.{IsPlan, PlanParts}
 use Rattle.slot_core.specs.Runs.Answers.{firm_answer}
 use Rattle.slot_core.specs.Runs.Demand.{need_by, work_by}
 use Rattle.slot_core.specs.Runs.Histories.{History, time_of}
@@ -22,7 +20,7 @@ use Rattle.slot_core.specs.Runs.Scenes.{horizon, scene_of}
 use Rattle.slot_core.specs.Runs.Traces.{started}
 use Rattle.slot_facts.proofs.Offers.Answers.{short-from_no_room}
 use Rattle.plan_change.specs.declared.offers.Offer.{Offer}
-use Rattle.plan_change.specs.Changed.{CanStartWith, HasNoRoom, IsChanged, IsCutOff}
+use Rattle.plan_change.specs.Changed.{CanStartWith, HasNoRoom}
 use Rattle.plan_change.specs.Offers.{accepted_after, AllAccepted, first_jobs, MayBeOffered}
 use Rattle.plan_change.proofs.FirstOffers.{due-first, first_exactly}
 use Rattle.plan_change.proofs.Together.{fit-from_accepted, need-after, work_by-offers}
@@ -132,85 +130,8 @@ module _ (set : TaskSet) (sound : is_sound set ≡ true) (feasible : IsFeasible 
   pub refused-here : (¬ (CanStartWith set (before ++ offer ∷ rest))) × HasNoRoom set (before ++ offer ∷ rest) (record { row = offer.row; evidence = e })
   refused-here = (none-together, no_room-shown)
 
--- of all offers these are left: those before them were accepted, and the executive stands for the history of that
-pub record IsUnderWay (first now : Executive) (all rest : List Offer) : Type 0 where
-  pub plan : now.plan ≡ first.plan
-  pub before : List Offer
-  pub parts : all ≡ before ++ rest
-  pub accepted : AllAccepted first.plan.tasks first.plan.cycle started before
-  pub stands : StandsFor now (accepted_after started before)
-  pub may : MayBeOffered first.plan.cycle now.last_row rest
-
--- so it is before the first offer
-pub IsUnderWay-first : (exec : Executive) (all : List Offer) → StandsFor exec started → MayBeOffered exec.plan.cycle 0 all → IsUnderWay exec exec all all
-IsUnderWay-first exec all stands may =
-    record {
-      plan = refl;
-      before = [];
-      parts = refl;
-      accepted = tt;
-      stands = stands;
-      may = subst (λ row. MayBeOffered exec.plan.cycle row all) (sym stands.last) may;
-    }
-
 -- what an offer was answered at each history that the executive stood for
 abbrev pub IsAnswered : Executive → Offer → FirmAnswer → Type 0
 IsAnswered exec offer answer =
     (h : History) → StandsFor exec h
     → firm_answer exec.plan.tasks.sporadics exec.plan.cycle (scene_of exec.plan.tasks exec.plan.cycle h) offer.slots offer.within ≡ answer
-
--- one more is accepted
-pub IsUnderWay-next : (first now next : Executive) (all rest : List Offer) (offer : Offer) → IsUnderWay first now all (offer ∷ rest) → next.plan ≡ now.plan → next.last_row ≡ offer.row → IsAnswered now offer Accepted → ((h : History) → StandsFor now h → StandsFor next (accepted_after h (offer ∷ []))) → IsUnderWay first next all rest
-IsUnderWay-next first now next all rest offer way same row answered stands =
-    let set = first.plan.tasks in
-    let cycle = first.plan.cycle in
-    let h = accepted_after started way.before in
-    let answer = subst (λ (p : PlanParts). firm_answer p.tasks.sporadics p.cycle (scene_of p.tasks p.cycle h) offer.slots offer.within ≡ Accepted) way.plan (answered h way.stands) in
-    record {
-      plan = same ∙ way.plan;
-      before = way.before ++ offer ∷ [];
-      parts = way.parts ∙ sym (append_assoc way.before (offer ∷ []) rest);
-      accepted = AllAccepted-append set cycle started way.before (offer ∷ []) way.accepted (answer, tt);
-      stands = subst (StandsFor next) (sym (accepted_after-append started way.before (offer ∷ []))) (stands h way.stands);
-      may = subst (λ r. MayBeOffered cycle r rest) (sym row) way.may.1;
-    }
-
-module _ (first : Executive) (plan : IsPlan first.plan) where
-  -- where none is left the change is made
-  pub IsChanged-from_way : (now : Executive) (all : List Offer) → MayBeOffered first.plan.cycle 0 all → IsUnderWay first now all [] → IsChanged first.plan all now
-  IsChanged-from_way now all may way =
-      let set = first.plan.tasks in
-      let whole : way.before ≡ all = sym (way.parts ∙ append-nil way.before) in
-      let accepted = subst (AllAccepted set first.plan.cycle started) whole way.accepted in
-      let Exact : ℕ → Type 0 = λ n. IsFeasible set n → MayBeOffered n 0 all → AllAccepted set n started all → CanStartWith set all in
-      record {
-        plan_of = way.plan;
-        served = subst Exact (sym plan.cycle) (λ feasible m a. (first_exactly set all plan.sound feasible m).0 a) plan.feasible may accepted;
-        accepted = accepted;
-        stands = subst (λ offers. StandsFor now (accepted_after started offers)) whole way.stands;
-      }
-
-  -- where one has no room it is refused
-  pub refused-from_way : (now : Executive) (all rest : List Offer) (offer : Offer) (e : Evidence) → MayBeOffered first.plan.cycle 0 all → IsUnderWay first now all (offer ∷ rest) → IsAnswered now offer (NoRoom e) → (¬ (CanStartWith first.plan.tasks all)) × HasNoRoom first.plan.tasks all (record { row = offer.row; evidence = e })
-  refused-from_way now all rest offer e may way answered =
-      let set = first.plan.tasks in
-      let h = accepted_after started way.before in
-      let answer = subst (λ (p : PlanParts). firm_answer p.tasks.sporadics p.cycle (scene_of p.tasks p.cycle h) offer.slots offer.within ≡ NoRoom e) way.plan (answered h way.stands) in
-      let Refused : List Offer → Type 0 = λ offers. (¬ (CanStartWith set offers)) × HasNoRoom set offers (record { row = offer.row; evidence = e }) in
-      let parts = subst (MayBeOffered first.plan.cycle 0) way.parts may in
-      let Here : ℕ → Type 0 = λ n. IsFeasible set n → MayBeOffered n 0 (way.before ++ offer ∷ rest) → AllAccepted set n started way.before → firm_answer set.sporadics n (scene_of set n h) offer.slots offer.within ≡ NoRoom e → Refused (way.before ++ offer ∷ rest) in
-      subst Refused (sym way.parts)
-      (subst Here (sym plan.cycle) (λ feasible m a told. refused-here set plan.sound feasible way.before rest offer m a e told) plan.feasible parts way.accepted answer)
-
--- and the executive stands for the history of that
-pub IsCutOff-from_way : (first now next : Executive) (all rest : List Offer) (offer : Offer) (e : Evidence) → IsUnderWay first now all (offer ∷ rest) → next.plan ≡ now.plan → ((h : History) → StandsFor now h → StandsFor next (Firm offer.row offer.slots offer.within (NoRoom e) ∷ h)) → IsCutOff first.plan all (record { row = offer.row; evidence = e }) next
-IsCutOff-from_way first now next all rest offer e way same stands =
-    record {
-      before = way.before;
-      offer = offer;
-      rest = rest;
-      parts = way.parts;
-      row = refl;
-      plan_of = same ∙ way.plan;
-      stands = stands (accepted_after started way.before) way.stands;
-    }

@@ -14,7 +14,7 @@ pub mod moves;
 pub mod offers;
 pub mod with_soft;
 
-pub use change::{ChangeFault, change_plan};
+pub use change::{ChangeFault, change_plan, change_plan_with_soft};
 pub use keep::Keep;
 pub use list::CarriedList;
 pub use moves::{Moved, Refusal, carry, is_fresh};

@@ -1,6 +1,6 @@
 //! Jobs of one executive are offered to another, before its first slot.
 
-ghost use Rattle.std.specs.Prelude.{◌≡◌, ◌≢◌, ◌↔◌, ◌+◌, ◌≤◌, ◌<◌, ◌^◌, ◌==◌, ◌&&◌, [], ◌∷◌, ◌++◌, true, Contains, filter, length, IfErr, IfOk, None, OnErr, OnOk, Some};
+ghost use Rattle.std.specs.Prelude.{◌≡◌, ◌≢◌, ◌↔◌, ◌+◌, ◌≤◌, ◌<◌, ◌^◌, ◌==◌, ◌&&◌, [], ◌∷◌, ◌++◌, true, Contains, filter, length, take, IfErr, IfOk, None, OnErr, OnOk, Some};
 ghost use Rattle.slot_core.specs.declared.TheConstants.{OFFER_LIMIT};
 ghost use Rattle.slot_core.specs.declared.events.Firm.TheVariants.{Accepted, NoRoom};
 ghost use Rattle.slot_core.specs.declared.events.What.{What};
@@ -16,10 +16,12 @@ ghost use Rattle.slot_core.specs.Runs.Traces.{started};
 ghost use Rattle.plan_change.specs.Carrying.{carried_from, cut_count, goes_on, offers_from, offers_of};
 ghost use Rattle.plan_change.specs.Changed.{CanStartWith, HasNoRoom, IsChanged, IsCutOff, IsMoved};
 ghost use Rattle.plan_change.specs.Offers.{MayBeOffered, MayFollow, accepted_after};
+ghost use Rattle.plan_change.specs.SoftWork.{IsChangedWithSoft, IsCutOffWithSoft, MayWait, RowsAreApart};
 
 use crate::keep::{Keep, goes_on};
 use crate::list::CarriedList;
 use crate::offers::{Offer, is_cut, next_row, offer_of, row_in};
+use crate::with_soft::take_soft;
 use interval_row::SpareTable;
 use slot_core::{Evidence, Firm, Job, Steps, TaskSet};
 use slot_exec::Exec;
@@ -104,14 +106,16 @@ pub fn carry<T: SpareTable>(
     ensures listed { list.new.items ≡ carried_from keep from.now }
     ensures places { list.new.places ≡ list.old.places }
 {
-    carry_counted::<T, Brand>(from, into, list, keep, first, Blank::new(1))
+    carry_counted::<T, Brand>(from, into, list, 0, keep, first, Blank::new(1))
 }
 
-/// `carry`, with steps that nobody asks for.
-fn carry_counted<T: SpareTable, L: Ledger>(
+/// Carries over what an executive has left, and its first soft jobs, so many, with steps that nobody
+/// asks for.
+pub(crate) fn carry_counted<T: SpareTable, L: Ledger>(
     from: &Exec<T>,
     into: &mut Exec<T>,
     list: &mut CarriedList,
+    soft: u32,
     keep: Keep,
     first: u32,
     blank: Blank,
@@ -120,13 +124,16 @@ fn carry_counted<T: SpareTable, L: Ledger>(
     requires parts { blank.parts ≡ L.parts }
     requires some { 0 < L.parts }
     requires fresh { StandsFor into.old started }
+    requires there { soft ≤ length from.now.scene.soft }
+    requires limit { soft ≤ into.old.plan.tasks.soft_limit }
     requires above { keep ≢ Keep.Drop → from.now.last_row < first }
     requires rows { keep ≢ Keep.Drop → first + from.now.plan.cycle < 2 ^ 32 }
     requires places { from.now.plan.cycle ≤ list.old.places }
     ensures granted { OnOk result
-        (IsChanged
+        (IsChangedWithSoft
         into.old.plan
         (offers_from keep from.now into.old.plan.cycle first)
+        (take soft from.now.scene.soft)
         into.new) }
     ensures moved { IfOk result (IsMoved keep from.now into.old.plan.cycle) }
     ensures refused { OnErr result
@@ -138,9 +145,10 @@ fn carry_counted<T: SpareTable, L: Ledger>(
         into.old.plan.tasks
         (offers_from keep from.now into.old.plan.cycle first)) }
     ensures cut_off { IfErr result
-        (λ refusal. IsCutOff
+        (λ refusal. IsCutOffWithSoft
         into.old.plan
         (offers_from keep from.now into.old.plan.cycle first)
+        (take soft from.now.scene.soft)
         refusal
         into.new) }
     ensures plan { into.new.plan ≡ into.old.plan }
@@ -152,11 +160,11 @@ fn carry_counted<T: SpareTable, L: Ledger>(
     list_carried(from, list, at, keep, &mut steps);
     into.now();
     let cycle = into.cycle();
-    offer_all(into, list.jobs(), at, cycle, first, &mut steps)
+    move_all(from, into, list.jobs(), soft, at, cycle, first, &mut steps)
 }
 
 /// Lists the jobs that are carried over, in their order.
-pub(crate) fn list_carried<T: SpareTable, L: Ledger>(
+fn list_carried<T: SpareTable, L: Ledger>(
     from: &Exec<T>,
     list: &mut CarriedList,
     at: u64,
@@ -208,10 +216,13 @@ fn list_one(list: &mut CarriedList, tasks: &TaskSet, at: u64, keep: Keep, job: &
     }
 }
 
-/// Offers these jobs one after the other, until one has no room.
-fn offer_all<T: SpareTable, L: Ledger>(
+/// Offers these jobs one after the other, until one has no room. Before each offer the soft jobs of
+/// lower rows go over, and after the last one the others: so many in all.
+fn move_all<T: SpareTable, L: Ledger>(
+    from: &Exec<T>,
     into: &mut Exec<T>,
     jobs: &[Job],
+    soft: u32,
     at: u64,
     cycle: u32,
     first: u32,
@@ -224,8 +235,18 @@ fn offer_all<T: SpareTable, L: Ledger>(
     requires rows { (job : Job) → Contains jobs.now job → is_offline job.key ≡ true
         → first + length jobs.now < 2 ^ 32 }
     requires offers { MayBeOffered cycle 0 (offers_of at cycle first jobs.now) }
+    requires there { soft ≤ length from.now.scene.soft }
+    requires limit { soft ≤ into.old.plan.tasks.soft_limit }
+    requires waits { MayWait 0 (take soft from.now.scene.soft) }
+    requires apart { RowsAreApart
+        (offers_of at cycle first jobs.now)
+        (take soft from.now.scene.soft) }
     ensures granted { OnOk result
-        (IsChanged into.old.plan (offers_of at cycle first jobs.now) into.new) }
+        (IsChangedWithSoft
+        into.old.plan
+        (offers_of at cycle first jobs.now)
+        (take soft from.now.scene.soft)
+        into.new) }
     ensures moved { IfOk result (λ moved. (moved.carried ≡ length jobs.now)
         × (moved.cut ≡ cut_count at cycle jobs.now)) }
     ensures refused { OnErr result
@@ -233,16 +254,19 @@ fn offer_all<T: SpareTable, L: Ledger>(
     ensures no_room { IfErr result
         (HasNoRoom into.old.plan.tasks (offers_of at cycle first jobs.now)) }
     ensures cut_off { IfErr result
-        (λ refusal. IsCutOff
+        (λ refusal. IsCutOffWithSoft
         into.old.plan
         (offers_of at cycle first jobs.now)
+        (take soft from.now.scene.soft)
         refusal
         into.new) }
     ensures plan { into.new.plan ≡ into.old.plan }
 {
     let mut next = first;
+    let mut passed = 0;
     for job in jobs {
         let offer = offer_of(job, at, cycle, row_in(next, job));
+        passed = take_soft(from, into, passed, soft, Some(offer.row));
         if let Some(evidence) = offer_one(into, offer, steps) {
             return Err(Refusal {
                 row: offer.row,
@@ -251,6 +275,7 @@ fn offer_all<T: SpareTable, L: Ledger>(
         }
         next = next_row(next, job);
     }
+    take_soft(from, into, passed, soft, None);
     Ok(Moved {
         carried: jobs.len() as u32,
         cut: cut_count(jobs, at, cycle),
@@ -258,7 +283,7 @@ fn offer_all<T: SpareTable, L: Ledger>(
 }
 
 /// Makes one offer: none where it is accepted, else the evidence against it.
-pub(crate) fn offer_one<T: SpareTable, L: Ledger>(
+fn offer_one<T: SpareTable, L: Ledger>(
     into: &mut Exec<T>,
     offer: Offer,
     steps: &mut Steps<L>,
@@ -295,7 +320,7 @@ pub(crate) fn offer_one<T: SpareTable, L: Ledger>(
 }
 
 /// How many of these jobs have a deadline that is cut.
-pub(crate) fn cut_count(jobs: &[Job], at: u64, cycle: u32) -> u32
+fn cut_count(jobs: &[Job], at: u64, cycle: u32) -> u32
     requires { length jobs.now < 2 ^ 32 }
     ensures { result ≡ cut_count at cycle jobs.now }
 {

@@ -1,27 +1,23 @@
 //! A change of plan at which soft work goes over too.
 
-ghost use Rattle.std.specs.Prelude.{◌≡◌, ◌≢◌, ℕ, ◌+◌, ◌-◌, ◌≤◌, ◌<◌, ◌^◌, ◌∷◌, [], false, true, Contains, drop, filter, length, take, IfErr, IfOk, None, OnErr, OnOk, Some, slice_get};
+ghost use Rattle.std.specs.Prelude.{◌≡◌, ◌≢◌, ℕ, ◌+◌, ◌-◌, ◌≤◌, ◌<◌, ◌^◌, ◌∷◌, [], false, true, drop, length, take, IfErr, IfOk, None, OnErr, OnOk, Some, slice_get};
 ghost use Rattle.slot_core.specs.declared.TheConstants.{OFFER_LIMIT};
 ghost use Rattle.slot_core.specs.declared.jobs.SoftJob.{SoftJob};
 ghost use Rattle.slot_core.specs.Keeping.Executives.{StandsFor};
-ghost use Rattle.slot_core.specs.Keeping.Plans.{IsPlan};
-ghost use Rattle.slot_core.specs.Offline.Keys.{is_offline};
 ghost use Rattle.slot_core.specs.Runs.Histories.{History};
 ghost use Rattle.slot_core.specs.Runs.Traces.{started};
-ghost use Rattle.plan_change.specs.Carrying.{carried_from, cut_count, offers_from, offers_of};
+ghost use Rattle.plan_change.specs.Carrying.{carried_from, offers_from};
 ghost use Rattle.plan_change.specs.Changed.{CanStartWith, HasNoRoom};
-ghost use Rattle.plan_change.specs.Offers.{MayBeOffered};
-ghost use Rattle.plan_change.specs.SoftWork.{AreTaken, IsChangedWithSoft, IsCutOffWithSoft, IsMovedWithSoft, MayWait, RowsAreApart, goes_soft, moved_after, soft_from};
+ghost use Rattle.plan_change.specs.SoftWork.{AreTaken, IsChangedWithSoft, IsCutOffWithSoft, IsMovedWithSoft, MayWait, goes_soft, moved_after, soft_from};
 
 use crate::keep::Keep;
 use crate::list::CarriedList;
-use crate::moves::{Moved, Refusal, cut_count, list_carried, offer_one};
-use crate::offers::{next_row, offer_of, row_in};
+use crate::moves::{Moved, Refusal, carry_counted};
 use interval_row::SpareTable;
-use slot_core::{Job, SoftJob, Steps};
+use slot_core::SoftJob;
 use slot_exec::Exec;
 use std::marker::Brand;
-use std::sync::ledger::{Blank, Ledger};
+use std::sync::ledger::Blank;
 
 /// What a change has carried over, with soft work.
 #[derive(Clone, Copy, PartialEq, Eq)]
@@ -83,64 +79,9 @@ pub fn carry_with_soft<T: SpareTable>(
     ensures listed { list.new.items ≡ carried_from keep from.now }
     ensures places { list.new.places ≡ list.old.places }
 {
-    carry_counted::<T, Brand>(from, into, list, keep, first, Blank::new(1))
-}
-
-/// `carry_with_soft`, with steps that nobody asks for.
-fn carry_counted<T: SpareTable, L: Ledger>(
-    from: &Exec<T>,
-    into: &mut Exec<T>,
-    list: &mut CarriedList,
-    keep: Keep,
-    first: u32,
-    blank: Blank,
-) -> Result<MovedWithSoft, Refusal>
-    requires name { blank.name ≡ L.name }
-    requires parts { blank.parts ≡ L.parts }
-    requires some { 0 < L.parts }
-    requires fresh { StandsFor into.old started }
-    requires above { keep ≢ Keep.Drop → from.now.last_row < first }
-    requires rows { keep ≢ Keep.Drop → first + from.now.plan.cycle < 2 ^ 32 }
-    requires places { from.now.plan.cycle ≤ list.old.places }
-    ensures granted { OnOk result
-        (IsChangedWithSoft
-        into.old.plan
-        (offers_from keep from.now into.old.plan.cycle first)
-        (soft_from from.now into.old.plan.tasks.soft_limit)
-        into.new) }
-    ensures moved { IfOk result
-        (IsMovedWithSoft
-        keep
-        from.now
-        into.old.plan.cycle
-        into.old.plan.tasks.soft_limit) }
-    ensures refused { OnErr result
-        (¬ (CanStartWith
-        into.old.plan.tasks
-        (offers_from keep from.now into.old.plan.cycle first))) }
-    ensures no_room { IfErr result
-        (HasNoRoom
-        into.old.plan.tasks
-        (offers_from keep from.now into.old.plan.cycle first)) }
-    ensures cut_off { IfErr result
-        (λ refusal. IsCutOffWithSoft
-        into.old.plan
-        (offers_from keep from.now into.old.plan.cycle first)
-        (soft_from from.now into.old.plan.tasks.soft_limit)
-        refusal
-        into.new) }
-    ensures plan { into.new.plan ≡ into.old.plan }
-    ensures listed { list.new.items ≡ carried_from keep from.now }
-    ensures places { list.new.places ≡ list.old.places }
-{
-    let mut steps: Steps<L> = Steps::new(blank);
-    let at = from.now();
-    list_carried(from, list, at, keep, &mut steps);
-    into.now();
-    let cycle = into.cycle();
     let waiting = from.soft_count();
     let soft = waiting.min(into.tasks().soft_limit);
-    match move_all(from, into, list.jobs(), soft, at, cycle, first, &mut steps) {
+    match carry_counted::<T, Brand>(from, into, list, soft, keep, first, Blank::new(1)) {
         Ok(jobs) => Ok(MovedWithSoft {
             jobs,
             soft,
@@ -150,75 +91,9 @@ fn carry_counted<T: SpareTable, L: Ledger>(
     }
 }
 
-/// Offers these jobs one after the other, until one has no room. Before each offer the soft jobs of
-/// lower rows go over, and after the last one the others: so many in all.
-fn move_all<T: SpareTable, L: Ledger>(
-    from: &Exec<T>,
-    into: &mut Exec<T>,
-    jobs: &[Job],
-    soft: u32,
-    at: u64,
-    cycle: u32,
-    first: u32,
-    steps: &mut Steps<L>,
-) -> Result<Moved, Refusal>
-    requires plan { IsPlan into.old.plan }
-    requires fresh { StandsFor into.old started }
-    requires cycle { cycle ≡ into.old.plan.cycle }
-    requires few { length jobs.now < 2 ^ 32 }
-    requires rows { (job : Job) → Contains jobs.now job → is_offline job.key ≡ true
-        → first + length jobs.now < 2 ^ 32 }
-    requires offers { MayBeOffered cycle 0 (offers_of at cycle first jobs.now) }
-    requires there { soft ≤ length from.now.scene.soft }
-    requires limit { soft ≤ into.old.plan.tasks.soft_limit }
-    requires waits { MayWait 0 (take soft from.now.scene.soft) }
-    requires apart { RowsAreApart
-        (offers_of at cycle first jobs.now)
-        (take soft from.now.scene.soft) }
-    ensures granted { OnOk result
-        (IsChangedWithSoft
-        into.old.plan
-        (offers_of at cycle first jobs.now)
-        (take soft from.now.scene.soft)
-        into.new) }
-    ensures moved { IfOk result (λ moved. (moved.carried ≡ length jobs.now)
-        × (moved.cut ≡ cut_count at cycle jobs.now)) }
-    ensures refused { OnErr result
-        (¬ (CanStartWith into.old.plan.tasks (offers_of at cycle first jobs.now))) }
-    ensures no_room { IfErr result
-        (HasNoRoom into.old.plan.tasks (offers_of at cycle first jobs.now)) }
-    ensures cut_off { IfErr result
-        (λ refusal. IsCutOffWithSoft
-        into.old.plan
-        (offers_of at cycle first jobs.now)
-        (take soft from.now.scene.soft)
-        refusal
-        into.new) }
-    ensures plan { into.new.plan ≡ into.old.plan }
-{
-    let mut next = first;
-    let mut passed = 0;
-    for job in jobs {
-        let offer = offer_of(job, at, cycle, row_in(next, job));
-        passed = take_soft(from, into, passed, soft, Some(offer.row));
-        if let Some(evidence) = offer_one(into, offer, steps) {
-            return Err(Refusal {
-                row: offer.row,
-                evidence,
-            });
-        }
-        next = next_row(next, job);
-    }
-    take_soft(from, into, passed, soft, None);
-    Ok(Moved {
-        carried: jobs.len() as u32,
-        cut: cut_count(jobs, at, cycle),
-    })
-}
-
 /// Soft jobs go over from this place on, up to so many in all: those that stand before this row, or
 /// all. The place of the next one.
-fn take_soft<T: SpareTable>(
+pub(crate) fn take_soft<T: SpareTable>(
     from: &Exec<T>,
     into: &mut Exec<T>,
     passed: u32,

@@ -5,7 +5,7 @@ ghost use Rattle.slot_core.specs.Keeping.Plans.{IsPlan, PlanParts};
 ghost use Rattle.table_codec.specs.Grammar.{Spells};
 ghost use Rattle.plan_change.specs.declared.keep.Keep.{Keep};
 ghost use Rattle.slot_port.specs.declared.status.TheConstants.{BAD_TABLE, CLOSED, MEMORY, OK, REFUSED};
-ghost use Rattle.slot_port.specs.Changes.{CannotCarry, CannotChange, Carries, Changes, asked_status, carry_status, job_status, jobs_in, keep_named};
+ghost use Rattle.slot_port.specs.Changes.{CannotCarry, CannotCarryWithSoft, CannotChange, Carries, CarriesWithSoft, Changes, ChangesWithSoft, asked_status, carry_status, job_status, jobs_in, keep_named};
 ghost use Rattle.slot_port.specs.Faults.{TellsFault};
 
 use crate::handle::Slots;
@@ -118,6 +118,61 @@ pub extern "C" fn ss_carry(
     status
 }
 
+/// `ss_carry`, where soft work goes over too.
+#[unsafe(no_mangle)]
+pub extern "C" fn ss_carry_with_soft(
+    from: &mut Slots,
+    into: &mut Slots,
+    alloc: Global,
+    first: u32,
+    keep: u32,
+    told: &mut Told,
+) -> u32
+    requires valid_from { from.old.open ≡ from.old.handle.there }
+    requires valid_into { into.old.open ≡ into.old.handle.there }
+    ensures valid_from { from.new.open ≡ from.new.handle.there }
+    ensures valid_into { into.new.open ≡ into.new.handle.there }
+    ensures open_from { from.new.open ≡ from.old.open }
+    ensures open_into { into.new.open ≡ into.old.open }
+    ensures closed { from.old.open ≡ false ⊎ into.old.open ≡ false → result ≡ CLOSED }
+    ensures stays { from.new.handle.value ≡ from.old.handle.value }
+    ensures untouched { result ≢ OK → result ≢ REFUSED
+        → into.new.handle.value ≡ into.old.handle.value }
+    ensures silent { result ≢ OK → result ≢ REFUSED → told.new ≡ told.old }
+    ensures asked { from.old.open ≡ true → into.old.open ≡ true
+        → carry_status from.old.handle.value into.old.handle.value first keep ≢ OK
+        → result ≡ carry_status from.old.handle.value into.old.handle.value first keep }
+    ensures done { from.old.open ≡ true → into.old.open ≡ true
+        → carry_status from.old.handle.value into.old.handle.value first keep ≡ OK
+        → (result ≡ OK) ⊎ (result ≡ REFUSED) }
+    ensures carries { (k : Keep) → keep_named keep ≡ Some k → result ≡ OK
+        → CarriesWithSoft
+        k
+        first
+        from.old.handle.value
+        into.old.handle.value
+        into.new.handle.value
+        told.new }
+    ensures refused { (k : Keep) → keep_named keep ≡ Some k → result ≡ REFUSED
+        → CannotCarryWithSoft
+        k
+        first
+        from.old.handle.value
+        into.old.handle.value
+        into.new.handle.value
+        told.new }
+{
+    if !from.open || !into.open {
+        return CLOSED;
+    }
+    let mut unit = from.take(alloc);
+    let mut second = into.take(alloc);
+    let status = unit.carry_with_soft_to(&mut second, first, keep, told);
+    *from = Slots::opened(unit);
+    *into = Slots::opened(second);
+    status
+}
+
 /// Opens the plan that the bytes spell, and carries over to it what the executive has left: the
 /// handle has the second one then, or stays as it was.
 #[unsafe(no_mangle)]
@@ -159,6 +214,61 @@ pub extern "C" fn ss_change(
     match unit.changed(alloc, table, first, keep, told) {
         Ok(next) => {
             *slots = Slots::opened(next);
+            OK
+        }
+        Err(status) => {
+            *slots = Slots::opened(unit);
+            status
+        }
+    }
+}
+
+/// `ss_change`, where soft work goes over too.
+#[unsafe(no_mangle)]
+pub extern "C" fn ss_change_with_soft(
+    slots: &mut Slots,
+    alloc: Global,
+    table: &[u8],
+    first: u32,
+    keep: u32,
+    told: &mut Told,
+) -> u32
+    requires valid { slots.old.open ≡ slots.old.handle.there }
+    ensures valid { slots.new.open ≡ slots.new.handle.there }
+    ensures open { slots.new.open ≡ slots.old.open }
+    ensures closed { slots.old.open ≡ false → result ≡ CLOSED }
+    ensures stays { result ≢ OK → slots.new.handle.value ≡ slots.old.handle.value }
+    ensures unsaid { slots.old.open ≡ false → told.new ≡ told.old }
+    ensures asked { slots.old.open ≡ true
+        → asked_status slots.old.handle.value first (keep_named keep) ≢ OK
+        → (result ≡ asked_status slots.old.handle.value first (keep_named keep))
+        × (told.new ≡ told.old) }
+    ensures statuses { slots.old.open ≡ true
+        → asked_status slots.old.handle.value first (keep_named keep) ≡ OK
+        → (result ≡ OK) ⊎ (result ≡ MEMORY) ⊎ (result ≡ BAD_TABLE) ⊎ (result ≡ REFUSED) }
+    ensures changes { (k : Keep) → keep_named keep ≡ Some k → result ≡ OK
+        → ChangesWithSoft
+        k
+        first
+        slots.old.handle.value
+        table.now
+        slots.new.handle.value
+        told.new }
+    ensures refused { (k : Keep) → keep_named keep ≡ Some k → result ≡ REFUSED
+        → CannotChange k first slots.old.handle.value table.now told.new }
+    ensures faulty { result ≡ BAD_TABLE → TellsFault table.now told.new }
+    ensures every { (plan : PlanParts) → IsPlan plan → Spells table.now plan → result ≡ OK
+        → slots.new.handle.value.plan ≡ plan }
+    ensures spelled { (plan : PlanParts) → IsPlan plan → Spells table.now plan
+        → result ≢ BAD_TABLE }
+{
+    if !slots.open {
+        return CLOSED;
+    }
+    let mut unit = slots.take(alloc);
+    match unit.changed_with_soft(alloc, table, first, keep, told) {
+        Ok(second) => {
+            *slots = Slots::opened(second);
             OK
         }
         Err(status) => {

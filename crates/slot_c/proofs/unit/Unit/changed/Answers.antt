@@ -2,7 +2,6 @@
 use Rattle.std.proofs.Common.{◌≡◌, subst, sym, ◌∙◌, ap}
 use Rattle.std.proofs.lemmas.Result.{IfOk-weaker}
 use Rattle.slot_core.specs.Keeping.Executives.{Executive}
-use Rattle.slot_core.specs.Keeping.Plans.{PlanParts}
 use Rattle.slot_port.specs.Changes.{Changes}
 use Rattle.slot_c.proofs.unit.Unit.changed.Goals as goal
 

@@ -2,7 +2,7 @@
 use Rattle.std.proofs.Common.{◌+◌, ◌≤◌, drop, take}
 use Rattle.plan_change.specs.Carrying.{offers_of}
 use Rattle.plan_change.proofs.SoftWay.{IsGoing}
-use Rattle.plan_change.proofs.with_soft.move_all.Given as goal
+use Rattle.plan_change.proofs.moves.move_all.Given as goal
 
 abbrev pub invariant-loop-job : goal.invariant-loop-job
 invariant-loop-job g l = record {

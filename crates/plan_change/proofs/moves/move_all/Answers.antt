@@ -10,7 +10,7 @@ use Rattle.plan_change.specs.SoftWork.{AreTaken}
 use Rattle.plan_change.proofs.OneMore.{next_row-low, offers-end, offers-next}
 use Rattle.plan_change.proofs.SoftRows.{waits-length}
 use Rattle.plan_change.proofs.SoftWay.{IsChanged-going, IsCutOff-going, IsGoing, IsGoing-next, IsGoing-reached, IsGoing-taken, none_stop, refused-going, room-going, waits-above}
-use Rattle.plan_change.proofs.with_soft.move_all.Goals as goal
+use Rattle.plan_change.proofs.moves.move_all.Goals as goal
 
 pub take_soft-passed-requires-clause-room : goal.take_soft-passed-requires-clause-room
 take_soft-passed-requires-clause-room g c =
