@@ -10,11 +10,13 @@ pub mod change;
 pub mod keep;
 pub mod laws;
 pub mod list;
+pub mod listing;
 pub mod moves;
 pub mod offers;
 
 pub use change::{ChangeFault, change_plan};
 pub use keep::Keep;
 pub use list::CarriedList;
+pub use listing::list_jobs;
 pub use moves::{Moved, Refusal, carry, is_fresh};
 pub use offers::Offer;
