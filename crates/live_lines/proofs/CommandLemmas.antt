@@ -13,13 +13,14 @@ use Rattle.slot_core.specs.Calls.Results.{◌>>=◌}
 use Rattle.key_texts.specs.KeyTexts.{cut_at}
 use Rattle.key_texts.specs.Numbers.{number_between}
 use Rattle.key_texts.proofs.DigitLemmas.{number_between-Some}
+use Rattle.plan_change.specs.declared.keep.Keep.{Keep}
 use Rattle.arrival_csv.specs.declared.kinds.Kind.{Kind}
 use Rattle.arrival_csv.specs.Kinds.{kind_of}
 use Rattle.arrival_csv.specs.Reading.{Read, event_of}
 use Rattle.arrival_csv.proofs.FittingLemmas.{event_of-fits}
-use Rattle.live_lines.specs.Commands.{Asked, command_of_text, command_of_two, command_of_word, event_of_fields, fields_of, fits_set}
+use Rattle.live_lines.specs.Commands.{Asked, command_of_text, command_of_two, command_of_word, event_of_fields, fields_of, fits_set, keep_of}
 use Rattle.live_lines.specs.FaultTexts.{line_fault}
-use Rattle.live_lines.specs.declared.commands.LiveCommand.TheVariants.{Arrive, Pass, Ahead}
+use Rattle.live_lines.specs.declared.commands.LiveCommand.TheVariants.{Arrive, Pass, Ahead, Carried}
 use Rattle.live_lines.specs.declared.line_fault.LineFault.TheVariants.{NoCommand, BadNumber}
 
 -- the test for text that answers by a result is the test
@@ -48,6 +49,11 @@ ahead-fits : (set : TaskSet) (number : List ℕ) (found : Option ℕ) → number
 ahead-fits set number None same = tt
 ahead-fits set number (Some slots) same = number_between-Some 1 REPLAY_LIMIT slots number same
 
+-- what is told of a change fits any set
+carried-fits : (set : TaskSet) (found : Option Keep) → Fits set (ok_or found NoCommand >>= (λ keep. Ok (Carried keep)))
+carried-fits set None = tt
+carried-fits set (Some keep) = refl
+
 -- an event that is read fits the set
 event-fits : (set : TaskSet) (kind : Kind) (fields : List (List ℕ)) (read : Read Event) → event_of set 0 kind fields ≡ read
     → Fits set (result_map_both Arrive line_fault read)
@@ -66,7 +72,10 @@ command_of_two-fits set word rest =
       | inl is ↦ rw is (slots-fit set rest (number_between 1 REPLAY_LIMIT rest) refl)
       | inr other ↦ elim (cases_Bool (bytes_eq word (codes "ahead"))) [
         | inl is ↦ rw (other, is) (ahead-fits set rest (number_between 1 REPLAY_LIMIT rest) refl)
-        | inr none ↦ rw (other, none) (arrival-fits set (kind_of word) rest)
+        | inr none ↦ elim (cases_Bool (bytes_eq word (codes "carried"))) [
+          | inl is ↦ rw (other, none, is) (carried-fits set (keep_of rest))
+          | inr neither ↦ rw (other, none, neither) (arrival-fits set (kind_of word) rest)
+        ]
       ]
     ]
 

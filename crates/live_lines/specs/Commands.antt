@@ -1,5 +1,5 @@
 -- The commands that the lines of a live run write.
-use Rattle.std.specs.Prelude.{ℕ, Bool, true, List, [], ◌∷◌, codes, if◌then◌else◌, Result, Ok, Err, ok_or}
+use Rattle.std.specs.Prelude.{ℕ, Bool, true, List, [], ◌∷◌, codes, if◌then◌else◌, Option, Some, None, Result, Ok, Err, ok_or}
 use Rattle.std.specs.Option.{option_map_or}
 use Rattle.std.specs.Result.{result_map_both}
 use Rattle.std.specs.Str.{bytes_eq, is_utf8}
@@ -11,11 +11,13 @@ use Rattle.slot_core.specs.Runs.Arrivals.{event_fits}
 use Rattle.slot_core.specs.Sets.Ranges.{is_between}
 use Rattle.key_texts.specs.KeyTexts.{cut_at}
 use Rattle.key_texts.specs.Numbers.{number_between}
+use Rattle.plan_change.specs.declared.keep.Keep.{Keep}
+use Rattle.plan_change.specs.declared.keep.Keep.TheVariants.{Drop, Started, Graphs}
 use Rattle.arrival_csv.specs.declared.kinds.Kind.{Kind}
 use Rattle.arrival_csv.specs.Kinds.{kind_of}
 use Rattle.arrival_csv.specs.Reading.{Read, event_of}
 use Rattle.live_lines.specs.declared.commands.LiveCommand.{LiveCommand}
-use Rattle.live_lines.specs.declared.commands.LiveCommand.TheVariants.{Arrive, Pass, Ahead, End}
+use Rattle.live_lines.specs.declared.commands.LiveCommand.TheVariants.{Arrive, Pass, Ahead, Carried, End}
 use Rattle.live_lines.specs.declared.line_fault.LineFault.{LineFault}
 use Rattle.live_lines.specs.declared.line_fault.LineFault.TheVariants.{NoCommand, BadNumber, NotUtf8}
 use Rattle.live_lines.specs.FaultTexts.{line_fault}
@@ -47,6 +49,20 @@ ahead_command number = do
   slots ← slot_count number
   Ok (Ahead slots)
 
+-- which offline jobs go on at a change of plan, by its word
+abbrev pub keep_of : List ℕ → Option Keep
+keep_of word =
+    if bytes_eq word (codes "drop") then Some Drop
+    else if bytes_eq word (codes "started") then Some Started
+    else if bytes_eq word (codes "graphs") then Some Graphs
+    else None
+
+-- what a change of plan would carry over is told
+abbrev pub carried_command : List ℕ → Asked
+carried_command word = do
+  keep ← ok_or (keep_of word) NoCommand
+  Ok (Carried keep)
+
 -- the fields of what stands after the first word: two where it has a space (byte 32), else one
 abbrev pub fields_of : List ℕ → List (List ℕ)
 fields_of rest = option_map_or (λ parts. parts.0 ∷ parts.1 ∷ []) (cut_at 32 rest) (rest ∷ [])
@@ -67,6 +83,7 @@ abbrev pub command_of_two : TaskSet → List ℕ → List ℕ → Asked
 command_of_two set word rest =
     if bytes_eq word (codes "slots") then slots_command rest
     else if bytes_eq word (codes "ahead") then ahead_command rest
+    else if bytes_eq word (codes "carried") then carried_command rest
     else arrival_command set word rest
 
 -- the command of a line that is UTF-8
@@ -84,4 +101,5 @@ abbrev pub fits_set : TaskSet → LiveCommand → Bool
 fits_set set (Arrive event) = event_fits set event
 fits_set set (Pass slots) = is_between 1 REPLAY_LIMIT slots
 fits_set set (Ahead slots) = is_between 1 REPLAY_LIMIT slots
+fits_set set (Carried keep) = true
 fits_set set End = true

@@ -4,12 +4,13 @@ ghost use Rattle.std.specs.Prelude.{◌≡◌, [], ◌∷◌, true, IfOk};
 ghost use Rattle.std.specs.Str.{is_utf8};
 ghost use Rattle.slot_core.specs.Sets.Ranges.{is_sound};
 ghost use Rattle.arrival_csv.specs.Reading.{event_of};
-ghost use Rattle.live_lines.specs.Commands.{ahead_command, arrival_command, command_of_text, command_of_two, command_of_word, event_of_fields, fields_of, fits_set, live_command_of, slot_count, slots_command};
+ghost use Rattle.live_lines.specs.Commands.{ahead_command, arrival_command, carried_command, command_of_text, command_of_two, command_of_word, event_of_fields, fields_of, fits_set, keep_of, live_command_of, slot_count, slots_command};
 
 use crate::line_fault::LineFault;
 use arrival_csv::{Kind, done_of, firm_of, soft_of, sporadic_of, withdraw_of};
 use faults::ArrivalFault;
 use key_texts::{cut_at, number_between};
+use plan_change::Keep;
 use slot_core::{Event, REPLAY_LIMIT, TaskSet};
 
 /// What a line of a live run asks for.
@@ -21,6 +22,8 @@ pub enum LiveCommand {
     Pass(u32),
     /// What comes next is told, at most so many slots ahead. No slot passes.
     Ahead(u32),
+    /// What a change of plan would carry over is told. Nothing changes.
+    Carried(Keep),
     /// The run ends.
     End,
 }
@@ -79,6 +82,9 @@ fn command_of_two(tasks: &TaskSet, word: &[u8], rest: &[u8]) -> Result<LiveComma
     if word == b"ahead".as_slice() {
         return ahead_command(rest);
     }
+    if word == b"carried".as_slice() {
+        return carried_command(rest);
+    }
     arrival_command(tasks, word, rest)
 }
 
@@ -106,6 +112,30 @@ fn ahead_command(number: &[u8]) -> Result<LiveCommand, LineFault>
 {
     let slots = slot_count(number)?;
     Ok(LiveCommand::Ahead(slots))
+}
+
+/// The command that asks what a change of plan would carry over.
+fn carried_command(word: &[u8]) -> Result<LiveCommand, LineFault>
+    ensures { result ≡ carried_command word.now }
+{
+    let keep = keep_of(word).ok_or(LineFault::NoCommand)?;
+    Ok(LiveCommand::Carried(keep))
+}
+
+/// Which offline jobs go on at a change of plan, by its word.
+fn keep_of(word: &[u8]) -> Option<Keep>
+    ensures { result ≡ keep_of word.now }
+{
+    if word == b"drop".as_slice() {
+        return Some(Keep::Drop);
+    }
+    if word == b"started".as_slice() {
+        return Some(Keep::Started);
+    }
+    if word == b"graphs".as_slice() {
+        return Some(Keep::Graphs);
+    }
+    None
 }
 
 /// A number of slots, at least one and at most those of a replay.

@@ -11,7 +11,7 @@ use Rattle.slot_core.specs.Output.Texts.{trace_text}
 use Rattle.slot_core.specs.Runs.Histories.{History, last_row, time_of}
 use Rattle.slot_core.specs.Runs.Traces.{arrive, entries, history_after, started}
 use Rattle.live_lines.specs.Lines.{Heard}
-use Rattle.live_lines.specs.declared.commands.LiveCommand.TheVariants.{Arrive, Pass, Ahead, End}
+use Rattle.live_lines.specs.declared.commands.LiveCommand.TheVariants.{Arrive, Pass, Ahead, Carried, End}
 use Rattle.live_lines.specs.Commands.{Asked}
 use Rattle.live_lines.specs.Rows.{record_row, record_text}
 use Rattle.live_run.specs.Dialogues.{Exchange, command_heard, asked, next_history, exchanges_from, exchanges, history_heard, answer_text, fault_text, arrival_made, arrivals_made, faults_text, rows_text, start_text, is_end, asks_end, AreAnswers, GoesOn, IsAnswer, IsOver}
@@ -96,6 +96,7 @@ end-asked set h heard = of_command (command_heard set heard) refl
     of_command (Err fault) is = rw is refl
     of_command (Ok End) is = rw is refl
     of_command (Ok (Ahead slots)) is = rw is refl
+    of_command (Ok (Carried keep)) is = rw is refl
     of_command (Ok (Arrive event)) is =
         elim (cases_Bool (nat_lt (last_row h) ARRIVAL_LIMIT)) [
           | inl may ↦ rw (is, may) refl

@@ -1,5 +1,6 @@
 pub mod DialogueLemmas
 pub mod HelpNumbers
+pub mod LineExamples
 pub mod Lines
 pub mod LookLemmas
 pub mod PassedSlots

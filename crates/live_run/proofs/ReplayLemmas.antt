@@ -18,10 +18,11 @@ use Rattle.slot_core.specs.Runs.Traces.{arrive, slot, told_of, entries, history_
 use Rattle.slot_core.specs.Sets.Cycles.{cycle_of}
 use Rattle.slot_facts.proofs.Legal.Traces.{last_row-arrival}
 use Rattle.slot_facts.proofs.Replays.Entries.{entries_left, entries_left-arrival, entries_left-end, entries_left-start, entry_after, time_of-arrival}
+use Rattle.plan_change.specs.declared.keep.Keep.{Keep}
 use Rattle.live_lines.specs.Lines.{Heard, line, too_long, no_more}
 use Rattle.live_lines.proofs.CommandLemmas.{command_of_text-fits}
 use Rattle.live_lines.specs.declared.commands.LiveCommand.{LiveCommand}
-use Rattle.live_lines.specs.declared.commands.LiveCommand.TheVariants.{Arrive, Pass, Ahead, End}
+use Rattle.live_lines.specs.declared.commands.LiveCommand.TheVariants.{Arrive, Pass, Ahead, Carried, End}
 use Rattle.live_lines.specs.declared.line_fault.LineFault.{LineFault}
 use Rattle.live_lines.specs.Commands.{Asked, fits_set, live_command_of}
 use Rattle.live_run.specs.Dialogues.{Exchange, allowed, asked, asks_end, command_heard, exchanges, exchanges_from, history_heard, next_history, answer_text, arrivals_made, start_text, AreAnswers, GoesOn, IsAnswer}
@@ -33,6 +34,7 @@ abbrev MayAsk : TaskSet → History → Asked → Type 0
 MayAsk set h (Ok (Arrive event)) = (event_fits set event ≡ true) × (last_row h < ARRIVAL_LIMIT)
 MayAsk set h (Ok (Pass slots)) = ⊤
 MayAsk set h (Ok (Ahead slots)) = ⊤
+MayAsk set h (Ok (Carried keep)) = ⊤
 MayAsk set h (Ok End) = ⊥
 MayAsk set h (Err fault) = ⊤
 
@@ -61,6 +63,7 @@ allowed-may set h heard (Pass slots) is goes =
       | inr past ↦ rw past tt
     ]
 allowed-may set h heard (Ahead slots) is goes = tt
+allowed-may set h heard (Carried keep) is goes = tt
 allowed-may set h heard End is goes = let ends = rw is at goes in cc
 
 command-may : (set : TaskSet) (h : History) (heard : Heard) (a : Asked) → command_heard set heard ≡ a → asks_end set heard ≡ false → MayAsk set h (asked set h heard)
@@ -73,6 +76,7 @@ end-asked set h heard (Err fault) is ends = let none = rw is at ends in cc
 end-asked set h heard (Ok (Arrive event)) is ends = let none = rw is at ends in cc
 end-asked set h heard (Ok (Pass slots)) is ends = let none = rw is at ends in cc
 end-asked set h heard (Ok (Ahead slots)) is ends = let none = rw is at ends in cc
+end-asked set h heard (Ok (Carried keep)) is ends = let none = rw is at ends in cc
 end-asked set h heard (Ok End) is ends = rw is refl
 
 -- the lines of the entries that one exchange makes
@@ -89,6 +93,7 @@ answer-traced : (set : TaskSet) (cycle number : ℕ) (h : History) (a : Asked) (
 answer-traced set cycle number h (Ok (Arrive event)) text own = own
 answer-traced set cycle number h (Ok (Pass slots)) text own = own
 answer-traced set cycle number h (Ok (Ahead slots)) text own = refl
+answer-traced set cycle number h (Ok (Carried keep)) text own = refl
 answer-traced set cycle number h (Ok End) text own = own
 answer-traced set cycle number h (Err fault) text own = refl
 
@@ -140,6 +145,15 @@ replayed-refused set cycle n number h fault xs rest = record {
 -- and so does a look ahead
 replayed-look : (set : TaskSet) (cycle n number : ℕ) (h : History) (slots : ℕ) (xs : List Exchange) → AreReplayed set cycle n h xs → AreReplayed set cycle n h (record { number = number; before = h; asked = Ok (Ahead slots) } ∷ xs)
 replayed-look set cycle n number h slots xs rest = record {
+  later = rest.later;
+  few = rest.few;
+  follow = rest.follow;
+  text = rest.text;
+}
+
+-- and what is told of a change of plan
+replayed-carried : (set : TaskSet) (cycle n number : ℕ) (h : History) (keep : Keep) (xs : List Exchange) → AreReplayed set cycle n h xs → AreReplayed set cycle n h (record { number = number; before = h; asked = Ok (Carried keep) } ∷ xs)
+replayed-carried set cycle n number h keep xs rest = record {
   later = rest.later;
   few = rest.few;
   follow = rest.follow;
@@ -206,6 +220,8 @@ replayed-next set cycle n number h (Ok (Pass count)) xs may within slots later =
     replayed-slots set cycle n number h count (xs after) within (later after refl (omega (arith, row-slots set cycle h count, within)) slots)
 replayed-next set cycle n number h (Ok (Ahead count)) xs may within slots later =
     replayed-look set cycle n number h count (xs h) (later h refl within slots)
+replayed-next set cycle n number h (Ok (Carried keep)) xs may within slots later =
+    replayed-carried set cycle n number h keep (xs h) (later h refl within slots)
 replayed-next set cycle n number h (Ok End) xs may within slots later = elim may [ ]
 
 -- the time after all that is heard

@@ -13,11 +13,12 @@ use Rattle.slot_core.specs.Runs.Histories.{History, last_row, time_of}
 use Rattle.slot_core.specs.Runs.Traces.{Occurrence, arrive, slot, end_entry, entries, history_after, shown_entry, started}
 use Rattle.live_lines.specs.Lines.{Heard, line, too_long, no_more}
 use Rattle.live_lines.specs.declared.commands.LiveCommand.{LiveCommand}
-use Rattle.live_lines.specs.declared.commands.LiveCommand.TheVariants.{Arrive, Pass, Ahead, End}
+use Rattle.live_lines.specs.declared.commands.LiveCommand.TheVariants.{Arrive, Pass, Ahead, Carried, End}
 use Rattle.live_lines.specs.declared.line_fault.LineFault.TheVariants.{TooLong, NoMoreRows, NoMoreSlots}
 use Rattle.live_lines.specs.Commands.{Asked, live_command_of}
 use Rattle.live_lines.specs.FaultTexts.{fault_line}
 use Rattle.live_lines.specs.Rows.{record_text}
+use Rattle.live_run.specs.Carried.{carried_text}
 use Rattle.live_run.specs.Looks.{TellsLook}
 
 -- the command that is heard: that no line is left is the command `end`
@@ -33,6 +34,7 @@ allowed row time (Arrive event) =
 allowed row time (Pass slots) =
     if nat_le (time + slots) TIME_LIMIT then Ok (Pass slots) else Err NoMoreSlots
 allowed row time (Ahead slots) = Ok (Ahead slots)
+allowed row time (Carried keep) = Ok (Carried keep)
 allowed row time End = Ok End
 
 -- what is asked for after a history: the command, or why it is refused
@@ -42,11 +44,12 @@ asked set h heard = do
   allowed (last_row h) (time_of h) command
 
 -- what happens after a history where this is asked for: the arrival in the next row, or the slots;
--- nothing where a look ahead is asked for
+-- nothing where it is asked what comes, or what a change of plan would carry over
 abbrev pub happening : History → Asked → List Occurrence
 happening h (Ok (Arrive event)) = arrive (last_row h + 1) event ∷ []
 happening h (Ok (Pass slots)) = replicate slots slot
 happening h (Ok (Ahead slots)) = []
+happening h (Ok (Carried keep)) = []
 happening h (Ok End) = []
 happening h (Err fault) = []
 
@@ -74,10 +77,11 @@ history_heard set cycle h [] = h
 history_heard set cycle h (heard ∷ later) =
     history_heard set cycle (next_history set cycle h (asked set h heard)) later
 
--- what answers, but for a look ahead: the lines of the entries, at the end that of the end, and the
--- line `refused` where there is a fault
+-- what answers, but for a look ahead: the lines of the entries, those of what a change would carry
+-- over, at the end that of the end, and the line `refused` where there is a fault
 abbrev pub answer_text : TaskSet → ℕ → History → Asked → List ℕ
 answer_text set cycle h (Ok End) = entry_line set (end_entry (time_of h))
+answer_text set cycle h (Ok (Carried keep)) = carried_text set cycle keep h
 answer_text set cycle h (Ok command) =
     trace_text set (entries set cycle h (happening h (Ok command)))
 answer_text set cycle h (Err fault) = codes "refused" ++ 10 ∷ []

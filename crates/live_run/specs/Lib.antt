@@ -1,4 +1,5 @@
 pub mod Calls
+pub mod Carried
 pub mod Dialogues
 pub mod FaultTexts
 pub mod Looks

@@ -9,13 +9,14 @@ use Rattle.slot_core.specs.Runs.Histories.{time_of}
 use Rattle.slot_core.specs.Runs.Traces.{started, trace}
 use Rattle.slot_core.specs.Sets.Cycles.{cycle_of}
 use Rattle.live_lines.specs.Commands.{Asked}
-use Rattle.live_lines.specs.declared.commands.LiveCommand.TheVariants.{Ahead}
+use Rattle.live_lines.specs.declared.commands.LiveCommand.TheVariants.{Ahead, Carried}
 use Rattle.live_lines.specs.Lines.{Heard}
 use Rattle.live_run.specs.Dialogues.{Exchange, exchanges, history_heard, arrivals_made, start_text, AreAnswers, IsOver}
 
--- lines of a trace answer: it is no look ahead, and is not refused
+-- lines of a trace answer: it is no look ahead, asks for no change, and is not refused
 abbrev pub is_traced : Asked → Bool
 is_traced (Ok (Ahead slots)) = false
+is_traced (Ok (Carried keep)) = false
 is_traced (Ok command) = true
 is_traced (Err fault) = false
 
@@ -33,9 +34,9 @@ slots_passed set heards = time_of (history_heard set (cycle_of set) started hear
 abbrev pub have_slots : ℕ → List Arrival → Bool
 have_slots n arrivals = list_all (λ (a : Arrival). nat_lt a.slot n) arrivals
 
--- the answers of a dialogue that is over, without the lines `refused` and those of looks ahead, are
--- the trace of its arrivals over its slots, where a slot passes after each arrival: they fit, and a
--- replay of them writes the same text
+-- the answers of a dialogue that is over, without those of lines that are refused, of looks ahead
+-- and of what a change would carry over, are the trace of its arrivals over its slots, where a slot
+-- passes after each arrival: they fit, and a replay of them writes the same text
 abbrev pub DialoguesAreReplays : Type 0
 DialoguesAreReplays =
     (set : TaskSet) (heards : List Heard) (answers : List (List ℕ)) → IsOver set heards

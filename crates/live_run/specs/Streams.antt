@@ -10,7 +10,7 @@ use Rattle.slot_core.specs.Runs.Histories.{History}
 use Rattle.slot_core.specs.Runs.Traces.{started}
 use Rattle.slot_io.specs.Sinks.{AppendsPart}
 use Rattle.live_lines.specs.Lines.{Heard}
-use Rattle.live_lines.specs.declared.commands.LiveCommand.TheVariants.{Arrive, Pass, Ahead, End}
+use Rattle.live_lines.specs.declared.commands.LiveCommand.TheVariants.{Arrive, Pass, Ahead, Carried, End}
 use Rattle.live_lines.specs.Commands.{Asked}
 use Rattle.live_lines.specs.Rows.{record_text}
 use Rattle.live_run.specs.declared.streams.DialogueFault.{DialogueFault}
@@ -43,6 +43,7 @@ FitsNow exec (Ok (Arrive event)) =
     × (exec.scene.time ≤ TIME_LIMIT)
 FitsNow exec (Ok (Pass slots)) = exec.scene.time + slots ≤ TIME_LIMIT
 FitsNow exec (Ok (Ahead slots)) = 1 ≤ slots
+FitsNow exec (Ok (Carried keep)) = ⊤
 FitsNow exec (Ok End) = ⊤
 FitsNow exec (Err fault) = ⊤
 

@@ -18,6 +18,7 @@ ghost use Rattle.live_lines.specs.Lines.{heard};
 ghost use Rattle.live_run.specs.Dialogues.{allowed, asked, command_heard, next_history};
 ghost use Rattle.live_run.specs.Streams.{exchange_texts, seen, ArePut, ArePutInPart, FitsNow, IsAnswered, IsAnsweredInPart};
 
+use crate::carried::tell_carried;
 use crate::looks::look;
 use crate::puts::{put_answer, put_end, put_entry, put_fault, put_row};
 use crate::record::RecordFile;
@@ -25,6 +26,7 @@ use crate::streams::{DialogueFault, Streams};
 use arrival_replay::{happen, tell_arrival};
 use interval_row::SpareTable;
 use live_lines::{Given, LineFault, LineSource, LiveCommand, live_command_of};
+use plan_change::CarriedList;
 use slot_core::{ARRIVAL_LIMIT, Arrival, Event, Failed, Steps, TIME_LIMIT, TaskSet};
 use slot_exec::Exec;
 use slot_io::Sink;
@@ -74,12 +76,14 @@ fn allowed(row: u32, time: u64, command: LiveCommand) -> Result<LiveCommand, Lin
 /// Answers what is asked for: the fault or the row of the record is put first, and then the answer.
 pub(crate) fn answer<T: SpareTable, K: Sink, R: RecordFile, E: Sink, L: Ledger>(
     exec: &mut Exec<T>,
+    list: &mut CarriedList,
     number: u64,
     asked: Result<LiveCommand, LineFault>,
     streams: &mut Streams<K, R, E>,
     steps: &mut Steps<L>,
 ) -> Result<(), DialogueFault>
-    requires { FitsNow exec.old asked }
+    requires fits { FitsNow exec.old asked }
+    requires places { exec.old.plan.cycle ≤ list.old.places }
     ensures put { OnOk result ((h : History) → StandsFor exec.old h → IsAnswered
         exec.old.plan.tasks exec.old.plan.cycle number h asked
         (seen K.written K.faults R.written R.faults E.written E.faults streams.old)
@@ -94,11 +98,13 @@ pub(crate) fn answer<T: SpareTable, K: Sink, R: RecordFile, E: Sink, L: Ledger>(
         (next_history exec.old.plan.tasks exec.old.plan.cycle h asked)) }
     ensures same { R.made streams.new.rows ≡ R.made streams.old.rows }
     ensures plan { exec.new.plan ≡ exec.old.plan }
+    ensures places { list.new.places ≡ list.old.places }
 {
     match asked {
         Ok(LiveCommand::Arrive(event)) => take(exec, event, streams),
         Ok(LiveCommand::Pass(slots)) => pass(exec, slots, &mut streams.answers, steps),
         Ok(LiveCommand::Ahead(most)) => look(exec, most, &mut streams.answers, steps),
+        Ok(LiveCommand::Carried(keep)) => tell_carried(exec, list, keep, &mut streams.answers),
         Ok(LiveCommand::End) => put_end(exec, &mut streams.answers),
         Err(fault) => refuse(number, fault, streams),
     }

@@ -14,6 +14,7 @@ use crate::record::RecordFile;
 use crate::streams::{DialogueFault, Streams};
 use interval_row::SpareTable;
 use live_lines::{Given, LineFault, LineSource, LiveCommand};
+use plan_change::CarriedList;
 use slot_core::{Steps, What};
 use slot_exec::Exec;
 use slot_io::Sink;
@@ -21,13 +22,16 @@ use std::marker::Brand;
 use std::sync::ledger::{Blank, Ledger};
 
 /// Answers the lines of a source until the end is asked for. First the line of the start is put;
-/// each line is answered before the next one is read, at the history so far. It takes no memory.
+/// each line is answered before the next one is read, at the history so far. It takes no memory:
+/// the list has as many places as a cycle of the plan has slots.
 pub fn converse<T: SpareTable, S: LineSource, K: Sink, R: RecordFile, E: Sink>(
     exec: &mut Exec<T>,
+    list: &mut CarriedList,
     source: &mut S,
     streams: &mut Streams<K, R, E>,
 ) -> Result<(), DialogueFault>
     requires started { StandsFor exec.old started }
+    requires places { exec.old.plan.cycle ≤ list.old.places }
     ensures over { OnOk result (IsDialogue
         exec.old.plan.tasks
         exec.old.plan.cycle
@@ -47,12 +51,13 @@ pub fn converse<T: SpareTable, S: LineSource, K: Sink, R: RecordFile, E: Sink>(
         (seen K.written K.faults R.written R.faults E.written E.faults streams.new)) }
     ensures same { R.made streams.new.rows ≡ R.made streams.old.rows }
 {
-    converse_counted::<T, S, K, R, E, Brand>(exec, source, streams, Blank::new(1))
+    converse_counted::<T, S, K, R, E, Brand>(exec, list, source, streams, Blank::new(1))
 }
 
 /// `converse`, with steps that nobody asks for.
 fn converse_counted<T: SpareTable, S: LineSource, K: Sink, R: RecordFile, E: Sink, L: Ledger>(
     exec: &mut Exec<T>,
+    list: &mut CarriedList,
     source: &mut S,
     streams: &mut Streams<K, R, E>,
     blank: Blank,
@@ -61,6 +66,7 @@ fn converse_counted<T: SpareTable, S: LineSource, K: Sink, R: RecordFile, E: Sin
     requires parts { blank.parts ≡ L.parts }
     requires ledger { 0 < L.parts }
     requires started { StandsFor exec.old started }
+    requires places { exec.old.plan.cycle ≤ list.old.places }
     ensures over { OnOk result (IsDialogue
         exec.old.plan.tasks
         exec.old.plan.cycle
@@ -85,7 +91,7 @@ fn converse_counted<T: SpareTable, S: LineSource, K: Sink, R: RecordFile, E: Sin
     for heard in 0..u64::MAX {
         let given = hear(source)?;
         let asked = asked_now(exec, source, given);
-        answer(exec, heard + 1, asked, streams, &mut steps)?;
+        answer(exec, list, heard + 1, asked, streams, &mut steps)?;
         if is_end(asked) {
             return Ok(());
         }

@@ -4,6 +4,7 @@
 
 mod answers;
 pub mod call;
+mod carried;
 pub mod dialogue;
 pub mod host;
 pub mod laws;

@@ -61,12 +61,16 @@ commands, and what they are answered:
   slots N             N slots pass, a line each: run, idle
   ahead N             what the next slot runs, and for how many slots, 1 to N,
                       that stays so if nothing comes; no slot passes: ahead
+  carried KEEP        the jobs that a change of plan now would carry over, with
+                      slots left and slots up to the deadline: carried
   end                 the run ends, as it does with its input: end
 
   SLOTS    1 to 65535
   WITHIN   0 to 65535
   ROW      1 to 65535; arrivals count from 1
   N        1 to 100000
+  KEEP     the offline jobs among them: drop none, started those that have run,
+           graphs those of instances that were released before
   KEY      GRAPH.TASK#INSTANCE, NAME@ROW, firm:ROW or soft:ROW;
            INSTANCE 0 to 4294967295
 

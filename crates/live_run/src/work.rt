@@ -17,6 +17,7 @@ use crate::streams::Streams;
 use cycle_plan::Plan;
 use interval_row::ChainTable;
 use live_lines::LineSource;
+use plan_change::CarriedList;
 use run_steps::plan_from;
 use slot_core::{Failed, Words};
 use slot_exec::Exec;
@@ -66,7 +67,8 @@ fn talk<S: LineSource, K: Sink, R: RecordFile, E: Sink>(
         × (R.made streams.new.rows ≡ R.made streams.old.rows)) }
 {
     let mut exec: Exec<ChainTable> = Exec::start(alloc, plan)?;
-    talk_with(alloc, words, call, &mut exec, source, streams)
+    let mut list = CarriedList::with_places(alloc, exec.cycle() as usize)?;
+    talk_with(alloc, words, call, &mut exec, &mut list, source, streams)
 }
 
 /// Answers the lines by an executive that has just started.
@@ -75,10 +77,12 @@ fn talk_with<S: LineSource, K: Sink, R: RecordFile, E: Sink>(
     words: &Words,
     call: LiveCall,
     exec: &mut Exec<ChainTable>,
+    list: &mut CarriedList,
     source: &mut S,
     streams: &mut Streams<K, R, E>,
 ) -> Result<(), LiveRefusal>
-    requires { StandsFor exec.old started }
+    requires started { StandsFor exec.old started }
+    requires places { exec.old.plan.cycle ≤ list.old.places }
     ensures whole { IsTalk S.gave S.broke S.faults exec.old.plan call.is_recorded source.old source.new
         (seen K.written K.faults R.written R.faults E.written E.faults streams.old)
         (seen K.written K.faults R.written R.faults E.written E.faults streams.new) result }
@@ -91,7 +95,7 @@ fn talk_with<S: LineSource, K: Sink, R: RecordFile, E: Sink>(
         let names = RecordNames::of(alloc, words, call)?;
         make_record(names, &mut streams.rows)?;
     }
-    converse(exec, source, streams)?;
+    converse(exec, list, source, streams)?;
     Ok(())
 }
 

@@ -164,7 +164,7 @@ pub(crate) fn carry_counted<T: SpareTable, L: Ledger>(
 }
 
 /// Lists the jobs that are carried over, in their order.
-fn list_carried<T: SpareTable, L: Ledger>(
+pub(crate) fn list_carried<T: SpareTable, L: Ledger>(
     from: &Exec<T>,
     list: &mut CarriedList,
     at: u64,

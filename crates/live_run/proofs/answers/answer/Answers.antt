@@ -8,7 +8,7 @@ use Rattle.slot_core.specs.Output.Texts.{entry_line}
 use Rattle.slot_core.specs.Runs.Histories.{History}
 use Rattle.slot_core.specs.Runs.Traces.{end_entry}
 use Rattle.slot_io.specs.Sinks.{AppendsPart}
-use Rattle.live_lines.specs.declared.commands.LiveCommand.TheVariants.{Arrive, Pass, Ahead, End}
+use Rattle.live_lines.specs.declared.commands.LiveCommand.TheVariants.{Arrive, Pass, Ahead, Carried, End}
 use Rattle.live_lines.specs.Commands.{Asked}
 use Rattle.live_run.specs.Dialogues.{answer_text}
 use Rattle.live_run.specs.Streams.{seen, exchange_texts, ArePutInPart, IsAnswered, IsAnsweredInPart}
@@ -90,6 +90,30 @@ returns-in-Ok-Ahead-clause-part g c =
     let (text, tells, own) = part h stands in
     subst (λ (a : Asked). IsAnsweredInPart p.tasks p.cycle c.args.number fault h a (see s) after) (sym same)
     (text, tells, ArePutInPart-lines fault (see s) (g.K.Sink.written c.look.new.out) (g.K.Sink.faults c.look.new.out) text is own c.look.ensures.counted failed))
+
+pub returns-in-Ok-Carried-clause-put : goal.returns-in-Ok-Carried-clause-put
+returns-in-Ok-Carried-clause-put g c =
+    let p = c.args.exec.now.plan in
+    let s = c.args.streams.now in
+    let see = seen g.K.Sink.written g.K.Sink.faults g.R.RecordFile.written g.R.RecordFile.faults g.E.Sink.written g.E.Sink.faults in
+    let arm : c.in-Ok-Carried.field-0 ≡ Carried c.in-Ok-Carried.keep = rw c.in-Ok-Carried.is at c.in-Ok-Carried.field-0-is in
+    let same : c.args.asked ≡ Ok (Carried c.in-Ok-Carried.keep) = c.in-Ok-Carried.is ∙ ap Ok arm in
+    let after = see (record s { answers = c.tell_carried.new.out }) in
+    on_ok_weaker c.tell_carried.result (λ put h stands.
+    subst (λ (a : Asked). IsAnswered p.tasks p.cycle c.args.number h a (see s) after) (sym same)
+    (answer_text p.tasks p.cycle h (Ok (Carried c.in-Ok-Carried.keep)), refl, ArePut-lines (see s) (g.K.Sink.written c.tell_carried.new.out) (g.K.Sink.faults c.tell_carried.new.out) (answer_text p.tasks p.cycle h (Ok (Carried c.in-Ok-Carried.keep))) (put h stands) c.tell_carried.ensures.counted)) c.tell_carried.ensures.put
+
+pub returns-in-Ok-Carried-clause-part : goal.returns-in-Ok-Carried-clause-part
+returns-in-Ok-Carried-clause-part g c =
+    let p = c.args.exec.now.plan in
+    let s = c.args.streams.now in
+    let see = seen g.K.Sink.written g.K.Sink.faults g.R.RecordFile.written g.R.RecordFile.faults g.E.Sink.written g.E.Sink.faults in
+    let arm : c.in-Ok-Carried.field-0 ≡ Carried c.in-Ok-Carried.keep = rw c.in-Ok-Carried.is at c.in-Ok-Carried.field-0-is in
+    let same : c.args.asked ≡ Ok (Carried c.in-Ok-Carried.keep) = c.in-Ok-Carried.is ∙ ap Ok arm in
+    let after = see (record s { answers = c.tell_carried.new.out }) in
+    at-output c.tell_carried.result (λ fault. (h : History) → StandsFor c.args.exec.now h → IsAnsweredInPart p.tasks p.cycle c.args.number fault h c.args.asked (see s) after) c.tell_carried.ensures.part c.tell_carried.ensures.failed c.tell_carried.ensures.fault (λ fault is part failed h stands.
+    subst (λ (a : Asked). IsAnsweredInPart p.tasks p.cycle c.args.number fault h a (see s) after) (sym same)
+    (answer_text p.tasks p.cycle h (Ok (Carried c.in-Ok-Carried.keep)), refl, ArePutInPart-lines fault (see s) (g.K.Sink.written c.tell_carried.new.out) (g.K.Sink.faults c.tell_carried.new.out) (answer_text p.tasks p.cycle h (Ok (Carried c.in-Ok-Carried.keep))) is (part h stands) c.tell_carried.ensures.counted failed))
 
 pub returns-in-Ok-End-clause-put : goal.returns-in-Ok-End-clause-put
 returns-in-Ok-End-clause-put g c =

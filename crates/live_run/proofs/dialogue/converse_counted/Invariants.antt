@@ -16,6 +16,7 @@ invariant-loop-heard g l =
       count : length heards ≡ l.heard;
       stands : StandsFor l.exec (history_heard l.fn.exec.plan.tasks l.fn.exec.plan.cycle started heards);
       plan : l.exec.plan ≡ l.fn.exec.plan;
+      places : l.list.places ≡ l.initial.list.places;
       same : g.R.RecordFile.made l.streams.rows ≡ g.R.RecordFile.made l.fn.streams.rows;
       misread : g.S.LineSource.faults l.fn.source ≤ g.S.LineSource.faults l.source;
       put : AreAnswered l.fn.exec.plan.tasks l.fn.exec.plan.cycle heards (seen g.K.Sink.written g.K.Sink.faults g.R.RecordFile.written g.R.RecordFile.faults g.E.Sink.written g.E.Sink.faults l.fn.streams) (seen g.K.Sink.written g.K.Sink.faults g.R.RecordFile.written g.R.RecordFile.faults g.E.Sink.written g.E.Sink.faults l.streams);
