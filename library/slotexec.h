@@ -8,9 +8,10 @@
  * caller lets the job that `ss_slot` tells run until the slot ends.
  *
  * After 2^44 slots (557 years of slots of 1 ms) no more slot passes. Rows may end first: there are
- * 2^32 - 1 of them, and an arrival in each slot of 1 ms uses them up in 49.7 days. Then each
- * arrival is SS_BAD_ROW, while slots pass and the plan goes on. Close and open before: jobs that
- * are under way, and the last arrivals of sporadic tasks, are forgotten then.
+ * 2^32 - 1 of them, and an offer in each slot of 1 ms uses them up in 49.7 days. Then soft, firm
+ * and sporadic work is SS_BAD_ROW, while slots pass and the plan goes on. Close and open before:
+ * jobs that are under way, and the last arrivals of sporadic tasks, are forgotten then. Early ends
+ * and withdrawals need no row of their own.
  *
  * Every call but `ss_open`, `ss_close`, `ss_change` and `ss_change_with_soft` takes no memory and
  * gives none back. `ss_open` takes all that the executive will ever need, by the three functions of
@@ -49,7 +50,7 @@
  * docs/PERFORMANCE.md has how much. Arrivals that other interrupts bring wait in an inbox for the
  * slot's start: unit/ is a control unit that is made so.
  *
- * No other condition is left: a number out of its range, a row that does not rise, a call on a
+ * No other condition is left: a number out of its range, a row that lies too low, a call on a
  * closed handle each have a status, and then nothing has changed but what ss_open and ss_change
  * tell of a fault; SS_REFUSED says itself what it leaves.
  */
@@ -72,7 +73,7 @@ enum {
     SS_OK = 0,         /* the call did what it says */
     SS_MEMORY = 1,     /* memory ran out (ss_open, ss_change) */
     SS_BAD_TABLE = 2,  /* the bytes are no table (ss_open, ss_change) */
-    SS_BAD_ROW = 3,    /* the row of the arrival is not above the last one */
+    SS_BAD_ROW = 3,    /* the row of the arrival lies too low (see the arrivals below) */
     SS_BAD_NUMBER = 4, /* a number, an index, a key or a name is none that may come, or no room */
     SS_AT_END = 5,     /* the time is 2^44 slots: no more slot passes (ss_slot, ss_pass) */
     SS_CLOSED = 6,     /* the handle has no executive */
@@ -172,9 +173,12 @@ uint32_t ss_now(ss_slots *slots, uint64_t *now);
 /* The row of the last arrival, 0 before the first. */
 uint32_t ss_last_row(ss_slots *slots, uint32_t *row);
 
-/* Arrivals. Each has a row, which names its job later on: 1 to 2^32 - 1, above the rows before it,
- * else SS_BAD_ROW: so each arrival after row 2^32 - 1 has it. SS_BAD_NUMBER where another number is
- * out of its range. The time is that of the executive. */
+/* Arrivals. Each has a row. That of soft, firm and sporadic work names its job later on: 1 to
+ * 2^32 - 1, above the row of the last arrival, else SS_BAD_ROW: so each of them after row 2^32 - 1
+ * has it. An early end and a withdrawal bring no job: their row may be that of the last arrival
+ * too, 0 before the first, and is SS_BAD_ROW below it. So with the row of ss_last_row they use up
+ * none. SS_BAD_NUMBER where another number is out of its range. The time is that of the executive.
+ */
 
 /* Soft work of 1 to 65,535 slots: SS_TAKEN, or SS_FULL with the limit. */
 uint32_t ss_soft(ss_slots *slots, uint32_t row, uint32_t work, ss_told *told);

@@ -4,8 +4,9 @@
         executive.firm(1, work=9, within=20)    # Told(answer=Firm.ACCEPTED, ..)
         executive.slot()                        # Key(kind=Kind.OFFLINE, group=0, task=0, number=0)
 
-All times are in slots. A row names an arrival, and rises from call to call. An executive takes one
-call at a time, from any thread. slotexec.h has the ranges and what each call costs.
+All times are in slots. A row names an arrival. It rises from one to the next; an early end and a
+withdrawal may have the row of the last arrival too. An executive takes one call at a time, from any
+thread. slotexec.h has the ranges and what each call costs.
 """
 
 import collections

@@ -171,6 +171,8 @@ def main():
         assert executive.sporadic(6, 0).answer == Sporadic.TAKEN
         assert executive.sporadic(7, 0).answer == Sporadic.SOON
         assert executive.done(8, Key(Kind.SOFT, number=1)).answer == Done.NOT_RUNNING
+        assert executive.withdraw(8, 3).answer == Gone.NO_JOB
+        assert status_of(executive.withdraw, 7, 3) == Status.BAD_ROW
         assert executive.last_row() == 8
         assert status_of(executive.soft, 8, 1) == Status.BAD_ROW
         assert status_of(executive.soft, 9, -1) == Status.BAD_NUMBER

@@ -133,6 +133,7 @@ static void wrong_numbers(void)
     HOLDS(ss_pass(&slots, 0, &index) == SS_BAD_NUMBER);
     HOLDS(index == 77 && none.kind == SS_NONE);
     HOLDS(ss_last_row(&slots, &count) == SS_OK && count == 0);
+    HOLDS(ss_withdraw(&slots, count, 1, &told) == SS_OK && told.answer == SS_NO_JOB);
 }
 
 /* How often each answer came: soft, firm, sporadic, early end, withdrawal. */

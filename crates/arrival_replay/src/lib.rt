@@ -27,7 +27,7 @@ mod silent;
 mod teller;
 
 use crate::silent::Silent;
-use crate::teller::{Each, Teller};
+use crate::teller::Each;
 use interval_row::SpareTable;
 use slot_core::{
     Arrival, Done, Entry, Event, Failed, Firm, Gone, Ran, Shown, Spo, Steps, Taker, What,
@@ -36,7 +36,7 @@ use slot_exec::Exec;
 use slot_io::Sink;
 use std::marker::Brand;
 use std::sync::ledger::{Blank, Ledger};
-use trace_text::{TextTaker, entry_line};
+use trace_text::{Teller, TextTaker, entry_line};
 
 /// Drives an executive that has just started through this many slots with these arrivals, and hands
 /// the taker each entry of the trace: the start, for each slot its arrivals in order and what ran,
@@ -499,9 +499,9 @@ fn tell<T: SpareTable, W: Teller>(
     ensures keeps { W.keeps taker.new entry.now.shown }
 {
     match stay {
-        Stay::Nothing => taker.tell_new(entry, exec.tasks()),
-        Stay::Others => taker.tell_others(entry, exec.tasks()),
-        Stay::All => taker.tell_again(entry, exec.tasks()),
+        Stay::Nothing => taker.take_new(entry, exec.tasks()),
+        Stay::Others => taker.take_others(entry, exec.tasks()),
+        Stay::All => taker.take_again(entry, exec.tasks()),
     }
 }
 

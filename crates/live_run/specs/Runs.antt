@@ -59,17 +59,18 @@ IsTalkAfter Gave Broke misread recorded from to before after result (Ok plan) =
 IsTalkAfter Gave Broke misread recorded from to before after result (Err refusal) =
     (result ≡ Err (Run refusal)) × (to ≡ from) × (after ≡ before)
 
--- the work of a call, over files of which contracts see `held`, `faults` and `blamed`
+-- the work of a call, over files of which contracts see `held`, `faults`, `blamed` and
+-- `given`
 pub record IsLiveWork {D S X : Type 0} (held : D → Option Held) (faults : D → ℕ)
-    (blamed : D → Option (List ℕ)) (Gave : S → S → List Heard → Type 0) (Broke : S → S → Type 0)
-    (misread : S → ℕ)
+    (blamed : D → Option (List ℕ)) (given : D → Option (List ℕ × ℕ))
+    (Gave : S → S → List Heard → Type 0) (Broke : S → S → Type 0) (misread : S → ℕ)
     (files_before files_after : D) (names : List (List ℕ)) (call : LiveCall) (from to : S)
     (before after : Seen) (result : LiveOutcome X) : Type 0 where
   -- the plan, or why there is none
   pub made : Outcome PlanParts
   -- it is what the files call for
-  pub reading : IsReading held faults blamed files_before files_after names (is_file_of call.source)
-      (λ files. plan_from files names call.source) made (λ plan. plan)
+  pub reading : IsReading held faults blamed given files_before files_after names
+      (is_file_of call.source) (λ files. plan_from files names call.source) made (λ plan. plan)
   -- what follows it
   pub talk : IsTalkAfter Gave Broke misread call.is_recorded from to before after result made
 
@@ -108,29 +109,29 @@ IsEnd words names before after status (Err refusal) =
 
 -- the work of the words: none where they write no call; and memory may run out before it
 abbrev pub IsWorkOf : {D S X : Type 0} → (D → Option Held) → (D → ℕ) → (D → Option (List ℕ))
-    → (S → S → List Heard → Type 0) → (S → S → Type 0) → (S → ℕ) → D → D → List (List ℕ)
-    → Option LiveCall → S → S → Seen → Seen → LiveOutcome X → Type 0
-IsWorkOf held faults blamed Gave Broke misread files files_after words None from to before after
-    result =
-    (result ≡ Err Usage) × (files_after ≡ files) × (to ≡ from) × (after ≡ before)
-IsWorkOf held faults blamed Gave Broke misread files files_after words (Some call) from to before
+    → (D → Option (List ℕ × ℕ)) → (S → S → List Heard → Type 0) → (S → S → Type 0) → (S → ℕ)
+    → D → D → List (List ℕ) → Option LiveCall → S → S → Seen → Seen → LiveOutcome X → Type 0
+IsWorkOf held faults blamed given Gave Broke misread files files_after words None from to before
     after result =
-    IsLiveWork held faults blamed Gave Broke misread files files_after (plan_words words call) call
-    from to before after result
+    (result ≡ Err Usage) × (files_after ≡ files) × (to ≡ from) × (after ≡ before)
+IsWorkOf held faults blamed given Gave Broke misread files files_after words (Some call) from to
+    before after result =
+    IsLiveWork held faults blamed given Gave Broke misread files files_after
+    (plan_words words call) call from to before after result
     ⊎ ((result ≡ Err (Run Memory)) × (files_after ≡ files) × (to ≡ from) × (after ≡ before))
 
 -- the run of a call, with the words by which its plan is read and blamed
 pub record IsRunOf {D S : Type 0} (held : D → Option Held) (faults : D → ℕ)
-    (blamed : D → Option (List ℕ)) (Gave : S → S → List Heard → Type 0) (Broke : S → S → Type 0)
-    (misread : S → ℕ)
+    (blamed : D → Option (List ℕ)) (given : D → Option (List ℕ × ℕ))
+    (Gave : S → S → List Heard → Type 0) (Broke : S → S → Type 0) (misread : S → ℕ)
     (files_before files_after : D) (words : List (List ℕ)) (call : Option LiveCall)
     (names : List (List ℕ)) (from to : S) (before after : Seen) (status : Status) : Type 0 where
   -- how the work comes out, and what the streams are then
   pub outcome : LiveOutcome (Unit {0})
   pub ended : Seen
   -- the work of the call
-  pub works : IsWorkOf held faults blamed Gave Broke misread files_before files_after words call
-      from to before ended outcome
+  pub works : IsWorkOf held faults blamed given Gave Broke misread files_before files_after words
+      call from to before ended outcome
   -- what is told of it
   pub ends : IsEnd words names ended after status outcome
 
@@ -140,9 +141,9 @@ names_of words = option_map_or (plan_words words) (live_call_of words) []
 
 -- a run as a whole: that of the call that the words write
 abbrev pub IsLiveRun : {D S : Type 0} → (D → Option Held) → (D → ℕ) → (D → Option (List ℕ))
-    → (S → S → List Heard → Type 0) → (S → S → Type 0) → (S → ℕ) → D → D → List (List ℕ) → S → S
-    → Seen → Seen → Status → Type 0
-IsLiveRun held faults blamed Gave Broke misread files files_after words from to before after
+    → (D → Option (List ℕ × ℕ)) → (S → S → List Heard → Type 0) → (S → S → Type 0) → (S → ℕ)
+    → D → D → List (List ℕ) → S → S → Seen → Seen → Status → Type 0
+IsLiveRun held faults blamed given Gave Broke misread files files_after words from to before after
     status =
-    IsRunOf held faults blamed Gave Broke misread files files_after words (live_call_of words)
+    IsRunOf held faults blamed given Gave Broke misread files files_after words (live_call_of words)
     (names_of words) from to before after status

@@ -36,7 +36,7 @@ pub fn run<F: Files, S: LineSource, K: Sink, R: RecordFile, E: Sink>(
     streams: &mut Streams<K, R, E>,
 ) -> Status
     ensures whole { page_of words.now ≡ None
-        → IsLiveRun F.held F.faults F.blamed S.gave S.broke S.faults files.old files.new
+        → IsLiveRun F.held F.faults F.blamed F.given S.gave S.broke S.faults files.old files.new
         words.now source.old source.new
         (seen K.written K.faults R.written R.faults E.written E.faults streams.old)
         (seen K.written K.faults R.written R.faults E.written E.faults streams.new) result }
@@ -89,8 +89,8 @@ fn run_call_of<F: Files, S: LineSource, K: Sink, R: RecordFile, E: Sink>(
     source: &mut S,
     streams: &mut Streams<K, R, E>,
 ) -> Status
-    ensures whole { IsLiveRun F.held F.faults F.blamed S.gave S.broke S.faults files.old files.new
-        words.now source.old source.new
+    ensures whole { IsLiveRun F.held F.faults F.blamed F.given S.gave S.broke S.faults
+        files.old files.new words.now source.old source.new
         (seen K.written K.faults R.written R.faults E.written E.faults streams.old)
         (seen K.written K.faults R.written R.faults E.written E.faults streams.new) result }
     ensures usage { (result ≡ Status.Usage) ↔ (live_call_of words.now ≡ None) }
@@ -124,7 +124,8 @@ fn run_call<F: Files, S: LineSource, K: Sink, R: RecordFile, E: Sink>(
     streams: &mut Streams<K, R, E>,
 ) -> Status
     requires { HasPlan call }
-    ensures whole { IsRunOf F.held F.faults F.blamed S.gave S.broke S.faults files.old files.new words.now
+    ensures whole { IsRunOf F.held F.faults F.blamed F.given S.gave S.broke S.faults
+        files.old files.new words.now
         (Some call) (plan_words words.now call) source.old source.new
         (seen K.written K.faults R.written R.faults E.written E.faults streams.old)
         (seen K.written K.faults R.written R.faults E.written E.faults streams.new) result }
@@ -151,7 +152,8 @@ fn run_named<F: Files, S: LineSource, K: Sink, R: RecordFile, E: Sink>(
 ) -> Status
     requires plan { HasPlan call }
     requires names { names.now ≡ plan_words words.now call }
-    ensures whole { IsRunOf F.held F.faults F.blamed S.gave S.broke S.faults files.old files.new words.now
+    ensures whole { IsRunOf F.held F.faults F.blamed F.given S.gave S.broke S.faults
+        files.old files.new words.now
         (Some call) (plan_words words.now call) source.old source.new
         (seen K.written K.faults R.written R.faults E.written E.faults streams.old)
         (seen K.written K.faults R.written R.faults E.written E.faults streams.new) result }

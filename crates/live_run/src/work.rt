@@ -36,8 +36,8 @@ pub(crate) fn work<F: Files, S: LineSource, K: Sink, R: RecordFile, E: Sink>(
     streams: &mut Streams<K, R, E>,
 ) -> Result<(), LiveRefusal>
     requires plan { HasPlan call }
-    ensures whole { IsLiveWork F.held F.faults F.blamed S.gave S.broke S.faults files.old files.new
-        names.now call source.old source.new
+    ensures whole { IsLiveWork F.held F.faults F.blamed F.given S.gave S.broke S.faults
+        files.old files.new names.now call source.old source.new
         (seen K.written K.faults R.written R.faults E.written E.faults streams.old)
         (seen K.written K.faults R.written R.faults E.written E.faults streams.new) result }
     ensures record { (R.made streams.new.rows

@@ -23,7 +23,7 @@ if_held None each = tt
 if_held (Some files) each = each files refl
 
 -- a refusal of a reading that is no fault of a file nor want of memory is the one that is due
-due-of : {S A X : Type 0} (held : S → Option Held) (faults : S → ℕ) (blamed : S → Option (List ℕ)) (before after : S) (words : List (List ℕ)) (due : Held → Outcome X) (e : Refusal) (view : A → X) → IsReading held faults blamed before after words (same_file Tasks) due (Err e) view → ((file : File) → e ≡ Unreadable file → ⊥) → (e ≡ Memory → ⊥) → is_found e ≡ true → (is_found e ≡ true) × IfSome (held before) (λ files. due files ≡ Err e)
+due-of : {S A X : Type 0} {given : S → Option (List ℕ × ℕ)} (held : S → Option Held) (faults : S → ℕ) (blamed : S → Option (List ℕ)) (before after : S) (words : List (List ℕ)) (due : Held → Outcome X) (e : Refusal) (view : A → X) → IsReading held faults blamed given before after words (same_file Tasks) due (Err e) view → ((file : File) → e ≡ Unreadable file → ⊥) → (e ≡ Memory → ⊥) → is_found e ≡ true → (is_found e ≡ true) × IfSome (held before) (λ files. due files ≡ Err e)
 due-of held faults blamed before after words due e view reading readable enough found = (
   found,
   if_held (held before) (λ files told. elim (reading.answers files told) [
@@ -42,7 +42,7 @@ unfound e may readable enough never (inr (inl memory)) = enough memory
 unfound e may readable enough never (inr (inr found)) = false≢true (sym never ∙ found)
 
 -- each refusal of a reading has its cause
-pub reading-cause : {S A X : Type 0} (held : S → Option Held) (faults : S → ℕ) (blamed : S → Option (List ℕ)) (before after : S) (words : List (List ℕ)) (due : Held → Outcome X) (of_output : ℕ × ℕ) (e : Refusal) (view : A → X) → IsReading held faults blamed before after words (same_file Tasks) due (Err e) view → IsCause words due (held before) (blamed after) (faults before, faults after) of_output e
+pub reading-cause : {S A X : Type 0} {given : S → Option (List ℕ × ℕ)} (held : S → Option Held) (faults : S → ℕ) (blamed : S → Option (List ℕ)) (before after : S) (words : List (List ℕ)) (due : Held → Outcome X) (of_output : ℕ × ℕ) (e : Refusal) (view : A → X) → IsReading held faults blamed given before after words (same_file Tasks) due (Err e) view → IsCause words due (held before) (blamed after) (faults before, faults after) of_output e
 reading-cause held faults blamed before after words due of_output (Unreadable file) view reading = reading.blames file refl
 reading-cause held faults blamed before after words due of_output Memory view reading = tt
 reading-cause held faults blamed before after words due of_output (TooLarge x) view reading = due-of held faults blamed before after words due (TooLarge x) view reading (λ file is. cc is) (λ is. cc is) refl
@@ -60,7 +60,7 @@ reading-cause held faults blamed before after words due of_output Usage view rea
 reading-cause held faults blamed before after words due of_output WriteFault view reading = absurd (unfound WriteFault (same_file Tasks) (λ file is. cc is) (λ is. cc is) refl reading.refuses)
 
 -- no reading is refused for a failed write
-pub reading-unwritten : {S A X : Type 0} (held : S → Option Held) (faults : S → ℕ) (blamed : S → Option (List ℕ)) (before after : S) (words : List (List ℕ)) (due : Held → Outcome X) (e : Refusal) (view : A → X) → IsReading held faults blamed before after words (same_file Tasks) due (Err e) view → e ≡ WriteFault → ⊥
+pub reading-unwritten : {S A X : Type 0} {given : S → Option (List ℕ × ℕ)} (held : S → Option Held) (faults : S → ℕ) (blamed : S → Option (List ℕ)) (before after : S) (words : List (List ℕ)) (due : Held → Outcome X) (e : Refusal) (view : A → X) → IsReading held faults blamed given before after words (same_file Tasks) due (Err e) view → e ≡ WriteFault → ⊥
 reading-unwritten held faults blamed before after words due e view reading is =
     unfound e (same_file Tasks) (λ file other. cc (sym is ∙ other)) (λ other. cc (sym is ∙ other)) (ap is_found is) reading.refuses
 

@@ -63,7 +63,7 @@ fn answer<F: Files>(
     question: Question,
     files: &mut F,
 ) -> Result<Vec<u8>, Refusal>
-    ensures { IsReading F.held F.faults F.blamed files.old files.new words.now
+    ensures { IsReading F.held F.faults F.blamed F.given files.old files.new words.now
         (same_file File.Tasks) (λ held. answer_from held words.now question) result
         (λ text. text.items) }
 {
@@ -78,7 +78,7 @@ fn answer<F: Files>(
 
 /// The load of the set of the task file.
 fn load<F: Files>(alloc: Global, words: &Words, files: &mut F) -> Result<Vec<u8>, Refusal>
-    ensures { IsReading F.held F.faults F.blamed files.old files.new words.now
+    ensures { IsReading F.held F.faults F.blamed F.given files.old files.new words.now
         (same_file File.Tasks) (λ held. answer_from held words.now Question.Load) result
         (λ text. text.items) }
 {
@@ -89,7 +89,7 @@ fn load<F: Files>(alloc: Global, words: &Words, files: &mut F) -> Result<Vec<u8>
 
 /// Who is in the window that fails of the set of the task file.
 fn who<F: Files>(alloc: Global, words: &Words, files: &mut F) -> Result<Vec<u8>, Refusal>
-    ensures { IsReading F.held F.faults F.blamed files.old files.new words.now
+    ensures { IsReading F.held F.faults F.blamed F.given files.old files.new words.now
         (same_file File.Tasks) (λ held. answer_from held words.now Question.Who) result
         (λ text. text.items) }
 {
@@ -100,7 +100,7 @@ fn who<F: Files>(alloc: Global, words: &Words, files: &mut F) -> Result<Vec<u8>,
 
 /// The header of the plan of the task file.
 fn header<F: Files>(alloc: Global, words: &Words, files: &mut F) -> Result<Vec<u8>, Refusal>
-    ensures { IsReading F.held F.faults F.blamed files.old files.new words.now
+    ensures { IsReading F.held F.faults F.blamed F.given files.old files.new words.now
         (same_file File.Tasks) (λ held. answer_from held words.now Question.Header) result
         (λ text. text.items) }
 {

@@ -37,10 +37,15 @@ use Rattle.command_line.proofs.CommandLemmas.{no-plan, no-plan_of_second, no-pla
 use Rattle.run_steps.specs.Readings.{limited_bytes, bytes_of, sound_set, feasible_plan, planned_plan, spelled_plan, plan_from, of_second, second_plan, second_from, fitting_arrivals, recorded_arrivals, arrivals_from, lawful_trace, row_among, whole_cycles, check_from}
 use Rattle.run_steps.specs.Stages.{stage_of, stage_due}
 
--- the refusal of a step, if it has one, is found in bytes
+-- the refusal is found in bytes that a read gave, whatever their number
+abbrev pub is_of_bytes : Refusal → Bool
+is_of_bytes (TooLarge file) = false
+is_of_bytes e = is_found e
+
+-- the refusal of a step, if it has one, is found so
 abbrev pub AllFound : {X : Type 0} → Outcome X → Type 0
 AllFound (Ok x) = ⊤
-AllFound (Err e) = is_found e ≡ true
+AllFound (Err e) = is_of_bytes e ≡ true
 
 AllFound-bind : {X Y : Type 0} (first : Outcome X) (next : X → Outcome Y) → AllFound first → ((x : X) → AllFound (next x)) → AllFound (first >>= next)
 AllFound-bind (Ok x) next before after = after x

@@ -33,8 +33,8 @@ fn read_file<F: Files>(
     files: &mut F,
     file: File,
 ) -> Result<Vec<u8>, Refusal>
-    ensures { IsReading F.held F.faults F.blamed files.old files.new words.now (same_file file)
-        (λ held. bytes_of held words.now file) result (λ bytes. bytes.items) }
+    ensures { IsReading F.held F.faults F.blamed F.given files.old files.new words.now
+        (same_file file) (λ held. bytes_of held words.now file) result (λ bytes. bytes.items) }
 {
     match files.read(alloc, file.name(words), file.limit()) {
         Ok(bytes) => {
@@ -107,7 +107,7 @@ pub fn plan_from<F: Files>(
     source: Source,
 ) -> Result<Plan, Refusal>
     requires { IsLoadNumber source }
-    ensures reading { IsReading F.held F.faults F.blamed files.old files.new words.now
+    ensures reading { IsReading F.held F.faults F.blamed F.given files.old files.new words.now
         (is_file_of source) (λ held. plan_from held words.now source) result (λ plan. plan) }
     ensures plan { IfOk result IsPlan }
     ensures load { (n : ℕ) → source ≡ Source.Load n
@@ -128,7 +128,7 @@ pub fn plan_from<F: Files>(
 
 /// The sound set of the task file, before the cycle test.
 pub fn tasks_from<F: Files>(alloc: Global, words: &Words, files: &mut F) -> Result<TaskSet, Refusal>
-    ensures reading { IsReading F.held F.faults F.blamed files.old files.new words.now
+    ensures reading { IsReading F.held F.faults F.blamed F.given files.old files.new words.now
         (same_file File.Tasks) (λ held. set_from held words.now Source.Tasks) result
         (λ set. set) }
     ensures sound { IfOk result (λ set. is_sound set ≡ true) }
@@ -166,7 +166,7 @@ pub fn second_from<F: Files>(
     files: &mut F,
     second: Second,
 ) -> Result<Option<Plan>, Refusal>
-    ensures reading { IsReading F.held F.faults F.blamed files.old files.new words.now
+    ensures reading { IsReading F.held F.faults F.blamed F.given files.old files.new words.now
         (is_second_of second) (λ held. second_from held words.now second) result
         (λ second. second) }
     ensures plan { IfOk result (λ second. IfSome second IsPlan) }
@@ -209,7 +209,7 @@ fn recorded<F: Files>(
     requires some { 1 ≤ slots }
     requires few { slots ≤ REPLAY_LIMIT }
     requires sound { is_sound tasks.now ≡ true }
-    ensures reading { IsReading F.held F.faults F.blamed files.old files.new words.now
+    ensures reading { IsReading F.held F.faults F.blamed F.given files.old files.new words.now
         (same_file File.Arrivals) (λ held. recorded_arrivals held words.now slots tasks.now) result
         (λ arrivals. arrivals.items) }
     ensures fitting { IfOk result (λ arrivals. are_fitting tasks.now slots arrivals.items ≡ true) }
@@ -243,7 +243,7 @@ pub fn arrivals_from<F: Files>(
     requires in_range { AreInRange arrivals }
     requires sound { is_sound tasks.now ≡ true }
     requires load { (n : ℕ) → arrivals ≡ Arrivals.Generated n → tasks.now ≡ load_set n }
-    ensures reading { IsReading F.held F.faults F.blamed files.old files.new words.now
+    ensures reading { IsReading F.held F.faults F.blamed F.given files.old files.new words.now
         (is_recorded_in arrivals) (λ held. arrivals_from held words.now arrivals tasks.now) result
         (λ arrivals. arrivals.items) }
     ensures fitting { IfOk result (λ made.
@@ -295,7 +295,7 @@ fn recorded_trace<F: Files>(
 ) -> Result<(), Refusal>
     requires few { slots ≤ REPLAY_LIMIT }
     requires fitting { are_fitting plan.now.tasks slots arrivals.now ≡ true }
-    ensures { IsReading F.held F.faults F.blamed files.old files.new words.now
+    ensures { IsReading F.held F.faults F.blamed F.given files.old files.new words.now
         (same_file File.Trace)
         (λ held. recorded_trace held words.now slots plan.now arrivals.now) result (λ _. tt) }
 {
@@ -339,7 +339,7 @@ pub fn check_arrivals<F: Files>(
 ) -> Result<(), Refusal>
     requires in_range { IsCheckInRange slots check }
     requires fitting { are_fitting plan.now.tasks slots arrivals.now ≡ true }
-    ensures reading { IsReading F.held F.faults F.blamed files.old files.new words.now
+    ensures reading { IsReading F.held F.faults F.blamed F.given files.old files.new words.now
         (is_verified_in check)
         (λ held. check_from held words.now check slots plan.now arrivals.now) result (λ _. tt) }
     ensures checked { IfOk result (λ _. IsChecked check slots plan.now arrivals.now) }

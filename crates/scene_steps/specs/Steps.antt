@@ -1,5 +1,5 @@
 -- What each event changes in a scene, from the scene before it alone.
-use Rattle.std.specs.Prelude.{◌≡◌, ℕ, ◌+◌, ◌-◌, ◌*◌, ◌/◌, ◌%◌, ◌<◌, ◌==◌, true, not, List, [], ◌∷◌, ◌++◌, filter, map, nat_lt, slice_get, slice_set, if◌then◌else◌, ⊤}
+use Rattle.std.specs.Prelude.{◌≡◌, ℕ, ◌+◌, ◌-◌, ◌*◌, ◌/◌, ◌%◌, ◌==◌, true, not, List, [], ◌∷◌, ◌++◌, filter, map, nat_lt, slice_get, slice_set, if◌then◌else◌, ⊤}
 use Rattle.std.specs.List.{range_with_len}
 use Rattle.std.specs.Option.{option_map_or}
 use Rattle.slot_core.specs.declared.jobs.Key.{Key}
@@ -18,7 +18,7 @@ use Rattle.slot_core.specs.declared.events.Gone.TheVariants.{Freed as GoneFreed}
 use Rattle.slot_core.specs.declared.events.Ran.{Ran}
 use Rattle.slot_core.specs.declared.events.Ran.TheVariants.{Idle as RanIdle, Key as RanKey}
 use Rattle.slot_core.specs.Offline.Keys.{same_key}
-use Rattle.slot_core.specs.Runs.Arrivals.{event_may_come}
+use Rattle.slot_core.specs.Runs.Arrivals.{MayHaveRow, event_may_come}
 use Rattle.slot_core.specs.Offline.OfflineJobs.{cycle_jobs}
 use Rattle.slot_core.specs.Runs.Histories.{offered_job, sporadic_job}
 use Rattle.slot_core.specs.Runs.Points.{plan_points, is_point}
@@ -144,9 +144,10 @@ abbrev pub told_in : TaskSet → ℕ → Scene → Occurrence → What
 told_in set cycle scene (arrive row event) = answer set cycle scene row event
 told_in set cycle scene slot = told_of_slot (choice set.sporadics cycle scene)
 
--- an occurrence may come after the last row: an arrival has a row above it, and its event may come
+-- an occurrence may come after the last row: an arrival's event may have its row, and may come
 abbrev pub MayComeAfter : TaskSet → ℕ → Occurrence → Type 0
-MayComeAfter set last (arrive row event) = (last < row) × (event_may_come set event ≡ true)
+MayComeAfter set last (arrive row event) =
+    MayHaveRow last row event × (event_may_come set event ≡ true)
 MayComeAfter set last slot = ⊤
 
 -- at time 0 without a job, where each sporadic task may come at once

@@ -134,6 +134,11 @@ pub reported-unreadable : (e reported : Refusal) (file : File) → IsKept e repo
 reported-unreadable e reported file kept is =
     let same : reported ≡ Unreadable file = cc in reported-same e reported (Unreadable file) (λ is_memory. cc) kept same
 
+-- and one that is reported to be too large is one that the work found so
+pub reported-large : (e reported : Refusal) (file : File) → IsKept e reported → (let o : Outcome (Unit {0}) = Err reported in o) ≡ Err (TooLarge file) → e ≡ TooLarge file
+reported-large e reported file kept is =
+    let same : reported ≡ TooLarge file = cc in reported-same e reported (TooLarge file) (λ is_memory. cc) kept same
+
 -- so is one of two kinds
 pub told-either : {X : Type 0} (a b : X → Refusal) (x : X) (held : Option Held) (command : Option Command) (due : Held → Outcome (List ℕ)) (e reported : Refusal) → is_found (a x) ≡ true → is_found (b x) ≡ true → (reported ≡ a x) ⊎ (reported ≡ b x) → IsKept e reported → ((files : Held) → held ≡ Some files → IsAnswerTo {X = Unit {0}} command (due files) (Err e)) → IfSome held (λ files. (y : X) × ((due files ≡ Err (a y)) ⊎ (due files ≡ Err (b y))))
 told-either a b x held command due e reported found found_too (inl is) kept answers =

@@ -81,7 +81,7 @@ put_of_nothing X WriteFault w o apart = (0, Appends-nil o)
 put_of_nothing X Memory w o apart = inl refl
 
 -- where a reading ends the run so does the work
-pub work-refused : {S T A X Y : Type 0} (held : S → Option Held) (faults : S → ℕ) (blamed : S → Option (List ℕ)) (written : T → Option (List ℕ)) (failed : T → ℕ) (old new : S) (out : T) (words : List (List ℕ)) (command : Command) (may : File → Bool) (step : Held → Outcome X) (e : Refusal) (view : A → X) → ((file : File) → may file ≡ true → reads command file ≡ true) → ((files : Held) → held old ≡ Some files → IsOnTheWay may (step files) (writing_of files words command)) → IsReading held faults blamed old new words may step (Err e) view → IsWork {X = Y} held faults blamed written failed old new out out words (Some command) (Err e)
+pub work-refused : {S T A X Y : Type 0} {given : S → Option (List ℕ × ℕ)} (held : S → Option Held) (faults : S → ℕ) (blamed : S → Option (List ℕ)) (written : T → Option (List ℕ)) (failed : T → ℕ) (old new : S) (out : T) (words : List (List ℕ)) (command : Command) (may : File → Bool) (step : Held → Outcome X) (e : Refusal) (view : A → X) → ((file : File) → may file ≡ true → reads command file ≡ true) → ((files : Held) → held old ≡ Some files → IsOnTheWay may (step files) (writing_of files words command)) → IsReading held faults blamed given old new words may step (Err e) view → IsWork {X = Y} held faults blamed given written failed old new out out words (Some command) (Err e)
 work-refused {Y = Y} held faults blamed written failed old new out words command may step e view read way reading =
     record {
       answers = λ files told. elim (reading.answers files told) [
@@ -91,6 +91,7 @@ work-refused {Y = Y} held faults blamed written failed old new out words command
       ];
       usage = ((λ is. absurd (not_usage may e reading.refuses (Err_of e Usage is))), (λ none. cc));
       blames = λ file is. let (in_may, rose, name) = reading.blames file (ap Err (Err_of e (Unreadable file) is)) in (read file in_may, rose, name);
+      sizes = λ file is. let (in_may, gave) = reading.sizes file (ap Err (Err_of e (TooLarge file) is)) in (read file in_may, gave);
       writes = λ files told w is. put_of_nothing Y e w (written out) (λ evidence. not_change may e evidence reading.refuses);
       early = λ files told other is. refl;
       counts = λ is. absurd (not_write may e reading.refuses (Err_of e WriteFault is));
@@ -197,12 +198,13 @@ in_parts_not_whole true is whole = cc
 in_parts_not_whole false is whole = cc
 
 -- where what is due is written the work ends so
-pub work-writing : {S T X : Type 0} (held : S → Option Held) (faults : S → ℕ) (blamed : S → Option (List ℕ)) (written : T → Option (List ℕ)) (failed : T → ℕ) (old new : S) (out_old out_new : T) (words : List (List ℕ)) (command : Command) (w : Writing) (result : Outcome X) → ((files : Held) → held old ≡ Some files → writing_of files words command ≡ Ok w) → IsPartWriting written failed (writes_in_parts command.output) w result out_old out_new → faults new ≡ faults old → IsWork held faults blamed written failed old new out_old out_new words (Some command) result
+pub work-writing : {S T X : Type 0} {given : S → Option (List ℕ × ℕ)} (held : S → Option Held) (faults : S → ℕ) (blamed : S → Option (List ℕ)) (written : T → Option (List ℕ)) (failed : T → ℕ) (old new : S) (out_old out_new : T) (words : List (List ℕ)) (command : Command) (w : Writing) (result : Outcome X) → ((files : Held) → held old ≡ Some files → writing_of files words command ≡ Ok w) → IsPartWriting written failed (writes_in_parts command.output) w result out_old out_new → faults new ≡ faults old → IsWork held faults blamed given written failed old new out_old out_new words (Some command) result
 work-writing {X = X} held faults blamed written failed old new out_old out_new words command w (Ok done) due (rest, is_rest, put) same =
     record {
       answers = λ files told. (w.front ++ rest, whole-rest (writing_of files words command) w rest (due files told) is_rest);
       usage = ((λ is. cc), (λ none. cc));
       blames = λ file is. cc;
+      sizes = λ file is. cc;
       writes = λ files told other is. put-due {X = X} (Ok done) (writing_of files words command) w other (written out_old) (written out_new) (due files told) is (subst (λ t. Appends (written out_old) (written out_new) t) (sym (ap (all_after w.front) is_rest)) put);
       early = λ files told e is. absurd (no_refusal (writing_of files words command) w e (due files told) is);
       counts = λ is. cc;
@@ -215,6 +217,7 @@ work-writing {X = X} held faults blamed written failed old new out_old out_new w
       answers = λ files told. inr (inr (tt, late (writing_of files words command) w (due files told)));
       usage = ((λ is. cc), (λ none. cc));
       blames = λ file is. cc;
+      sizes = λ file is. cc;
       writes = λ files told other is. put-due {X = X} (Err WriteFault) (writing_of files words command) w other (written out_old) (written out_new) (due files told) is writing.0;
       early = λ files told e is. absurd (no_refusal (writing_of files words command) w e (due files told) is);
       counts = λ is. writing.1;
@@ -227,6 +230,7 @@ work-writing {X = X} held faults blamed written failed old new out_old out_new w
       answers = λ files told. inr (inl refl);
       usage = ((λ is. cc), (λ none. cc));
       blames = λ file is. cc;
+      sizes = λ file is. cc;
       writes = λ files told other is. put-due {X = X} (Err Memory) (writing_of files words command) w other (written out_old) (written out_new) (due files told) is (front_or_same written (writes_in_parts command.output) w out_old out_new writing);
       early = λ files told e is. absurd (no_refusal (writing_of files words command) w e (due files told) is);
       counts = λ is. cc;
@@ -239,6 +243,7 @@ work-writing {X = X} held faults blamed written failed old new out_old out_new w
       answers = λ files told. inl (whole-refused (writing_of files words command) w evidence (due files told) refused);
       usage = ((λ is. cc), (λ none. cc));
       blames = λ file is. cc;
+      sizes = λ file is. cc;
       writes = λ files told other is. put-due {X = X} (Err (NoChange evidence)) (writing_of files words command) w other (written out_old) (written out_new) (due files told) is put;
       early = λ files told e is. absurd (no_refusal (writing_of files words command) w e (due files told) is);
       counts = λ is. cc;
@@ -260,12 +265,13 @@ work-writing {X = X} held faults blamed written failed old new out_old out_new w
 work-writing {X = X} held faults blamed written failed old new out_old out_new words command w (Err (NotCycleEnd cycle)) due writing same = absurd writing
 
 -- words that write no command are refused for them
-pub work-usage : {S T X : Type 0} (held : S → Option Held) (faults : S → ℕ) (blamed : S → Option (List ℕ)) (written : T → Option (List ℕ)) (failed : T → ℕ) (files : S) (out : T) (words : List (List ℕ)) → IsWork {X = X} held faults blamed written failed files files out out words None (Err Usage)
+pub work-usage : {S T X : Type 0} {given : S → Option (List ℕ × ℕ)} (held : S → Option Held) (faults : S → ℕ) (blamed : S → Option (List ℕ)) (written : T → Option (List ℕ)) (failed : T → ℕ) (files : S) (out : T) (words : List (List ℕ)) → IsWork {X = X} held faults blamed given written failed files files out out words None (Err Usage)
 work-usage held faults blamed written failed files out words =
     record {
       answers = λ held told. inl refl;
       usage = ((λ is. refl), (λ none. refl));
       blames = λ file is. cc;
+      sizes = λ file is. cc;
       writes = λ held told w is. cc;
       early = λ held told e is. refl;
       counts = λ is. cc;

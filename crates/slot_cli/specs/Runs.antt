@@ -1,13 +1,13 @@
 -- What a run has to answer.
-use Rattle.std.specs.Prelude.{◌≡◌, ℕ, ◌≤◌, ◌⊎◌, ⊤, Bool, true, false, not, List, Option, None, Some, Ok, Err, IfSome}
+use Rattle.std.specs.Prelude.{◌≡◌, ℕ, ◌+◌, ◌≤◌, ◌⊎◌, ⊤, Bool, true, false, not, List, Option, None, Some, Ok, Err, IfSome}
 use Rattle.std.specs.Io.KnownBytes.{Appends}
 use Rattle.slot_core.specs.declared.jobs.Evidence.{Evidence}
 use Rattle.slot_io.specs.Files.{Held}
 use Rattle.command_line.specs.declared.file.File.{File}
 use Rattle.command_line.specs.declared.refusal.Refusal.{Refusal}
-use Rattle.command_line.specs.declared.refusal.Refusal.TheVariants.{Unreadable, NotCycleEnd, NoChange, WriteFault, Memory}
+use Rattle.command_line.specs.declared.refusal.Refusal.TheVariants.{Unreadable, TooLarge, NotCycleEnd, NoChange, WriteFault, Memory}
 use Rattle.command_line.specs.declared.status.Status.{Status}
-use Rattle.command_line.specs.Refusals.{Outcome, name_of, status_of, fault_line}
+use Rattle.command_line.specs.Refusals.{Outcome, limit_of, name_of, status_of, fault_line}
 use Rattle.command_line.specs.Reports.{IsTold}
 use Rattle.command_line.specs.Writings.{Writing, IsPut, leaves_output}
 use Rattle.command_line.specs.declared.commands.Command.{Command}
@@ -33,6 +33,12 @@ leaves_output_at parts Status.WriteFault = false
 leaves_output_at parts Status.Memory = not parts
 leaves_output_at parts Status.SwitchRefused = not parts
 leaves_output_at parts _ = true
+
+-- a file that the command reads is too large: the last read that gave bytes was of its name, and
+-- it gave a byte more than the file may have
+abbrev pub IsTooLarge : List (List ℕ) → Option (List ℕ × ℕ) → File → Type 0
+IsTooLarge words given file =
+    Reads (command_of words) file × (given ≡ Some (name_of words file, limit_of file + 1))
 
 -- a fault of a file that the command reads, or of the output
 abbrev pub IsHostFault : Option Command → Refusal → Type 0
@@ -64,7 +70,7 @@ IsRefusedChange words held before after =
 
 -- a run as a whole: one outcome is what the caller, the files, the output and standard error see
 pub record IsRun (words : List (List ℕ)) (held : Option Held) (blamed : Option (List ℕ))
-    (out_before out_after err_before err_after : Option (List ℕ))
+    (given : Option (List ℕ × ℕ)) (out_before out_after err_before err_after : Option (List ℕ))
     (faults_before faults_after : ℕ) (status : Status) : Type 0 where
   -- how the run comes out
   pub outcome : Outcome (Unit {0})
@@ -85,5 +91,8 @@ pub record IsRun (words : List (List ℕ)) (held : Option Held) (blamed : Option
   -- a file that cannot be read is one that the command reads, and its name is blamed
   pub blames : (file : File) → outcome ≡ Err (Unreadable file)
       → Reads (command_of words) file × (blamed ≡ Some (name_of words file))
+  -- and one that is too large is so
+  pub sizes : (file : File) → outcome ≡ Err (TooLarge file)
+      → IsTooLarge words given file
   -- standard error gets the line of the outcome: nothing where the run is done
   pub told : IsTold (fault_line words outcome) err_before err_after faults_before faults_after

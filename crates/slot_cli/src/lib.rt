@@ -23,7 +23,7 @@ ghost use Rattle.slot_cli.specs.Changed.{history_to, IsChangeExact};
 ghost use Rattle.slot_cli.specs.Due.{arrivals_for, expected, plan_of_run, writing_due};
 ghost use Rattle.slot_cli.specs.Printed.{IsPrinted};
 ghost use Rattle.slot_cli.specs.Recordings.{IsVerified};
-ghost use Rattle.slot_cli.specs.Runs.{in_parts, leaves_output_at, HasFrontAtMost, IsRefusedChange, IsRun};
+ghost use Rattle.slot_cli.specs.Runs.{in_parts, leaves_output_at, HasFrontAtMost, IsRefusedChange, IsRun, IsTooLarge};
 ghost use Rattle.slot_cli.specs.Verdicts.{RunMeansSchedules};
 
 mod change;
@@ -54,7 +54,7 @@ pub fn run<F: Files, K: Sink, E: Sink>(
     out: &mut K,
     err: &mut E,
 ) -> Status
-    ensures whole { IsRun words.now (F.held files.old) (F.blamed files.new)
+    ensures whole { IsRun words.now (F.held files.old) (F.blamed files.new) (F.given files.new)
         (K.written out.old) (K.written out.new)
         (E.written err.old) (E.written err.new) (E.faults err.old) (E.faults err.new) result }
 
@@ -67,6 +67,8 @@ pub fn run<F: Files, K: Sink, E: Sink>(
         → Rose (F.faults files.old) (F.faults files.new) }
     ensures too_large { result ≡ Status.TooLarge → IfSome (F.held files.old)
         (λ held. (file : File) × (expected held words.now ≡ Err (Refusal.TooLarge file))) }
+    ensures too_large_file { result ≡ Status.TooLarge
+        → (file : File) × IsTooLarge words.now (F.given files.new) file }
     ensures bad_tasks { result ≡ Status.BadTasks → IfSome (F.held files.old)
         (λ held. (fault : TaskFault)
         × ((expected held words.now ≡ Err (Refusal.BadTasks fault))

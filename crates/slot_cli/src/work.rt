@@ -24,8 +24,8 @@ pub(crate) fn work<F: Files, K: Sink>(
     files: &mut F,
     out: &mut K,
 ) -> Result<(), Refusal>
-    ensures { IsWork F.held F.faults F.blamed K.written K.faults files.old files.new out.old out.new
-        words.now (command_of words.now) result }
+    ensures { IsWork F.held F.faults F.blamed F.given K.written K.faults files.old files.new
+        out.old out.new words.now (command_of words.now) result }
 {
     match command_of(words) {
         Some(command) => carry_out(alloc, words, files, command, out),
@@ -42,8 +42,8 @@ fn carry_out<F: Files, K: Sink>(
     out: &mut K,
 ) -> Result<(), Refusal>
     requires { IsInRange command }
-    ensures { IsWork F.held F.faults F.blamed K.written K.faults files.old files.new out.old out.new
-        words.now (Some command) result }
+    ensures { IsWork F.held F.faults F.blamed F.given K.written K.faults files.old files.new
+        out.old out.new words.now (Some command) result }
 {
     let plan = plan_from(alloc, words, files, command.source)?;
     let second = second_from(alloc, words, files, command.second)?;

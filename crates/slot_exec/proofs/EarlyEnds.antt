@@ -1,5 +1,5 @@
 -- An early end, in the parts of an executive.
-use Rattle.std.proofs.Common.{◌≡◌, ℕ, ◌<◌, ◌≤◌, true, false, Bool, cond, None, List, refl, sym, ap, ◌∙◌, subst}
+use Rattle.std.proofs.Common.{◌≡◌, ℕ, ◌≤◌, true, false, Bool, cond, None, List, refl, sym, ap, ◌∙◌, subst}
 use Rattle.slot_core.specs.declared.TheConstants.{TIME_LIMIT}
 use Rattle.slot_core.specs.declared.events.Done.{Done as DoneAnswer}
 use Rattle.slot_core.specs.declared.events.Done.TheVariants.{Freed}
@@ -57,14 +57,14 @@ module _ (exec now : Executive) (rows : List Span) (reserved : List Sporadic) (l
           RemembersScene-left exec is.plan is.stands known is.remembers after.scene new_time key (ending_job exec.scene.time key exec.scene.jobs) due (λ job e. ending_job-listed exec.scene.time key exec.scene.jobs job e) jobs refl dues
 
   -- parts with what an early end leaves have done what the model does, and agree
-  pub parts-ended : (result : DoneAnswer) (at : ℕ) (spans : List Span) (left : List Job) (waiting : List SoftJob) (places room ring due : ℕ) → now.last_row < row → result ≡ freed exec.scene.time key exec.scene.jobs exec.scene.soft → spans ≡ cond (is_soft key) rows (spans_left exec.scene.time key exec.scene.jobs rows) → at ≡ exec.scene.time → places ≡ limit → HaveSameItems left (cond (is_soft key) exec.scene.jobs (jobs_left exec.scene.time key exec.scene.jobs)) → room ≡ capacity → waiting ≡ cond (is_soft key) (soft_left key exec.scene.soft) exec.scene.soft → ring ≡ most → due ≡ cond (is_soft key) known.due (due_left (ending_job exec.scene.time key exec.scene.jobs) known.tight known.due) → let after = executive exec.plan at spans left exec.scene.nexts waiting row in Does now after (arrive row (DoneEvent key)) (Done row key result) × IsExecutive after spans reserved places room ring (record known { due = due })
+  pub parts-ended : (result : DoneAnswer) (at : ℕ) (spans : List Span) (left : List Job) (waiting : List SoftJob) (places room ring due : ℕ) → now.last_row ≤ row → result ≡ freed exec.scene.time key exec.scene.jobs exec.scene.soft → spans ≡ cond (is_soft key) rows (spans_left exec.scene.time key exec.scene.jobs rows) → at ≡ exec.scene.time → places ≡ limit → HaveSameItems left (cond (is_soft key) exec.scene.jobs (jobs_left exec.scene.time key exec.scene.jobs)) → room ≡ capacity → waiting ≡ cond (is_soft key) (soft_left key exec.scene.soft) exec.scene.soft → ring ≡ most → due ≡ cond (is_soft key) known.due (due_left (ending_job exec.scene.time key exec.scene.jobs) known.tight known.due) → let after = executive exec.plan at spans left exec.scene.nexts waiting row in Does now after (arrive row (DoneEvent key)) (Done row key result) × IsExecutive after spans reserved places room ring (record known { due = due })
   parts-ended result at spans left waiting places room ring due later told new_spans new_time new_places new_jobs new_room new_soft new_ring new_due =
       let scene = exec.scene in
       let cycle = exec.plan.cycle in
       let after = executive exec.plan at spans left scene.nexts waiting row in
       let are_spans = new_spans ∙ ap (λ rs. cond (is_soft key) rs (spans_left scene.time key scene.jobs rs)) is.spans ∙ spans-ended exec key is.plan is.stands in
       let parts = parts-same cycle after.scene (ended key scene) spans new_time new_jobs refl new_soft refl are_spans in
-      let last : exec.last_row < row = subst (λ (e : Executive). e.last_row < row) (sym same) later in
+      let last : exec.last_row ≤ row = subst (λ (e : Executive). e.last_row ≤ row) (sym same) later in
       let does = Does-done exec after row key is.plan is.stands last refl parts.0 refl in
       let early = subst (λ n. n ≤ TIME_LIMIT) (sym new_time) is.early in (
         subst

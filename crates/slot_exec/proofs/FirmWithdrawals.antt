@@ -1,5 +1,5 @@
 -- A withdrawal, in the parts of an executive.
-use Rattle.std.proofs.Common.{◌≡◌, ℕ, ◌<◌, ◌≤◌, not, Option, Some, None, List, [], ◌∷◌, refl, sym, ap, ◌∙◌, subst, inl, inr}
+use Rattle.std.proofs.Common.{◌≡◌, ℕ, ◌≤◌, not, Option, Some, None, List, [], ◌∷◌, refl, sym, ap, ◌∙◌, subst, inl, inr}
 use Rattle.std.specs.Prelude.{count_by, find, nat_le, sum_by, ◌↔◌}
 use Rattle.std.specs.Option.{option_map_or}
 use Rattle.std.proofs.lemmas.Bool.{cases_Bool, cond-true, cond-false, le-leb, not_from_false}
@@ -92,14 +92,14 @@ module _ (exec now : Executive) (rows : List Span) (reserved : List Sporadic) (l
       (subst (λ (r : Gone). (r ≡ NoJob) ↔ (count_by (λ (j : Job). same_key j.key (FirmKey firm)) exec.scene.jobs ≡ 0)) (sym told) (NoJob-counted firm exec.scene.jobs))
 
   -- parts with what a withdrawal leaves have done what the model does, and agree
-  pub parts-withdrawn : (result : Gone) (at : ℕ) (spans : List Span) (left : List Job) (places room due : ℕ) → now.last_row < row → result ≡ withdrawn firm exec.scene.jobs → spans ≡ spans_without firm exec.scene.jobs rows → at ≡ exec.scene.time → places ≡ limit → HaveSameItems left (jobs_without firm exec.scene.jobs) → room ≡ capacity → due ≡ due_left (withdrawn_job firm exec.scene.jobs) known.tight known.due → let after = executive exec.plan at spans left exec.scene.nexts exec.scene.soft row in Does now after (arrive row (WithdrawEvent firm)) (Withdraw row firm result) × IsExecutive after spans reserved places room most (record known { due = due })
+  pub parts-withdrawn : (result : Gone) (at : ℕ) (spans : List Span) (left : List Job) (places room due : ℕ) → now.last_row ≤ row → result ≡ withdrawn firm exec.scene.jobs → spans ≡ spans_without firm exec.scene.jobs rows → at ≡ exec.scene.time → places ≡ limit → HaveSameItems left (jobs_without firm exec.scene.jobs) → room ≡ capacity → due ≡ due_left (withdrawn_job firm exec.scene.jobs) known.tight known.due → let after = executive exec.plan at spans left exec.scene.nexts exec.scene.soft row in Does now after (arrive row (WithdrawEvent firm)) (Withdraw row firm result) × IsExecutive after spans reserved places room most (record known { due = due })
   parts-withdrawn result at spans left places room due later told new_spans new_time new_places new_jobs new_room new_due =
       let scene = exec.scene in
       let cycle = exec.plan.cycle in
       let after = executive exec.plan at spans left scene.nexts scene.soft row in
       let are_spans = new_spans ∙ ap (spans_without firm scene.jobs) is.spans ∙ spans-withdrawn exec firm is.plan is.stands in
       let parts = parts-same cycle after.scene (left_by firm scene) spans new_time new_jobs refl refl refl are_spans in
-      let last : exec.last_row < row = subst (λ (e : Executive). e.last_row < row) (sym same) later in
+      let last : exec.last_row ≤ row = subst (λ (e : Executive). e.last_row ≤ row) (sym same) later in
       let does = Does-withdraw exec after row firm is.plan is.stands last refl parts.0 refl in
       let early = subst (λ n. n ≤ TIME_LIMIT) (sym new_time) is.early in (
         subst

@@ -381,9 +381,10 @@ impl<T: SpareTable> Exec<T> {
     }
 
     /// The job of this key has ended, before it ran all its slots. Freed(n) where it has started
-    /// and not ended, with n slots left, and NotRunning exactly where no such job has.
+    /// and not ended, with n slots left, and NotRunning exactly where no such job has. It brings no
+    /// job, so it may come in the row of the last arrival.
     pub fn done<L: Ledger>(&mut self, row: u32, key: Key, steps: &mut Steps<L>) -> Done
-        requires later { self.old.last_row < row }
+        requires later { self.old.last_row ≤ row }
         ensures does { Does
             self.old
             self.new
@@ -410,10 +411,11 @@ impl<T: SpareTable> Exec<T> {
 
     /// The firm job that arrived in row `firm` is taken back before it has ended, whether it has
     /// started or not. Freed(n) where it remains, with n slots left, which are free at once; NoJob
-    /// exactly where no remaining job has that key. Over a counted table it takes at most one step
-    /// a remaining job and, where there is one, three a span that ends before its deadline, and 3.
+    /// exactly where no remaining job has that key. It brings no job, so it may come in the row of
+    /// the last arrival. Over a counted table it takes at most one step a remaining job and, where
+    /// there is one, three a span that ends before its deadline, and 3.
     pub fn withdraw<L: Ledger>(&mut self, row: u32, firm: u32, steps: &mut Steps<L>) -> Gone
-        requires later { self.old.last_row < row }
+        requires later { self.old.last_row ≤ row }
         ensures does { Does
             self.old
             self.new

@@ -15,32 +15,41 @@ abbrev pub first_bytes : Held → List ℕ → ℕ → Option (List ℕ)
 first_bytes held name limit = option_map (take (limit + 1)) (get held name)
 
 -- what contracts see of `MemoryFiles`: the files, the read calls that fail (counted from 1), the
--- number of read calls so far, the count of faults, and the name of the last read that failed
+-- number of read calls so far, the count of faults, the name of the last read that failed, and that
+-- of the last one that gave bytes, with how many
 pub record FilesInMemory : Type 0 where
   pub held : Held
   pub failing : List ℕ
   pub calls : ℕ
   pub faults : ℕ
   pub blamed : Option (List ℕ)
+  pub given : Option (List ℕ × ℕ)
 
 -- these files are stored as the tuple of their fields
 abbrev pub files_code : Coded FilesInMemory
 files_code =
     code_by
-    (Held × (List ℕ × (ℕ × (ℕ × Option (List ℕ)))))
+    (Held × (List ℕ × (ℕ × (ℕ × (Option (List ℕ) × Option (List ℕ × ℕ))))))
     (coded×
     (code (coded_list coded_ℕ) (coded_list coded_ℕ))
     (coded×
     (coded_list coded_ℕ)
-    (coded× coded_ℕ (coded× coded_ℕ (coded_option (coded_list coded_ℕ))))))
-    (λ f. (f.held, (f.failing, (f.calls, (f.faults, f.blamed)))))
+    (coded×
+    coded_ℕ
+    (coded×
+    coded_ℕ
+    (coded×
+    (coded_option (coded_list coded_ℕ))
+    (coded_option (coded× (coded_list coded_ℕ) coded_ℕ)))))))
+    (λ f. (f.held, (f.failing, (f.calls, (f.faults, (f.blamed, f.given))))))
     (λ p.
     record {
       held = p.0;
       failing = p.1.0;
       calls = p.1.1.0;
       faults = p.1.1.1.0;
-      blamed = p.1.1.1.1;
+      blamed = p.1.1.1.1.0;
+      given = p.1.1.1.1.1;
     })
     (λ _. refl)
 

@@ -54,6 +54,9 @@ pub trait Files {
     /// The name of the last read that failed, or none.
     ghost blamed: { Self → Option (List ℕ) };
 
+    /// The name of the last read that gave bytes, and how many, or none.
+    ghost given: { Self → Option (List ℕ × ℕ) };
+
     /// The first bytes of a file: at most one more than `limit`, so that a caller sees whether the
     /// file is longer.
     fn read(&mut self, alloc: Global, name: &str, limit: usize) -> Result<Vec<u8>, ReadFault>
@@ -66,5 +69,6 @@ pub trait Files {
         ensures failed { result ≡ Err ReadFault.Failed → Rose (faults self.old) (faults self.new) }
         ensures named { result ≡ Err ReadFault.Failed → blamed self.new ≡ Some name.now }
         ensures no_fault { result ≢ Err ReadFault.Failed → faults self.new ≡ faults self.old }
-        ensures no_blame { result ≢ Err ReadFault.Failed → blamed self.new ≡ blamed self.old };
+        ensures no_blame { result ≢ Err ReadFault.Failed → blamed self.new ≡ blamed self.old }
+        ensures gives { IfOk result (λ bytes. given self.new ≡ Some (name.now, vec_len bytes)) };
 }

@@ -20,6 +20,10 @@ pub struct HostFiles<R> {
     rt: R,
     faults: u64,
     blamed: Option<String>,
+    /// The name of the last read that gave bytes.
+    given: Option<String>,
+    /// How many it gave.
+    length: usize,
 }
 
 impl<R> HostFiles<R> {
@@ -32,6 +36,8 @@ impl<R> HostFiles<R> {
             rt,
             faults: 0,
             blamed: None,
+            given: None,
+            length: 0,
         }
     }
 }
@@ -43,10 +49,16 @@ impl<R: rt::Files> Files for HostFiles<R> {
 
     ghost blamed = { λ f. option_map string_bytes f.blamed };
 
+    ghost given = { λ f. option_map (λ name. (string_bytes name, f.length)) f.given };
+
     fn read(&mut self, alloc: Global, name: &str, limit: usize) -> Result<Vec<u8>, ReadFault> {
         let copy = String::from_str(alloc, name)?;
         match read_file(&self.rt, alloc, name, limit + 1) {
-            Ok(bytes) => Ok(bytes),
+            Ok(bytes) => {
+                self.given = Some(copy);
+                self.length = bytes.len();
+                Ok(bytes)
+            }
             Err(ReadFault::Memory) => Err(ReadFault::Memory),
             Err(ReadFault::Failed) => {
                 self.faults = one_more(self.faults);

@@ -1,6 +1,6 @@
 //! Files in memory, which tell what they hold.
 
-ghost use Rattle.std.specs.Prelude.{◌≡◌, ◌≢◌, ℕ, ◌+◌, ◌≤◌, List, [], ◌∷◌, ◌++◌, take, Option, Some, None, IfSome, IfOk, MatchOption, is_none, IsErr, OnOk, OnErr, IsTrue, vec_len, vec_items, string_bytes, option_map};
+ghost use Rattle.std.specs.Prelude.{◌≡◌, ◌≢◌, ℕ, ◌+◌, ◌≤◌, List, [], ◌∷◌, ◌++◌, take, Option, Some, None, IfSome, IfOk, MatchOption, is_none, IsErr, IfErr, OnOk, OnErr, IsTrue, vec_len, vec_items, string_bytes, option_map};
 ghost use Rattle.std.specs.Ordering.{nat_cmp, eq_by_cmp};
 ghost use Rattle.std.specs.Cmp.Lexicographic.{slice_cmp};
 ghost use Rattle.std.specs.FinMap.{insert, empty, get, from_entries};
@@ -40,6 +40,10 @@ pub struct MemoryFiles {
     calls: u64,
     faults: u64,
     blamed: Option<String>,
+    /// The name of the last read that gave bytes.
+    given: Option<String>,
+    /// How many it gave.
+    length: usize,
 }
 
 impl Model for MemoryFiles {
@@ -57,6 +61,7 @@ impl Model for MemoryFiles {
       calls = f.calls;
       faults = f.faults;
       blamed = option_map string_bytes f.blamed;
+      given = option_map (λ name. (string_bytes name, f.length)) f.given;
     } };
 }
 
@@ -69,6 +74,7 @@ impl MemoryFiles {
           calls = 0;
           faults = 0;
           blamed = None;
+          given = None;
         } }
     {
         MemoryFiles {
@@ -78,6 +84,8 @@ impl MemoryFiles {
             calls: 0,
             faults: 0,
             blamed: None,
+            given: None,
+            length: 0,
         }
     }
 
@@ -104,7 +112,7 @@ impl MemoryFiles {
     }
 
     /// The bytes that this read gives, or None where it fails.
-    fn given(&self, alloc: Global, name: &str, limit: usize) -> Result<Option<Vec<u8>>, Memory>
+    fn bytes_read(&self, alloc: Global, name: &str, limit: usize) -> Result<Option<Vec<u8>>, Memory>
         requires { limit ≤ READ_LIMIT }
         ensures fails { IfOk result (λ given. is_none given ≡ read_fails self.now name.now) }
         ensures first { IfOk result (λ given. IfSome given
@@ -116,6 +124,24 @@ impl MemoryFiles {
         match find(&self.entries, name) {
             Some(bytes) => Ok(Some(first_bytes(alloc, bytes, limit)?)),
             None => Ok(None),
+        }
+    }
+
+    /// Keeps the name and the length of bytes that a read gives. After Memory nothing has changed.
+    fn give(&mut self, alloc: Global, name: &str, bytes: Vec<u8>) -> Result<Vec<u8>, ReadFault>
+        ensures ok { OnOk result (self.new
+            ≡ record self.old { given = Some (name.now, vec_len bytes) }) }
+        ensures same { IfOk result (λ given. given ≡ bytes) }
+        ensures err { OnErr result (self.new ≡ self.old) }
+        ensures memory { IfErr result (λ fault. fault ≡ ReadFault.Memory) }
+    {
+        match String::from_str(alloc, name) {
+            Ok(copy) => {
+                self.given = Some(copy);
+                self.length = bytes.len();
+                Ok(bytes)
+            }
+            Err(_) => Err(ReadFault::Memory),
         }
     }
 
@@ -146,6 +172,8 @@ impl Files for MemoryFiles {
 
     ghost blamed = { λ f. f.blamed };
 
+    ghost given = { λ f. f.given };
+
     fn read(&mut self, alloc: Global, name: &str, limit: usize) -> Result<Vec<u8>, ReadFault>
         requires { limit ≤ READ_LIMIT }
         ensures short { IfOk result (λ bytes. vec_len bytes ≤ limit + 1) }
@@ -157,6 +185,7 @@ impl Files for MemoryFiles {
         ensures named { result ≡ Err ReadFault.Failed → self.new.blamed ≡ Some name.now }
         ensures no_fault { result ≢ Err ReadFault.Failed → self.new.faults ≡ self.old.faults }
         ensures no_blame { result ≢ Err ReadFault.Failed → self.new.blamed ≡ self.old.blamed }
+        ensures gives { IfOk result (λ bytes. self.new.given ≡ Some (name.now, vec_len bytes)) }
         ensures cause { result ≡ Err ReadFault.Failed → IsTrue (read_fails self.old name.now) }
         ensures refused { IsTrue (read_fails self.old name.now) → IsErr result }
         ensures one_fault { result ≡ Err ReadFault.Failed
@@ -164,10 +193,10 @@ impl Files for MemoryFiles {
         ensures calls { self.new.calls ≡ one_more self.old.calls }
         ensures failing { self.new.failing ≡ self.old.failing }
     {
-        let given = self.given(alloc, name, limit);
+        let given = self.bytes_read(alloc, name, limit);
         self.calls = one_more(self.calls);
         match given {
-            Ok(Some(bytes)) => Ok(bytes),
+            Ok(Some(bytes)) => self.give(alloc, name, bytes),
             Ok(None) => Err(self.blame(alloc, name)),
             Err(Memory) => Err(ReadFault::Memory),
         }

@@ -3,6 +3,7 @@ use Rattle.std.specs.Prelude.{ℕ, Bool, false, ◌&&◌, List, length, nat_le, 
 use Rattle.std.specs.Option.{option_map_or}
 use Rattle.slot_core.specs.declared.TheConstants.{TIME_LIMIT}
 use Rattle.slot_core.specs.declared.events.Event.{Event}
+use Rattle.slot_core.specs.declared.events.Event.TheVariants.{Done, Withdraw}
 use Rattle.slot_core.specs.declared.jobs.Key.{Key}
 use Rattle.slot_core.specs.Keeping.Executives.{Executive}
 use Rattle.slot_core.specs.Output.Texts.{key_text}
@@ -16,17 +17,24 @@ use Rattle.slot_port.specs.Keys.{key_named}
 abbrev pub range_status : Bool → ℕ
 range_status fits = if fits then OK else BAD_NUMBER
 
--- of an arrival: its row is above the last one, and its numbers are in range
-abbrev pub arrival_status : Executive → ℕ → Bool → ℕ
-arrival_status exec row fits = if nat_lt exec.last_row row then range_status fits else BAD_ROW
+-- of an arrival: whether it may have its row, and whether its numbers are in range
+abbrev pub arrival_status : Bool → Bool → ℕ
+arrival_status may_have fits = if may_have then range_status fits else BAD_ROW
 
--- of an arrival of this event: the event may come
+-- the row of an early end or a withdrawal is not below the last one, and any other row above it
+abbrev pub may_have_row : Executive → ℕ → Event → Bool
+may_have_row exec row (Done key) = nat_le exec.last_row row
+may_have_row exec row (Withdraw firm) = nat_le exec.last_row row
+may_have_row exec row _ = nat_lt exec.last_row row
+
+-- of an arrival of this event: it may have the row, and it may come
 abbrev pub event_status : Executive → ℕ → Event → ℕ
-event_status exec row event = arrival_status exec row (event_may_come exec.plan.tasks event)
+event_status exec row event =
+    arrival_status (may_have_row exec row event) (event_may_come exec.plan.tasks event)
 
--- of an early end: the numbers name a key
+-- of an early end: its row is not below the last one, and the numbers name a key
 abbrev pub done_status : Executive → ℕ → KeyNumbers → ℕ
-done_status exec row key = arrival_status exec row (is_some (key_named key))
+done_status exec row key = arrival_status (nat_le exec.last_row row) (is_some (key_named key))
 
 -- of a slot: the time is below its limit
 abbrev pub slot_status : Executive → ℕ

@@ -1,7 +1,9 @@
 //! Arrivals: soft, firm and sporadic work, early ends and withdrawals.
 //!
-//! Each has its row, above the rows before it. Its status is `BAD_ROW` where the row does not rise,
-//! else `BAD_NUMBER` where another number is out of range, else `OK`: then its answer is told.
+//! Each has its row. That of soft, firm and sporadic work lies above the row of the last arrival; an
+//! early end or a withdrawal, which brings no job, may come in the last row too. The status is
+//! `BAD_ROW` where the row lies lower, else `BAD_NUMBER` where another number is out of range, else
+//! `OK`: then its answer is told.
 
 ghost use Rattle.std.specs.Prelude.{◌≡◌, ◌≢◌, ◌≤◌, ◌<◌, ◌^◌, true, length, Some};
 ghost use Rattle.slot_core.specs.declared.TheConstants.{OFFER_LIMIT};
@@ -97,7 +99,7 @@ pub fn done<T: SpareTable>(exec: &mut Exec<T>, row: u32, key: KeyNumbers, told: 
     ensures tells { (k : Key) → key_named key ≡ Some k → result ≡ OK
         → told.new ≡ numbers_in exec.old row (Event.Done k) }
 {
-    if row <= exec.last_row() {
+    if row < exec.last_row() {
         return BAD_ROW;
     }
     let Some(key) = key_named(key) else {
@@ -115,7 +117,7 @@ pub fn withdraw<T: SpareTable>(exec: &mut Exec<T>, row: u32, firm: u32, told: &m
     ensures does { result ≡ OK → Takes exec.old exec.new row (Event.Withdraw firm) }
     ensures tells { result ≡ OK → told.new ≡ numbers_in exec.old row (Event.Withdraw firm) }
 {
-    if row > exec.last_row() {
+    if row >= exec.last_row() {
         *told = gone_numbers(withdraw_counted::<T, Brand>(exec, row, firm, Blank::new(1)));
         return OK;
     }
@@ -187,7 +189,7 @@ fn done_counted<T: SpareTable, L: Ledger>(
     requires name { blank.name ≡ L.name }
     requires parts { blank.parts ≡ L.parts }
     requires ledger { 0 < L.parts }
-    requires later { exec.old.last_row < row }
+    requires later { exec.old.last_row ≤ row }
     ensures does { Does
         exec.old
         exec.new
@@ -209,7 +211,7 @@ fn withdraw_counted<T: SpareTable, L: Ledger>(
     requires name { blank.name ≡ L.name }
     requires parts { blank.parts ≡ L.parts }
     requires ledger { 0 < L.parts }
-    requires later { exec.old.last_row < row }
+    requires later { exec.old.last_row ≤ row }
     ensures does { Does
         exec.old
         exec.new

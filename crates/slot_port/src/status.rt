@@ -13,7 +13,8 @@ pub const MEMORY: Status = 1;
 /// The bytes are no table, or not the one of their task set.
 pub const BAD_TABLE: Status = 2;
 
-/// The row of an arrival is not above the row of the last one.
+/// The row of an arrival is not above that of the last one, or, of an early end or a withdrawal, is
+/// below it.
 pub const BAD_ROW: Status = 3;
 
 /// A number, an index, a key or a name is none that may come, or a text has no room.

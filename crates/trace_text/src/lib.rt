@@ -9,6 +9,7 @@ mod reports;
 pub mod run_lines;
 mod spans;
 pub mod taker;
+pub mod teller;
 mod threes;
 mod words;
 
@@ -19,6 +20,7 @@ pub use reports::{job_line, span_line};
 pub use run_lines::read_run;
 use slot_core::{NAME_LIMIT, SHOWN_LIMIT};
 pub use taker::TextTaker;
+pub use teller::Teller;
 
 /// Most bytes of a line.
 pub const LINE_LIMIT: usize = 1024;

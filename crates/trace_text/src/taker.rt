@@ -14,6 +14,7 @@ use crate::entries::{push_head, push_tail};
 use crate::extents::Cells;
 use crate::line::Line;
 use crate::spans::push_to_first;
+use crate::teller::Teller;
 use slot_core::{Entry, Failed, Taker, TaskSet};
 use slot_io::Sink;
 
@@ -53,7 +54,7 @@ impl<'s, K: Sink> TextTaker<'s, K> {
     }
 
     /// Takes an entry, and keeps the text of its spans.
-    pub fn take_new(&mut self, entry: &Entry, tasks: &TaskSet) -> Result<(), Failed>
+    fn put_new(&mut self, entry: &Entry, tasks: &TaskSet) -> Result<(), Failed>
         requires { what_in_set tasks.now entry.now.what ≡ true }
         ensures same { self.new.out.ghost_name ≡ self.old.out.ghost_name }
         ensures put { OnOk result (Appends
@@ -81,104 +82,6 @@ impl<'s, K: Sink> TextTaker<'s, K> {
         self.tail = self.even.bytes().len();
         self.others = push_tail(&mut self.even, &mut self.cells, entry.what, &entry.shown);
         self.out.put(self.even.bytes())
-    }
-
-    /// Takes an entry that tells other spans only in the first: the text of the others is kept, and
-    /// copied.
-    pub fn take_others(&mut self, entry: &Entry, tasks: &TaskSet) -> Result<(), Failed>
-        requires named { what_in_set tasks.now entry.now.what ≡ true }
-        requires some { entry.now.what ≢ What.End }
-        requires kept { (before : ShownSpans) × (others_of before ≡ others_of entry.now.shown)
-            × TellsSpans
-            (kept_line self.old.turned self.old.even self.old.odd)
-            self.old.tail
-            self.old.others
-            before }
-        ensures same { self.new.out.ghost_name ≡ self.old.out.ghost_name }
-        ensures put { OnOk result (Appends
-            (K.written self.old.out.now)
-            (K.written self.new.out.now)
-            (entry_line tasks.now entry.now)) }
-        ensures part { OnErr result (AppendsBroken
-            (K.written self.old.out.now)
-            (K.written self.new.out.now)
-            tasks.now
-            (entry.now ∷ [])) }
-        ensures counted { K.faults self.old.out.now ≤ K.faults self.new.out.now }
-        ensures failed { OnErr result (Rose
-            (K.faults self.old.out.now)
-            (K.faults self.new.out.now)) }
-        ensures kept { TellsSpans
-            (kept_line self.new.turned self.new.even self.new.odd)
-            self.new.tail
-            self.new.others
-            entry.now.shown }
-    {
-        if self.turned {
-            let places = push_line_with(
-                &mut self.even,
-                &mut self.cells,
-                entry,
-                tasks,
-                &self.odd,
-                self.others,
-            );
-            self.turned = false;
-            self.tail = places.tail;
-            self.others = places.others;
-            self.out.put(self.even.bytes())
-        } else {
-            let places = push_line_with(
-                &mut self.odd,
-                &mut self.cells,
-                entry,
-                tasks,
-                &self.even,
-                self.others,
-            );
-            self.turned = true;
-            self.tail = places.tail;
-            self.others = places.others;
-            self.out.put(self.odd.bytes())
-        }
-    }
-
-    /// Takes an entry that tells spans of which the text is kept: it is copied.
-    pub fn take_again(&mut self, entry: &Entry, tasks: &TaskSet) -> Result<(), Failed>
-        requires named { what_in_set tasks.now entry.now.what ≡ true }
-        requires some { entry.now.what ≢ What.End }
-        requires kept { TellsSpans
-            (kept_line self.old.turned self.old.even self.old.odd)
-            self.old.tail
-            self.old.others
-            entry.now.shown }
-        ensures same { self.new.out.ghost_name ≡ self.old.out.ghost_name }
-        ensures put { OnOk result (Appends
-            (K.written self.old.out.now)
-            (K.written self.new.out.now)
-            (entry_line tasks.now entry.now)) }
-        ensures part { OnErr result (AppendsBroken
-            (K.written self.old.out.now)
-            (K.written self.new.out.now)
-            tasks.now
-            (entry.now ∷ [])) }
-        ensures counted { K.faults self.old.out.now ≤ K.faults self.new.out.now }
-        ensures failed { OnErr result (Rose
-            (K.faults self.old.out.now)
-            (K.faults self.new.out.now)) }
-        ensures kept { TellsSpans
-            (kept_line self.new.turned self.new.even self.new.odd)
-            self.new.tail
-            self.new.others
-            entry.now.shown }
-    {
-        if self.turned {
-            push_line_again(&mut self.even, entry, tasks, &self.odd, self.tail);
-            self.out.put(self.even.bytes())
-        } else {
-            push_line_again(&mut self.odd, entry, tasks, &self.even, self.tail);
-            self.out.put(self.odd.bytes())
-        }
     }
 }
 
@@ -255,7 +158,7 @@ impl<'s, K: Sink> Taker for TextTaker<'s, K> {
         × AppendsBroken (K.written a.out.now) (K.written b.out.now) set entries };
 
     fn take(&mut self, entry: &Entry, tasks: &TaskSet) -> Result<(), Failed> {
-        self.take_new(entry, tasks)
+        self.put_new(entry, tasks)
     }
 
     ghost broke_some = { λ set a b broken.
@@ -288,4 +191,56 @@ impl<'s, K: Sink> Taker for TextTaker<'s, K> {
           first.1
           then_.1,
     ) };
+}
+
+impl<'s, K: Sink> Teller for TextTaker<'s, K> {
+    ghost use Rattle.trace_text.specs.Takers.{TellsSpans, kept_line};
+
+    ghost keeps = { λ t shown. TellsSpans (kept_line t.turned t.even t.odd) t.tail t.others shown };
+
+    fn take_new(&mut self, entry: &Entry, tasks: &TaskSet) -> Result<(), Failed> {
+        self.put_new(entry, tasks)
+    }
+
+    // The text of the spans after the first is kept, and copied.
+    fn take_others(&mut self, entry: &Entry, tasks: &TaskSet) -> Result<(), Failed> {
+        if self.turned {
+            let places = push_line_with(
+                &mut self.even,
+                &mut self.cells,
+                entry,
+                tasks,
+                &self.odd,
+                self.others,
+            );
+            self.turned = false;
+            self.tail = places.tail;
+            self.others = places.others;
+            self.out.put(self.even.bytes())
+        } else {
+            let places = push_line_with(
+                &mut self.odd,
+                &mut self.cells,
+                entry,
+                tasks,
+                &self.even,
+                self.others,
+            );
+            self.turned = true;
+            self.tail = places.tail;
+            self.others = places.others;
+            self.out.put(self.odd.bytes())
+        }
+    }
+
+    // The text of all spans is kept, and copied.
+    fn take_again(&mut self, entry: &Entry, tasks: &TaskSet) -> Result<(), Failed> {
+        if self.turned {
+            push_line_again(&mut self.even, entry, tasks, &self.odd, self.tail);
+            self.out.put(self.even.bytes())
+        } else {
+            push_line_again(&mut self.odd, entry, tasks, &self.even, self.tail);
+            self.out.put(self.odd.bytes())
+        }
+    }
 }

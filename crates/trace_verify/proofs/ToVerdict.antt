@@ -31,7 +31,7 @@ use Rattle.slot_facts.proofs.Choice.Earliest.{IsEarliest-from_earliest}
 use Rattle.slot_facts.proofs.Lawful.Data.{permitted-longer, lawful-as_data}
 use Rattle.slot_facts.proofs.Lawful.Traces.{lawful-longer}
 use Rattle.slot_facts.proofs.Legal.RunKeys.{run-in_range}
-use Rattle.slot_facts.proofs.Legal.Traces.{last_row-arrival, last_row-ran}
+use Rattle.slot_facts.proofs.Legal.Traces.{MayHaveRow-above, last_row-arrival, last_row-ran}
 use Rattle.slot_facts.proofs.Lists.Members.{Has-filter_passes, passes_from_list_all}
 use Rattle.slot_facts.proofs.Replays.Entries.{time_of-arrival, time_of-ran}
 use Rattle.slot_facts.proofs.Replays.Named.{run-named}
@@ -141,7 +141,7 @@ module _ (set : TaskSet) (n : ℕ) (sound : is_sound set ≡ true) (small : n �
       let cycle = cycle_of set in
       let last = last_row-arrival set cycle h row event in
       record {
-        come = (above, (and_parts (event_may_come set event) (event_names_known set event) fits).0);
+        come = (MayHaveRow-above (last_row h) row event above, (and_parts (event_may_come set event) (event_names_known set event) fits).0);
         known = known-answer set cycle (scene_of set cycle h) row event fits;
         tells = λ number. refl;
         timely = λ number. refl;

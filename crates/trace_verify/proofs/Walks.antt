@@ -28,7 +28,7 @@ use Rattle.slot_facts.proofs.Lawful.Data.{lawful-as_data}
 use Rattle.slot_facts.proofs.Lawful.Traces.{lawful-longer}
 use Rattle.slot_facts.proofs.Legal.Data.{Slots, Entries}
 use Rattle.slot_facts.proofs.Legal.Jobs.{guaranteed-cases, offline-key}
-use Rattle.slot_facts.proofs.Legal.Traces.{row_past, BeginsWith-from}
+use Rattle.slot_facts.proofs.Legal.Traces.{MayHaveRow-above, row_past, BeginsWith-from}
 use Rattle.slot_facts.proofs.Lists.Members.{Has, AllByRecursion-from_Has}
 use Rattle.slot_facts.proofs.Replays.Entries.{AreLeft, AreLeft-row, AreLeft-start, AreLeft-arrival, AreLeft-ran, occurrences_left, occurrences_left-arrival, occurrences_left-ran, time_of-arrival, time_of-ran}
 use Rattle.slot_facts.proofs.Replays.Following.{NoneIsDue, occurrences_from}
@@ -83,7 +83,7 @@ next-arrival set slots h a arrivals left early due =
     let f = BeginsWith-from set slots left.row (time_of h) a arrivals left.follow in
     let stays = time_of-arrival set cycle h a.row a.event in
     record {
-      may = (omega (arith, left.above, f.row_is), f.may);
+      may = (MayHaveRow-above (last_row h) a.row a.event (omega (arith, left.above, f.row_is)), f.may);
       few = omega (arith, f.row_is, left.few);
       fits = λ jobs above. (and_from (event_may_come set a.event) (event_names_known set a.event) f.may f.named, above a.row (omega (arith, left.above, f.row_is)));
       time = time_of h;

@@ -59,7 +59,7 @@ none-told None result fault untold told = refl
 none-told (Some place) result fault untold told = absurd (untold place (told place refl))
 
 -- a refusal of a plan that is no fault of a file nor want of memory is the one that is due
-due : {S A : Type 0} (held : S → Option Held) (faults : S → ℕ) (blamed : S → Option (List ℕ)) (before after : S) (names : List (List ℕ)) (may : File → Bool) (source : Source) (from : PlanSource) (e : Refusal) (view : A → PlanParts) → from ≡ plan_source source → IsReading held faults blamed before after names may (λ files. plan_from files names from) (Err e) view → ((file : File) → e ≡ Unreadable file → ⊥) → (e ≡ Memory → ⊥) → is_found e ≡ true → (is_found e ≡ true) × IfSome (held before) (λ files. plan_from files names (plan_source source) ≡ Err e)
+due : {S A : Type 0} {given : S → Option (List ℕ × ℕ)} (held : S → Option Held) (faults : S → ℕ) (blamed : S → Option (List ℕ)) (before after : S) (names : List (List ℕ)) (may : File → Bool) (source : Source) (from : PlanSource) (e : Refusal) (view : A → PlanParts) → from ≡ plan_source source → IsReading held faults blamed given before after names may (λ files. plan_from files names from) (Err e) view → ((file : File) → e ≡ Unreadable file → ⊥) → (e ≡ Memory → ⊥) → is_found e ≡ true → (is_found e ≡ true) × IfSome (held before) (λ files. plan_from files names (plan_source source) ≡ Err e)
 due held faults blamed before after names may source from e view same reading readable enough found = (found, by_held (held before) refl)
   where
     by_held : (o : Option Held) → held before ≡ o → IfSome o (λ files. plan_from files names (plan_source source) ≡ Err e)
@@ -79,7 +79,7 @@ unfound e may readable enough never (inr (inl memory)) = enough memory
 unfound e may readable enough never (inr (inr found)) = false≢true (sym never ∙ found)
 
 -- each refusal of a plan has its cause
-pub plan-refused : {S A : Type 0} (held : S → Option Held) (faults : S → ℕ) (blamed : S → Option (List ℕ)) (before after : S) (names : List (List ℕ)) (source : Source) (from : PlanSource) (result : Outcome A) (view : A → PlanParts) → from ≡ plan_source source → IsReading held faults blamed before after names (is_file_of from) (λ files. plan_from files names from) result view → IfErr result (IsPlanRefusal source names (held before) (blamed after) (faults before) (faults after))
+pub plan-refused : {S A : Type 0} {given : S → Option (List ℕ × ℕ)} (held : S → Option Held) (faults : S → ℕ) (blamed : S → Option (List ℕ)) (before after : S) (names : List (List ℕ)) (source : Source) (from : PlanSource) (result : Outcome A) (view : A → PlanParts) → from ≡ plan_source source → IsReading held faults blamed given before after names (is_file_of from) (λ files. plan_from files names from) result view → IfErr result (IsPlanRefusal source names (held before) (blamed after) (faults before) (faults after))
 plan-refused held faults blamed before after names source from (Ok a) view same reading = tt
 plan-refused held faults blamed before after names source from (Err (Unreadable file)) view same reading = (let (may, rose, name) = reading.blames file refl in (ap (λ s. is_file_of s file) (sym same) ∙ may, rose, name))
 plan-refused held faults blamed before after names source from (Err Memory) view same reading = tt
@@ -98,7 +98,7 @@ plan-refused held faults blamed before after names source from (Err Usage) view 
 plan-refused held faults blamed before after names source from (Err WriteFault) view same reading = unfound WriteFault (is_file_of from) (λ file is. cc is) (λ is. cc is) refl reading.refuses
 
 -- a plan that is given is the one that its file calls for
-pub plan-given : {S A : Type 0} (held : S → Option Held) (faults : S → ℕ) (blamed : S → Option (List ℕ)) (before after : S) (names : List (List ℕ)) (may : File → Bool) (source : Source) (from : PlanSource) (result : Outcome A) (view : A → PlanParts) → from ≡ plan_source source → IsReading held faults blamed before after names may (λ files. plan_from files names from) result view → IfOk result (λ a. IsPlan (view a)) → IfOk result (λ a. IsPlanOf source names (held before) (view a))
+pub plan-given : {S A : Type 0} {given : S → Option (List ℕ × ℕ)} (held : S → Option Held) (faults : S → ℕ) (blamed : S → Option (List ℕ)) (before after : S) (names : List (List ℕ)) (may : File → Bool) (source : Source) (from : PlanSource) (result : Outcome A) (view : A → PlanParts) → from ≡ plan_source source → IsReading held faults blamed given before after names may (λ files. plan_from files names from) result view → IfOk result (λ a. IsPlan (view a)) → IfOk result (λ a. IsPlanOf source names (held before) (view a))
 plan-given held faults blamed before after names may source from (Err e) view same reading is_plan = tt
 plan-given held faults blamed before after names may source from (Ok a) view same reading is_plan =
     (is_plan, by_held (held before) refl)

@@ -14,6 +14,10 @@ pub struct HostInput<I> {
     reader: Option<I>,
     faults: u64,
     blamed: Option<String>,
+    /// The name of the last read that gave bytes.
+    given: Option<String>,
+    /// How many it gave.
+    length: usize,
 }
 
 impl<I> HostInput<I> {
@@ -26,6 +30,8 @@ impl<I> HostInput<I> {
             reader: Some(reader),
             faults: 0,
             blamed: None,
+            given: None,
+            length: 0,
         }
     }
 }
@@ -39,10 +45,16 @@ impl<I: Read + Drop> Files for HostInput<I> {
 
     ghost blamed = { λ f. option_map string_bytes f.blamed };
 
+    ghost given = { λ f. option_map (λ name. (string_bytes name, f.length)) f.given };
+
     fn read(&mut self, alloc: Global, name: &str, limit: usize) -> Result<Vec<u8>, ReadFault> {
         let copy = String::from_str(alloc, name)?;
         match read_once(self.reader.take(), alloc, limit + 1) {
-            Ok(bytes) => Ok(bytes),
+            Ok(bytes) => {
+                self.given = Some(copy);
+                self.length = bytes.len();
+                Ok(bytes)
+            }
             Err(ReadFault::Memory) => Err(ReadFault::Memory),
             Err(ReadFault::Failed) => {
                 self.faults = self.faults.saturating_add(1);

@@ -23,7 +23,7 @@ use Rattle.scene_steps.proofs.Same.SameScenes.{same_scene-refl}
 use Rattle.scene_steps.proofs.Slots.Chosen.{listed-not_soft}
 
 -- after an early end, an executive with what the end leaves of the scene
-pub Does-done : (before after : Executive) (row : ℕ) (key : Key) → IsPlan before.plan → StandsForSome before → before.last_row < row → after.plan ≡ before.plan → IsSameScene after.scene (ended key before.scene) → after.last_row ≡ row → Does before after (arrive row (DoneEvent key)) (Done row key (freed before.scene.time key before.scene.jobs before.scene.soft))
+pub Does-done : (before after : Executive) (row : ℕ) (key : Key) → IsPlan before.plan → StandsForSome before → before.last_row ≤ row → after.plan ≡ before.plan → IsSameScene after.scene (ended key before.scene) → after.last_row ≡ row → Does before after (arrive row (DoneEvent key)) (Done row key (freed before.scene.time key before.scene.jobs before.scene.soft))
 Does-done before after row key plan stands later stays same last =
     let set = before.plan.tasks in
     let cycle = before.plan.cycle in

@@ -1,5 +1,5 @@
 -- A withdrawal: which job it takes, what it frees, and what it leaves.
-use Rattle.std.proofs.Common.{◌≡◌, ℕ, ◌<◌, ◌≤◌, not, List, Option, Some, None, filter, refl, sym, ap, subst, arith}
+use Rattle.std.proofs.Common.{◌≡◌, ℕ, ◌≤◌, not, List, Option, Some, None, filter, refl, sym, ap, subst, arith}
 use Rattle.std.specs.Prelude.{count_by, IsSomeAnd, ◌↔◌}
 use Rattle.std.specs.Option.{option_map_or}
 use Rattle.std.proofs.lemmas.Bool.{not_from_false}
@@ -117,7 +117,7 @@ AreDueInSpans-withdrawn firm jobs all job due e =
     All-contains (λ (j : Job). IsSomeAnd (span_ending j.dl all) (λ (s : Span). j.left ≤ s.work)) jobs job due (Contains-from_Has jobs job at)
 
 -- after a withdrawal, an executive with what it leaves of the scene has done what the model does
-pub Does-withdraw : (before after : Executive) (row firm : ℕ) → IsPlan before.plan → StandsForSome before → before.last_row < row → after.plan ≡ before.plan → IsSameScene after.scene (left_by firm before.scene) → after.last_row ≡ row → Does before after (arrive row (WithdrawEvent firm)) (Withdraw row firm (withdrawn firm before.scene.jobs))
+pub Does-withdraw : (before after : Executive) (row firm : ℕ) → IsPlan before.plan → StandsForSome before → before.last_row ≤ row → after.plan ≡ before.plan → IsSameScene after.scene (left_by firm before.scene) → after.last_row ≡ row → Does before after (arrive row (WithdrawEvent firm)) (Withdraw row firm (withdrawn firm before.scene.jobs))
 Does-withdraw before after row firm plan stands later stays same last =
     let step = scene_after-withdrawn before.plan.tasks before.plan.cycle row firm before.scene in
     Does-from_step before after (arrive row (WithdrawEvent firm)) (Withdraw row firm (withdrawn firm before.scene.jobs)) plan stands (later, refl) refl stays (subst (IsSameScene after.scene) (sym step) same) last

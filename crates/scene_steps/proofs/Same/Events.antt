@@ -1,10 +1,11 @@
 -- An event that is answered in its scene, and changes the scene by the step, does what the model does.
-use Rattle.std.proofs.Common.{◌≡◌, ℕ, true, ◌∷◌, sym, ap, ◌∙◌, subst, arith}
+use Rattle.std.proofs.Common.{◌≡◌, ℕ, true, ◌∷◌, sym, ap, ◌∙◌, subst}
 use Rattle.slot_core.specs.declared.tasks.TaskSet.{TaskSet}
 use Rattle.slot_core.specs.declared.events.What.{What}
 use Rattle.slot_core.specs.Sets.Cycles.{cycle_of}
 use Rattle.slot_core.specs.Keeping.Executives.{Executive, StandsFor, StandsForSome, Does, Shows}
 use Rattle.slot_core.specs.Feasibility.Feasible.{IsFeasible}
+use Rattle.slot_core.specs.Runs.Arrivals.{MayHaveRow}
 use Rattle.slot_core.specs.Runs.Histories.{History, last_row}
 use Rattle.slot_core.specs.Runs.Matches.{IsSameScene, MatchesHistory}
 use Rattle.slot_core.specs.Keeping.Plans.{PlanParts, IsPlan}
@@ -23,7 +24,8 @@ use Rattle.scene_steps.proofs.Model.Histories.{scene-follows, row-follows, told-
 
 -- what may come after the last row of a history may come after the history
 MayCome-after : (set : TaskSet) (h : History) (last : ℕ) (next : Occurrence) → last ≡ last_row h → MayComeAfter set last next → MayCome set h next
-MayCome-after set h last (arrive row event) same may = (omega (arith, may.0), may.1)
+MayCome-after set h last (arrive row event) same may =
+    (subst (λ r. MayHaveRow r row event) same may.0, may.1)
 MayCome-after set h last slot same may = tt
 
 -- after an event that does what the model does, the executive stands for some history

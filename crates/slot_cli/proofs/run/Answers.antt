@@ -9,7 +9,7 @@ use Rattle.run_steps.specs.Sets.{second_set}
 use Rattle.slot_cli.specs.Due.{expected, writing_due}
 use Rattle.slot_cli.specs.Runs.{in_parts}
 use Rattle.slot_cli.specs.Verdicts.{set_of_run}
-use Rattle.slot_cli.proofs.StatusLemmas.{done-text, front-at_most, leaves-reported, refused-change, status-tells, told-due, told-either, reported-due, reported-answers, reported-put, reported-same, reported-unreadable, write_apart, IfSome-from_each, err_same, reported-untouched}
+use Rattle.slot_cli.proofs.StatusLemmas.{done-text, front-at_most, leaves-reported, refused-change, status-tells, told-due, told-either, reported-due, reported-answers, reported-put, reported-same, reported-unreadable, reported-large, write_apart, IfSome-from_each, err_same, reported-untouched}
 use Rattle.slot_cli.proofs.ServedRuns.{changes-run, cycles-run, offers-run, served-run}
 use Rattle.slot_cli.proofs.PrintedRuns.{IsPrinted-due}
 use Rattle.slot_cli.proofs.VerifiedRuns.{IsVerified-due}
@@ -70,6 +70,7 @@ returns-in-Err-clause-whole g c =
       early = IfSome-from_each held _ (λ files told e due. ap g.K.Sink.written (work.early files told e due));
       untouched = λ e is leaves. reported-untouched (in_parts (command_of c.args.words.now)) c.in-Err.refusal c.report.result e g.K.Sink.written _ _ c.report.ensures.kept work.output (err_same c.report.result e is) leaves;
       blames = λ file is. let (reads, rose, blamed) = work.blames file (ap Err (reported-unreadable c.in-Err.refusal c.report.result file c.report.ensures.kept is)) in (reads, blamed);
+      sizes = λ file is. work.sizes file (ap Err (reported-large c.in-Err.refusal c.report.result file c.report.ensures.kept is));
       told = c.report.ensures.told;
     }
 
@@ -79,6 +80,12 @@ returns-in-Err-clause-too_large g c =
     λ status.
     let (file, is) = status-tells _ Status.TooLarge c.report.result c.status.ensures status in
     told-due TooLarge file (g.F.Files.held c.args.files.now) (command_of c.args.words.now) (λ files. expected files c.args.words.now) c.in-Err.refusal c.report.result refl is c.report.ensures.kept c.in-Err.ensures.answers
+
+pub returns-in-Err-clause-too_large_file : goal.returns-in-Err-clause-too_large_file
+returns-in-Err-clause-too_large_file g c =
+    λ status.
+    let (file, is) = status-tells _ Status.TooLarge c.report.result c.status.ensures status in
+    (file, c.in-Err.ensures.sizes file (ap Err (reported-large c.in-Err.refusal c.report.result file c.report.ensures.kept (ap Err is))))
 
 pub returns-in-Err-clause-bad_tasks : goal.returns-in-Err-clause-bad_tasks
 returns-in-Err-clause-bad_tasks g c =

@@ -1,5 +1,5 @@
 -- Arrivals that fit a task set and a number of slots.
-use Rattle.std.specs.Prelude.{ℕ, ◌+◌, Bool, true, ◌&&◌, ◌==◌, List, [], ◌∷◌, length, nat_le, nat_lt}
+use Rattle.std.specs.Prelude.{ℕ, ◌+◌, ◌<◌, ◌≤◌, Bool, true, ◌&&◌, ◌==◌, List, [], ◌∷◌, length, nat_le, nat_lt}
 use Rattle.slot_core.specs.declared.jobs.Key.{Key}
 use Rattle.slot_core.specs.declared.jobs.Key.TheVariants.{Offline, Sporadic as SporadicKey, Firm as FirmKey, Soft as SoftKey}
 use Rattle.slot_core.specs.declared.events.Event.{Event}
@@ -43,6 +43,14 @@ event_may_come set (Firm slots within) =
 event_may_come set (Sporadic index) = nat_lt index (length set.sporadics)
 event_may_come set (Done key) = true
 event_may_come set (Withdraw firm) = true
+
+-- after the last arrival's row the event may have this one: a row above it, since a job is named by
+-- the row in which it came; an early end or a withdrawal brings no job, so it may have the last row
+-- too
+abbrev pub MayHaveRow : ℕ → ℕ → Event → Type 0
+MayHaveRow last row (Done key) = last ≤ row
+MayHaveRow last row (Withdraw firm) = last ≤ row
+MayHaveRow last row _ = last < row
 
 -- what the event names is in range, and the set has it
 abbrev pub event_names_known : TaskSet → Event → Bool

@@ -1,5 +1,5 @@
 -- The trace of a task set and its arrivals, and the histories that the definitions allow.
-use Rattle.std.specs.Prelude.{◌≡◌, ◌<◌, true, ℕ, ◌==◌, List, [], ◌∷◌, ◌++◌, map, filter, flat_map, reverse, ⊤}
+use Rattle.std.specs.Prelude.{◌≡◌, true, ℕ, ◌==◌, List, [], ◌∷◌, ◌++◌, map, filter, flat_map, reverse, ⊤}
 use Rattle.std.specs.List.{range_with_len}
 use Rattle.slot_core.specs.declared.tasks.TaskSet.{TaskSet}
 use Rattle.slot_core.specs.declared.events.Event.{Event}
@@ -11,7 +11,7 @@ use Rattle.slot_core.specs.declared.events.What.{What}
 use Rattle.slot_core.specs.declared.events.What.TheVariants.{Start, Run, Idle, End}
 use Rattle.slot_core.specs.Sets.Cycles.{cycle_of}
 use Rattle.slot_core.specs.Runs.Histories.{History, time_of, last_row}
-use Rattle.slot_core.specs.Runs.Arrivals.{event_may_come}
+use Rattle.slot_core.specs.Runs.Arrivals.{MayHaveRow, event_may_come}
 use Rattle.slot_core.specs.Runs.Scenes.{scene_of}
 use Rattle.slot_core.specs.Runs.Choice.{choice}
 use Rattle.slot_core.specs.Runs.Answers.{answer}
@@ -84,9 +84,10 @@ trace set arrivals n = trace_in set (cycle_of set) arrivals n
 abbrev pub history_of : List Entry → History
 history_of trace = reverse (map (λ (e : Entry). e.what) trace)
 
--- an occurrence may come: an arrival has a row above those before it, and its event may come
+-- an occurrence may come: an arrival's event may have its row, and may come
 abbrev pub MayCome : TaskSet → History → Occurrence → Type 0
-MayCome set h (arrive row event) = (last_row h < row) × (event_may_come set event ≡ true)
+MayCome set h (arrive row event) =
+    MayHaveRow (last_row h) row event × (event_may_come set event ≡ true)
 MayCome set h slot = ⊤
 
 -- what an entry tells is what the definitions tell, at the history before it, of an occurrence that

@@ -133,12 +133,12 @@ pub data Entries (S : Slots) (set : TaskSet) (cycle : ℕ) : History → Type 0 
   sporadic_taken : {h : History} {row index due : ℕ} → TakesSporadic set h row index due → Entries S set cycle h → Entries S set cycle (SporadicEntry row index (SporadicTaken due) ∷ h)
   soon : {h : History} {row index next : ℕ} → last_row h < row → Entries S set cycle h → Entries S set cycle (SporadicEntry row index (Soon next) ∷ h)
   -- an early end
-  job_freed : {h : History} {row n : ℕ} {key : Key} → last_row h < row → (j : Remains set cycle h key n) → j.job.left < j.job.declared → Entries S set cycle h → Entries S set cycle (Done row key (Freed n) ∷ h)
-  soft_freed : {h : History} {row n : ℕ} {key : Key} → last_row h < row → RunningSoft h key n → Entries S set cycle h → Entries S set cycle (Done row key (Freed n) ∷ h)
-  not_running : {h : History} {row : ℕ} {key : Key} → last_row h < row → Entries S set cycle h → Entries S set cycle (Done row key NotRunning ∷ h)
+  job_freed : {h : History} {row n : ℕ} {key : Key} → last_row h ≤ row → (j : Remains set cycle h key n) → j.job.left < j.job.declared → Entries S set cycle h → Entries S set cycle (Done row key (Freed n) ∷ h)
+  soft_freed : {h : History} {row n : ℕ} {key : Key} → last_row h ≤ row → RunningSoft h key n → Entries S set cycle h → Entries S set cycle (Done row key (Freed n) ∷ h)
+  not_running : {h : History} {row : ℕ} {key : Key} → last_row h ≤ row → Entries S set cycle h → Entries S set cycle (Done row key NotRunning ∷ h)
   -- a withdrawal
-  withdrawn : {h : History} {row firm n : ℕ} → last_row h < row → Remains set cycle h (FirmKey firm) n → Entries S set cycle h → Entries S set cycle (Withdraw row firm (GoneFreed n) ∷ h)
-  no_job : {h : History} {row firm : ℕ} → last_row h < row → Entries S set cycle h → Entries S set cycle (Withdraw row firm NoJob ∷ h)
+  withdrawn : {h : History} {row firm n : ℕ} → last_row h ≤ row → Remains set cycle h (FirmKey firm) n → Entries S set cycle h → Entries S set cycle (Withdraw row firm (GoneFreed n) ∷ h)
+  no_job : {h : History} {row firm : ℕ} → last_row h ≤ row → Entries S set cycle h → Entries S set cycle (Withdraw row firm NoJob ∷ h)
 
 -- the entries are those that ask less of their slots
 pub entries-weaker : {S T : Slots} {set : TaskSet} {cycle : ℕ} {h : History} → ((h : History) (ran : Ran) → S h ran → T h ran) → Entries S set cycle h → Entries T set cycle h
@@ -220,7 +220,7 @@ module _ {S : Slots} (set : TaskSet) (cycle : ℕ) (h : History) (before : Entri
           sporadic_taken (record { above = above; named = ltb-true index (length set.sporadics) may; not_soon = ltb-false scene.time (slice_index scene.nexts index) e }) before
 
   -- an early end
-  data-freed : (row : ℕ) (key : Key) (j : Key × ℕ) → last_row h < row → Has (started_jobs scene) j → same_key j.0 key ≡ true → Stays (Done row key (Freed j.1))
+  data-freed : (row : ℕ) (key : Key) (j : Key × ℕ) → last_row h ≤ row → Has (started_jobs scene) j → same_key j.0 key ≡ true → Stays (Done row key (Freed j.1))
   data-freed row key j above at same =
       let jobs = filter (λ (j : Job). nat_lt j.left j.declared) scene.jobs in
       let softs = filter (λ (s : SoftJob). nat_lt s.left s.declared) scene.soft in
@@ -239,7 +239,7 @@ module _ {S : Slots} (set : TaskSet) (cycle : ℕ) (h : History) (before : Entri
             soft_freed above (record { soft = m.0; among = f.0; started = ltb-true m.0.left m.0.declared f.1; keyed = ap (λ k. same_key k key) key_is ∙ same; slots = sym left_is }) before
       ]
 
-  data-done : (row : ℕ) (key : Key) → last_row h < row → Stays (Done row key (done_answer scene key))
+  data-done : (row : ℕ) (key : Key) → last_row h ≤ row → Stays (Done row key (done_answer scene key))
   data-done row key above = by_found (find (λ (j : Key × ℕ). same_key j.0 key) (started_jobs scene)) refl
     where
       by_found : (o : Option (Key × ℕ)) → find (λ (j : Key × ℕ). same_key j.0 key) (started_jobs scene) ≡ o → Stays (Done row key (option_map_or (λ (j : Key × ℕ). Freed j.1) o NotRunning))
@@ -249,7 +249,7 @@ module _ {S : Slots} (set : TaskSet) (cycle : ℕ) (h : History) (before : Entri
           data-freed row key j above found.0 found.1
 
   -- a withdrawal
-  data-withdraw : (row firm : ℕ) → last_row h < row → Stays (Withdraw row firm (withdraw_answer scene firm))
+  data-withdraw : (row firm : ℕ) → last_row h ≤ row → Stays (Withdraw row firm (withdraw_answer scene firm))
   data-withdraw row firm above = by_found (find (λ (j : Job). same_key j.key (FirmKey firm)) scene.jobs) refl
     where
       by_found : (o : Option Job) → find (λ (j : Job). same_key j.key (FirmKey firm)) scene.jobs ≡ o → Stays (Withdraw row firm (option_map_or (λ (j : Job). GoneFreed j.left) o NoJob))

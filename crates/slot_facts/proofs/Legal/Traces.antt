@@ -18,7 +18,7 @@ use Rattle.slot_core.specs.Sets.Cycles.{cycle_of}
 use Rattle.slot_core.specs.Runs.Histories.{History, time_of, last_row}
 use Rattle.slot_core.specs.Runs.Scenes.{scene_of}
 use Rattle.slot_core.specs.Runs.Choice.{choice}
-use Rattle.slot_core.specs.Runs.Arrivals.{event_may_come, event_names_known, event_fits, arrivals_follow, are_fitting}
+use Rattle.slot_core.specs.Runs.Arrivals.{MayHaveRow, event_may_come, event_names_known, event_fits, arrivals_follow, are_fitting}
 use Rattle.slot_core.specs.Runs.Traces.{Occurrence, arrive, slot, told_of_slot, told_of, shown_entry, entries, occurrences_in, occurrences_of, started, end_entry, trace, history_of, MayCome, IsDue, IsLegal}
 use Rattle.slot_facts.specs.Service.{EveryTraceIsLegal}
 
@@ -34,15 +34,23 @@ legal-due set cycle h (WithdrawEntry row firm a) legal due = (due, legal)
 legal-due set cycle h (Run key) legal due = (due, legal)
 legal-due set cycle h Idle legal due = (due, legal)
 
--- from a row on, occurrences may come one after the other
+-- from a row on, occurrences may come one after the other, each arrival in a row above the last
 abbrev pub MayAllCome : TaskSet → ℕ → List Occurrence → Type 0
 MayAllCome set row [] = ⊤
 MayAllCome set row (arrive r event ∷ later) = (row < r) × (event_may_come set event ≡ true) × MayAllCome set r later
 MayAllCome set row (slot ∷ later) = MayAllCome set row later
 
+-- an event may have any row above the last one
+pub MayHaveRow-above : (last row : ℕ) (event : Event) → last < row → MayHaveRow last row event
+MayHaveRow-above last row (Soft slots) above = above
+MayHaveRow-above last row (Firm slots within) above = above
+MayHaveRow-above last row (Sporadic index) above = above
+MayHaveRow-above last row (Done key) above = omega (arith, above)
+MayHaveRow-above last row (Withdraw firm) above = omega (arith, above)
+
 -- so the first may come
 pub MayCome-first : (set : TaskSet) (h : History) (next : Occurrence) (later : List Occurrence) → MayAllCome set (last_row h) (next ∷ later) → MayCome set h next
-MayCome-first set h (arrive row event) later may = (may.0, may.1)
+MayCome-first set h (arrive row event) later may = (MayHaveRow-above (last_row h) row event may.0, may.1)
 MayCome-first set h slot later may = tt
 
 -- the last row after what happens next

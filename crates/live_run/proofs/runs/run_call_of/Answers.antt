@@ -19,7 +19,7 @@ returns-in-None-clause-whole g c =
     let see = seen g.K.Sink.written g.K.Sink.faults g.R.RecordFile.written g.R.RecordFile.faults g.E.Sink.written g.E.Sink.faults in
     let none : None ≡ live_call_of words = sym c.in-None.is ∙ c.live_call_of.ensures.call in
     subst
-    (λ (call : Option LiveCall). IsRunOf g.F.Files.held g.F.Files.faults g.F.Files.blamed g.S.LineSource.gave g.S.LineSource.broke g.S.LineSource.faults c.args.files.now c.args.files.now words call (option_map_or (plan_words words) call []) c.args.source.now c.args.source.now (see s) (see (record s { faults = c.tell_unnamed.new.err })) c.tell_unnamed.result)
+    (λ (call : Option LiveCall). IsRunOf g.F.Files.held g.F.Files.faults g.F.Files.blamed g.F.Files.given g.S.LineSource.gave g.S.LineSource.broke g.S.LineSource.faults c.args.files.now c.args.files.now words call (option_map_or (plan_words words) call []) c.args.source.now c.args.source.now (see s) (see (record s { faults = c.tell_unnamed.new.err })) c.tell_unnamed.result)
     none
     (record {
       outcome = Err Usage;

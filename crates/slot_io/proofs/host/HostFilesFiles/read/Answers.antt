@@ -28,6 +28,7 @@ returns-in_err-copy g c = record {
   named = λ fails. absurd (memory_has_not_failed c.from_residual.result c.from_residual.ensures.1 fails);
   no_fault = λ _. refl;
   no_blame = λ _. refl;
+  gives = rw (answer_is c.from_residual.result c.from_residual.ensures.1) tt;
 }
 
 pub returns-in-Ok : goal.returns-in-Ok
@@ -40,6 +41,9 @@ returns-in-Ok g c = record {
   named = λ fails. absurd (bytes_have_not_failed c.in-Ok.bytes fails);
   no_fault = λ _. refl;
   no_blame = λ _. refl;
+  gives =
+      ap (λ name. Some (name, c.len-self.result)) c.in_ok-copy.ensures.ok
+      ∙ ap (λ length. Some (c.args.name.now, length)) c.len-self.ensures;
 }
 
 pub returns-in-Err-Memory : goal.returns-in-Err-Memory
@@ -52,6 +56,7 @@ returns-in-Err-Memory g c = record {
   named = λ fails. absurd (memory_has_not_failed _ refl fails);
   no_fault = λ _. refl;
   no_blame = λ _. refl;
+  gives = tt;
 }
 
 pub returns-in-Err-Failed : goal.returns-in-Err-Failed
@@ -64,4 +69,5 @@ returns-in-Err-Failed g c = record {
   named = λ _. ap Some c.in_ok-copy.ensures.ok;
   no_fault = λ other. absurd (other refl);
   no_blame = λ other. absurd (other refl);
+  gives = tt;
 }

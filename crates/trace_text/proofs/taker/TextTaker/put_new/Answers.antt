@@ -1,7 +1,7 @@
 use Rattle.std.proofs.Common.{[], ◌∷◌, ◌++◌, ap, length, ◌∙◌}
 use Rattle.slot_core.specs.Output.Texts.{spans_text}
 use Rattle.trace_text.proofs.TakenLines.{broken-put, tells, told_after}
-use Rattle.trace_text.proofs.taker.TextTaker.take_new.Goals as goal
+use Rattle.trace_text.proofs.taker.TextTaker.put_new.Goals as goal
 
 pub returns-clause-part : goal.returns-clause-part
 returns-clause-part g c =
