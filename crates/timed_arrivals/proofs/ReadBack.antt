@@ -5,7 +5,7 @@ use Rattle.std.proofs.Math.Nat.{mul-div_cancel_left}
 use Rattle.slot_core.specs.Calls.Results.{◌>>=◌}
 use Rattle.time_texts.specs.declared.TheConstants.{NANOS_LIMIT}
 use Rattle.time_texts.proofs.Writings.{times_are_read_back}
-use Rattle.timed_arrivals.specs.declared.faults.TimedFault.{TimedFault}
+use Rattle.timed_arrivals.specs.declared.timed_fault.TimedFault.{TimedFault}
 use Rattle.timed_arrivals.specs.Laws.{SlotsAreReadBack}
 use Rattle.timed_arrivals.specs.Rows.{Timed}
 use Rattle.timed_arrivals.specs.Traces.{line_text}

@@ -1,7 +1,7 @@
 -- The texts of faults.
 use Rattle.std.specs.Prelude.{ℕ, List, ◌++◌, codes, decimal}
-use Rattle.timed_arrivals.specs.declared.faults.TimedFault.{TimedFault}
-use Rattle.timed_arrivals.specs.declared.faults.TimedFault.TheVariants.{Memory, BadRow, BadTime, UnknownKind, TooMany, NoLine, TooLate}
+use Rattle.timed_arrivals.specs.declared.timed_fault.TimedFault.{TimedFault}
+use Rattle.timed_arrivals.specs.declared.timed_fault.TimedFault.TheVariants.{Memory, BadRow, BadTime, UnknownKind, TooMany, NoLine, TooLate}
 
 -- why arrivals with times, or a trace, are refused
 abbrev pub timed_fault_text : TimedFault → List ℕ

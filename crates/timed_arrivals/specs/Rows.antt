@@ -7,8 +7,8 @@ use Rattle.clock_units.specs.Rounding.{down, up}
 use Rattle.arrival_csv.specs.declared.kinds.Kind.{Kind}
 use Rattle.arrival_csv.specs.declared.kinds.Kind.TheVariants.{Soft, Firm, Sporadic, Done, Withdraw}
 use Rattle.arrival_csv.specs.Kinds.{kind_of, kind_word}
-use Rattle.timed_arrivals.specs.declared.faults.TimedFault.{TimedFault}
-use Rattle.timed_arrivals.specs.declared.faults.TimedFault.TheVariants.{BadRow, BadTime, UnknownKind}
+use Rattle.timed_arrivals.specs.declared.timed_fault.TimedFault.{TimedFault}
+use Rattle.timed_arrivals.specs.declared.timed_fault.TimedFault.TheVariants.{BadRow, BadTime, UnknownKind}
 use Rattle.timed_arrivals.specs.declared.row.SlotEvent.{SlotEvent}
 use Rattle.timed_arrivals.specs.declared.row.SlotEvent.TheVariants.{Slots, Offer, Copied}
 

@@ -3,8 +3,8 @@ use Rattle.std.specs.Prelude.{◌≡◌, ◌≢◌, ℕ, ◌+◌, ◌-◌, ◌==
 use Rattle.slot_core.specs.declared.TheConstants.{ARRIVAL_LIMIT, NUMBER_LIMIT}
 use Rattle.slot_core.specs.Calls.Results.{◌>>=◌}
 use Rattle.clock_units.specs.declared.sets.PhysicalSet.{PhysicalSet}
-use Rattle.timed_arrivals.specs.declared.faults.TimedFault.{TimedFault}
-use Rattle.timed_arrivals.specs.declared.faults.TimedFault.TheVariants.{Memory, TooMany}
+use Rattle.timed_arrivals.specs.declared.timed_fault.TimedFault.{TimedFault}
+use Rattle.timed_arrivals.specs.declared.timed_fault.TimedFault.TheVariants.{Memory, TooMany}
 use Rattle.timed_arrivals.specs.declared.state.SoFar.{SoFar}
 use Rattle.timed_arrivals.specs.declared.form.Form.{Form}
 use Rattle.timed_arrivals.specs.declared.form.Form.TheVariants.{Arrivals, Trace}

@@ -5,8 +5,8 @@ use Rattle.key_texts.specs.KeyTexts.{cut_at}
 use Rattle.key_texts.specs.Numbers.{number_of}
 use Rattle.time_texts.specs.declared.TheConstants.{NANOS_LIMIT}
 use Rattle.time_texts.specs.Writing.{time_text}
-use Rattle.timed_arrivals.specs.declared.faults.TimedFault.{TimedFault}
-use Rattle.timed_arrivals.specs.declared.faults.TimedFault.TheVariants.{NoLine, TooLate}
+use Rattle.timed_arrivals.specs.declared.timed_fault.TimedFault.{TimedFault}
+use Rattle.timed_arrivals.specs.declared.timed_fault.TimedFault.TheVariants.{NoLine, TooLate}
 use Rattle.timed_arrivals.specs.Rows.{Timed}
 
 -- the front of a line: its slot, and what stands after the space behind it

@@ -3,16 +3,16 @@
 //! a trace, whose lines begin with times then.
 #![tactic(auto)]
 
-pub mod faults;
 pub mod form;
 pub mod laws;
 mod rounding;
 mod row;
 mod state;
 mod text;
+pub mod timed_fault;
 mod trace;
 
-pub use faults::TimedFault;
 pub use form::Form;
 pub use row::SlotEvent;
 pub use text::timed_text;
+pub use timed_fault::TimedFault;

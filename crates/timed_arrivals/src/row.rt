@@ -4,8 +4,8 @@ ghost use Rattle.std.specs.Prelude.{◌≡◌, ◌<◌, ◌++◌, ◌∷◌, Ok,
 ghost use Rattle.arrival_csv.specs.Kinds.{kind_word};
 ghost use Rattle.timed_arrivals.specs.Rows.{event_of, event_text, firm_of, head_of, row_text, time_in, HeadParts};
 
-use crate::faults::TimedFault;
 use crate::rounding::{slots_within, up};
+use crate::timed_fault::TimedFault;
 use arrival_csv::Kind;
 use itoa::Buffer;
 use key_texts::cut_at;

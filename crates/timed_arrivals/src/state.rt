@@ -1,15 +1,15 @@
 //! What is read so far of arrivals with times, or of a trace.
 
 ghost use Rattle.std.specs.Prelude.{◌≡◌, ◌≢◌, ◌<◌, ◌-◌, ◌^◌, ◌==◌, ◌++◌, ◌∷◌, ℕ, List, [], false, length, Ok, Err, OnOk, MatchResult};
-ghost use Rattle.timed_arrivals.specs.declared.faults.TimedFault.{TimedFault};
+ghost use Rattle.timed_arrivals.specs.declared.timed_fault.TimedFault.{TimedFault};
 ghost use Rattle.timed_arrivals.specs.Rows.{row_in_slots};
 ghost use Rattle.timed_arrivals.specs.Traces.{line_in_times};
 ghost use Rattle.timed_arrivals.specs.Texts.{timed_line, TakesByte, TakesLine};
 
-use crate::faults::TimedFault;
 use crate::form::{Form, limit_of};
 use crate::rounding::up;
 use crate::row::{event_of, head_of, push_row};
+use crate::timed_fault::TimedFault;
 use crate::trace::{front_of, push_line, time_at};
 use slot_core::Memory;
 

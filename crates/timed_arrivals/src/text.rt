@@ -3,9 +3,9 @@
 ghost use Rattle.std.specs.Prelude.{◌≡◌, ◌≢◌, ◌<◌, ◌-◌, Ok, Err, MatchResult};
 ghost use Rattle.timed_arrivals.specs.Texts.{timed_text};
 
-use crate::faults::TimedFault;
 use crate::form::Form;
 use crate::state::SoFar;
+use crate::timed_fault::TimedFault;
 use clock_units::PhysicalSet;
 use std::alloc::Global;
 

@@ -4,7 +4,7 @@ ghost use Rattle.std.specs.Prelude.{◌≡◌, ◌<◌, ◌++◌, Ok, Err, OnOk,
 ghost use Rattle.time_texts.specs.Writing.{time_text};
 ghost use Rattle.timed_arrivals.specs.Traces.{front_of, line_text, time_at, FrontParts};
 
-use crate::faults::TimedFault;
+use crate::timed_fault::TimedFault;
 use key_texts::{cut_at, number_of};
 use slot_core::Memory;
 use time_texts::{NANOS_LIMIT, push_time};

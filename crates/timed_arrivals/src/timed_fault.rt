@@ -1,7 +1,7 @@
 //! Why arrivals with times, or a trace, are refused.
 
 ghost use Rattle.std.specs.Prelude.{◌≡◌};
-ghost use Rattle.timed_arrivals.specs.declared.faults.TimedFault.TheVariants.{Memory as MemoryFault};
+ghost use Rattle.timed_arrivals.specs.declared.timed_fault.TimedFault.TheVariants.{Memory as MemoryFault};
 
 use slot_core::Memory;
 use std::error::Error;
