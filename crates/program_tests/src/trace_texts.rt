@@ -62,6 +62,6 @@ fn reading(alloc: Global, text: &[u8]) -> Result<usize, u64> {
     match read_trace(alloc, text) {
         Ok(lines) => Ok(lines.len()),
         Err(TraceFault::NoLine(number)) => Err(number),
-        Err(TraceFault::Memory) => Err(0),
+        Err(_) => Err(0),
     }
 }

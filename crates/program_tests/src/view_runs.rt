@@ -39,30 +39,30 @@ const BROKEN: &str = "0 start | 0-8:6
 ";
 
 const EVENTS: &str =
-    "time,row,kind,job,slots,within,answer,waiting,until,need,room,deadline,next,freed\r
-0,1,soft,soft:1,1,,taken,,,,,,,\r
-2,2,done,g.a#0,,,freed,,,,,,,1\r
+    "time,row,kind,job,slots,within,answer,waiting,until,need,room,deadline,next,freed
+0,1,soft,soft:1,1,,taken,,,,,,,
+2,2,done,g.a#0,,,freed,,,,,,,1
 ";
 
-const SPANS: &str = "line,time,place,start,end,spare\r
-1,0,1,0,8,5\r
-1,0,2,8,16,6\r
-2,0,1,0,8,5\r
-2,0,2,8,16,6\r
-3,0,1,1,8,4\r
-3,0,2,8,16,6\r
-4,1,1,2,8,4\r
-4,1,2,8,16,6\r
-5,2,1,2,8,5\r
-5,2,2,8,16,6\r
-6,2,1,3,8,-1\r
-6,2,2,8,16,4\r
+const SPANS: &str = "line,time,place,start,end,spare
+1,0,1,0,8,5
+1,0,2,8,16,6
+2,0,1,0,8,5
+2,0,2,8,16,6
+3,0,1,1,8,4
+3,0,2,8,16,6
+4,1,1,2,8,4
+4,1,2,8,16,6
+5,2,1,2,8,5
+5,2,2,8,16,6
+6,2,1,3,8,-1
+6,2,2,8,16,4
 ";
 
 const JOBS: &str =
-    "key,kind,graph,task,number,release,start,deadline,declared,ran,freed,first,end,response,slack,preemptions\r
-g.a#0,offline,g,a,0,0,0,8,2,1,1,1,2,2,6,0\r
-soft:1,soft,,,1,0,0,,1,1,0,0,1,1,,0\r
+    "key,kind,graph,task,number,release,start,deadline,declared,ran,freed,first,end,response,slack,preemptions
+g.a#0,offline,g,a,0,0,0,8,2,1,1,1,2,2,6,0
+soft:1,soft,,,1,0,0,,1,1,0,0,1,1,,0
 ";
 
 const WAVES: &str = "$comment One unit of time is one slot. $end
@@ -93,7 +93,8 @@ b0000000000000000000000000000000000000000000000000000000000000100 c
 b1111111111111111111111111111111111111111111111111111111111111111 c
 ";
 
-const USAGE: &str = "usage: slotview picture | jobs T | jobs --table B | events | spans | waves\n";
+const USAGE: &str = "usage: slotview picture [FROM UNTIL] | jobs T | jobs --table B \
+     | events [FROM UNTIL] | spans [FROM UNTIL] | waves [FROM UNTIL]\n";
 
 /// The words, the trace, the status, and what is written, or else told on standard error.
 const RUNS: [(&str, &str, Status, &str); 18] = [

@@ -1,5 +1,5 @@
 -- The firm jobs of the lines so far.
-use Rattle.std.proofs.Common.{◌≡◌, ◌==◌, ℕ, ◌+◌, ◌≤◌, ◌<◌, true, false, nat_le, List, [], ◌∷◌, ◌++◌, append-nil, length, length-append, take, drop, get_or, refl, sym, ap, ◌∙◌, inl, inr, arith}
+use Rattle.std.proofs.Common.{◌≡◌, ◌==◌, ℕ, ◌+◌, ◌≤◌, ◌<◌, true, false, List, [], ◌∷◌, ◌++◌, append-nil, length, length-append, take, drop, get_or, refl, sym, ap, ◌∙◌, inl, inr, arith}
 use Rattle.std.specs.List.{list_any}
 use Rattle.std.proofs.lemmas.Bool.{cases_Bool}
 use Rattle.std.proofs.lemmas.Bool.Decides.{nat_tests}
@@ -41,7 +41,7 @@ firms-grow firms (run ∷ runs) =
     omega (arith, key-grows firms run.1, firms-grow (with_key firms run.1) runs)
 
 -- the runs of one line more
-runs-more : (lines : List TraceLine) (i : ℕ) (line : TraceLine) → i < length lines → line ≡ get_or lines i line → runs_of (take (i + 1) lines) ≡ runs_of (take i lines) ++ run_at line.time line.words
+pub runs-more : (lines : List TraceLine) (i : ℕ) (line : TraceLine) → i < length lines → line ≡ get_or lines i line → runs_of (take (i + 1) lines) ≡ runs_of (take i lines) ++ run_at line.time line.words
 runs-more lines i line low is =
     ap runs_of (take_more lines i line low ∙ ap (λ l. take i lines ++ l ∷ []) (sym is))
     ∙ flat_map-append (λ (l : TraceLine). run_at l.time l.words) (take i lines) (line ∷ [])

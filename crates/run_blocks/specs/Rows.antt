@@ -1,12 +1,14 @@
 -- Rows of a trace, and the jobs that they hold.
-use Rattle.std.specs.Prelude.{ℕ, ◌≡◌, ◌≤◌, Bool, true, false, ◌&&◌, ◌==◌, List, [], ◌∷◌, ◌++◌, if◌then◌else◌, length, nat_le, position, slice_get, count_by}
+use Rattle.std.specs.Prelude.{ℕ, ◌≡◌, ◌≤◌, ◌<◌, Bool, true, false, ◌&&◌, ◌==◌, List, [], ◌∷◌, ◌++◌, if◌then◌else◌, length, nat_le, position, slice_get, count_by, take}
 use Rattle.std.specs.List.{list_all, list_any}
 use Rattle.std.specs.List.Sorted.{IsPermutation}
 use Rattle.std.specs.Option.{option_map_or, unwrap_or}
 use Rattle.std.specs.Str.{bytes_eq}
 use Rattle.trace_lines.specs.declared.line.KeyName.{KeyName}
+use Rattle.trace_lines.specs.declared.line.TraceLine.{TraceLine}
+use Rattle.trace_lines.specs.Traces.{runs_of}
 use Rattle.trace_lines.specs.declared.line.KeyName.TheVariants.{Offline, Sporadic as SporadicKey, Firm as FirmKey, Soft as SoftKey}
-use Rattle.run_blocks.specs.declared.TheConstants.{FIRM_ROW_LIMIT}
+use Rattle.run_blocks.specs.declared.TheConstants.{FIRM_ROW_LIMIT, ROW_LIMIT}
 use Rattle.run_blocks.specs.declared.rows.Row.{Row}
 use Rattle.run_blocks.specs.declared.rows.Row.TheVariants.{Task, Sporadic, FirmJob, Firm, Soft}
 
@@ -96,3 +98,14 @@ firms_from firms (run ∷ runs) = firms_from (with_key firms run.1) runs
 -- the firm jobs of runs are few enough for a row each
 abbrev pub have_few_firms : List (ℕ × KeyName) → Bool
 have_few_firms runs = nat_le (length (firms_from [] runs)) FIRM_ROW_LIMIT
+
+-- the jobs that run in some of the first lines ask for too many rows
+pub record AreTooMany (apart : Bool) (lines : List TraceLine) : Type 0 where
+  pub count : ℕ
+  pub rows : List Row
+  pub asked : AreRowsSoFar apart rows (runs_of (take count lines))
+  pub many : ROW_LIMIT < length rows
+
+-- the same, of rows in which a firm job has one of its own where few run
+abbrev pub AreCrowded : List TraceLine → Type 0
+AreCrowded lines = AreTooMany (have_few_firms (runs_of lines)) lines

@@ -1,12 +1,15 @@
 //! The rows of a trace: a task of a graph, a sporadic task, firm jobs, and soft work.
 
-ghost use Rattle.std.specs.Prelude.{◌≡◌, ◌<◌, ◌≤◌, ◌==◌, ℕ, List, [], ◌∷◌, ◌++◌, true, IfOk, OnOk, length, position};
+ghost use Rattle.std.specs.Prelude.{◌≡◌, ◌<◌, ◌≤◌, ◌==◌, ℕ, List, [], ◌∷◌, ◌++◌, true, Err, IfOk, OnOk, length, position};
 ghost use Rattle.std.specs.List.{list_any};
 ghost use Rattle.trace_lines.specs.Traces.{run_at, runs_of};
 ghost use Rattle.trace_lines.specs.declared.line.KeyName.{KeyName};
-ghost use Rattle.run_blocks.specs.Rows.{are_run, AreDistinct, AreRowsSoFar, firms_from, has_row, have_few_firms, have_rows, IsOneRowMore, may_all_stand, row_at, row_holds, row_of, with_firm, with_key};
+ghost use Rattle.run_blocks.specs.declared.TheConstants.{ROW_LIMIT};
+ghost use Rattle.run_blocks.specs.declared.faults.RowsFault.TheVariants.{TooMany};
+ghost use Rattle.run_blocks.specs.Rows.{are_run, AreCrowded, AreDistinct, AreRowsSoFar, AreTooMany, firms_from, has_row, have_few_firms, have_rows, IsOneRowMore, may_all_stand, row_at, row_holds, row_of, with_firm, with_key};
 
-use crate::FIRM_ROW_LIMIT;
+use crate::faults::RowsFault;
+use crate::{FIRM_ROW_LIMIT, ROW_LIMIT};
 use slot_core::{Memory, Name};
 use std::alloc::Global;
 use trace_lines::{KeyName, TraceLine, Words};
@@ -64,8 +67,8 @@ impl Row {
 
 /// The rows of the jobs that run in the lines: tasks in the order of their first runs and grouped
 /// by graph, then sporadic tasks, firm jobs (a row each where there are at most `FIRM_ROW_LIMIT`,
-/// else one), and soft jobs.
-pub fn rows_of(alloc: Global, lines: &[TraceLine]) -> Result<Vec<Row>, Memory>
+/// else one), and soft jobs. There are at most `ROW_LIMIT`.
+pub fn rows_of(alloc: Global, lines: &[TraceLine]) -> Result<Vec<Row>, RowsFault>
     ensures held { IfOk result (λ rows. have_rows rows.items (runs_of lines.now) ≡ true) }
     ensures run { IfOk result (λ rows. are_run rows.items (runs_of lines.now) ≡ true) }
     ensures distinct { IfOk result (λ rows. AreDistinct rows.items) }
@@ -73,6 +76,8 @@ pub fn rows_of(alloc: Global, lines: &[TraceLine]) -> Result<Vec<Row>, Memory>
     // A firm job has a row of its own where few run, and else none has.
     ensures firm_rows { IfOk result
         (λ rows. may_all_stand (have_few_firms (runs_of lines.now)) rows.items ≡ true) }
+    ensures few { IfOk result (λ rows. length rows.items ≤ ROW_LIMIT) }
+    ensures too_many { result ≡ Err TooMany → AreCrowded lines.now }
 {
     let apart = has_few_firm_jobs(alloc, lines)?;
     let mut rows = Vec::new(alloc);
@@ -81,12 +86,17 @@ pub fn rows_of(alloc: Global, lines: &[TraceLine]) -> Result<Vec<Row>, Memory>
 }
 
 /// Sees that each job that runs in the lines has a row.
-fn push_rows(rows: &mut Vec<Row>, lines: &[TraceLine], apart: bool) -> Result<(), Memory>
+fn push_rows(rows: &mut Vec<Row>, lines: &[TraceLine], apart: bool) -> Result<(), RowsFault>
     requires { rows.old.items ≡ [] }
-    ensures { OnOk result (AreRowsSoFar apart rows.new.items (runs_of lines.now)) }
+    ensures rows { OnOk result (AreRowsSoFar apart rows.new.items (runs_of lines.now)) }
+    ensures few { OnOk result (length rows.new.items ≤ ROW_LIMIT) }
+    ensures too_many { result ≡ Err TooMany → AreTooMany apart lines.now }
 {
     for line in lines {
         push_row_of(rows, line, apart)?;
+        if rows.len() > ROW_LIMIT {
+            return Err(RowsFault::TooMany);
+        }
     }
     Ok(())
 }

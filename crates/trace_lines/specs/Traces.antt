@@ -88,3 +88,12 @@ runs_of lines = flat_map (λ (l : TraceLine). run_at l.time l.words) lines
 abbrev pub time_of_last : List TraceLine → ℕ
 time_of_last lines =
     option_map_or (λ (line : TraceLine). line.time) (slice_get lines (length lines - 1)) 0
+
+-- the time of the first line, or 0 where there is none
+abbrev pub time_of_first : List TraceLine → ℕ
+time_of_first [] = 0
+time_of_first (line ∷ lines) = line.time
+
+-- so many slots lie between the times of the first line and of the last one
+abbrev pub slots_of : List TraceLine → ℕ
+slots_of lines = time_of_last lines - time_of_first lines

@@ -18,7 +18,7 @@ pub use line::{KeyName, ShownSpan, SpanList, TraceLine, Words};
 pub use part::{ALL_SLOTS, Part, Slots};
 pub use reading::line_of;
 use slot_core::NAME_LIMIT;
-pub use trace::{Reached, TraceFault, read_part, read_trace, time_of_last};
+pub use trace::{Reached, TraceFault, read_part, read_trace, time_of_first, time_of_last};
 
 /// Most bytes of a line that is read, without its line feed.
 pub const READ_LINE_LIMIT: usize = 1024;

@@ -9,7 +9,7 @@ ghost use Rattle.trace_lines.specs.declared.part.TheConstants.{ALL_SLOTS};
 ghost use Rattle.trace_lines.specs.Parts.{closing, is_within, IsKept, IsLong, IsTraceText, number_of_first, opening, part_of, start_at};
 ghost use Rattle.trace_lines.specs.Readings.{short_line};
 ghost use Rattle.trace_lines.specs.Texts.{lines_text};
-ghost use Rattle.trace_lines.specs.Traces.{AreTrace, Breaks, follows, IsRead, reached_after, reached_by, reached_by_start, time_of_last};
+ghost use Rattle.trace_lines.specs.Traces.{AreTrace, Breaks, follows, IsRead, reached_after, reached_by, reached_by_start, time_of_first, time_of_last};
 
 use crate::line::{TraceLine, Words};
 use crate::part::{ALL_SLOTS, Kept, Part, Slots};
@@ -135,6 +135,7 @@ pub fn read_part(alloc: Global, text: &[u8], slots: Slots) -> Result<Part, Trace
     ensures part { IfOk result (λ part. (lines : List TraceLine) × IsTraceText text.now lines
         × (part.lines.items ≡ part_of slots lines) × (part.number ≡ number_of_first slots lines)
         × ((slots.from ≡ 0) ⊎ (slots.from < time_of_last lines))) }
+    ensures number { IfOk result (λ part. part.number ≤ length text.now + 1) }
     ensures fault { (n : ℕ) → result ≡ Err (TraceFault.NoLine n) → Breaks text.now n }
     ensures too_many { result ≡ Err TooMany → IsLong slots text.now }
     ensures no_slot { (n : ℕ) → result ≡ Err (NoSlot n) → (n ≡ slots.from)
@@ -155,6 +156,7 @@ pub fn read_part(alloc: Global, text: &[u8], slots: Slots) -> Result<Part, Trace
 fn keep_lines(alloc: Global, text: &[u8], slots: Slots) -> Result<Kept, TraceFault>
     ensures kept { IfOk result (λ kept. (lines : List TraceLine) × IsTraceText text.now lines
         × IsKept slots lines kept.before kept.last kept.within.items kept.end kept.count) }
+    ensures number { IfOk result (λ kept. kept.before ≤ length text.now) }
     ensures fault { (n : ℕ) → result ≡ Err (TraceFault.NoLine n) → Breaks text.now n }
     ensures too_many { result ≡ Err TooMany → IsLong slots text.now }
     ensures in_range { (n : ℕ) → result ≢ Err (NoSlot n) }
@@ -171,6 +173,7 @@ fn push_lines(kept: &mut Kept, text: &[u8], slots: Slots) -> Result<(), TraceFau
     ensures ok { OnOk result ((lines : List TraceLine) × IsRead text.now lines Reached.End []
         × IsKept slots lines kept.new.before kept.new.last kept.new.within.items
         kept.new.end kept.new.count) }
+    ensures number { OnOk result (kept.new.before ≤ length text.now) }
     ensures fault { (n : ℕ) → result ≡ Err (TraceFault.NoLine n) → Breaks text.now n }
     ensures too_many { result ≡ Err TooMany → IsLong slots text.now }
     ensures in_range { (n : ℕ) → result ≢ Err (NoSlot n) }
@@ -228,9 +231,10 @@ fn push_line(
 
 /// The part of a trace of which this is kept.
 fn part_from(kept: Kept, slots: Slots) -> Result<Part, Memory>
-    ensures { (lines : List TraceLine) → IsKept slots lines kept.before kept.last kept.within.items
-        kept.end kept.count → IfOk result (λ part. (part.lines.items ≡ part_of slots lines)
-        × (part.number ≡ number_of_first slots lines)) }
+    ensures part { (lines : List TraceLine) → IsKept slots lines kept.before kept.last
+        kept.within.items kept.end kept.count → IfOk result (λ part.
+        (part.lines.items ≡ part_of slots lines) × (part.number ≡ number_of_first slots lines)) }
+    ensures number { IfOk result (λ part. part.number ≡ max 1 kept.before) }
 {
     let number = number_of(kept.before);
     let mut lines = kept.within;
@@ -285,6 +289,16 @@ pub fn time_of_last(lines: &[TraceLine]) -> u32
     match lines.last() {
         Some(line) => line.time,
         None => 0,
+    }
+}
+
+/// The time of the first line, or 0 where there is none.
+pub fn time_of_first(lines: &[TraceLine]) -> u32
+    ensures { result ≡ time_of_first lines.now }
+{
+    match lines {
+        [] => 0,
+        [line, ..] => line.time,
     }
 }
 

@@ -1,20 +1,17 @@
 -- What is drawn behind the blocks, and block after block.
-use Rattle.std.proofs.Common.{◌≡◌, ◌≤◌, ◌<◌, ◌+◌, ◌*◌, ℕ, Bool, List, [], ◌∷◌, ◌++◌, length, length-append, take, ap, append_assoc, append-nil, arith, subst, sym, ◌∙◌, inl, inr}
+use Rattle.std.proofs.Common.{◌≡◌, ◌≤◌, ◌<◌, ◌+◌, ◌*◌, ℕ, Bool, List, [], ◌∷◌, ◌++◌, length, length-append, take, ap, append_assoc, append-nil, arith, refl, subst, sym, ◌∙◌, ◌-◌}
 use Rattle.std.specs.Prelude.{Err, Ok, OnErr, OnOk, Result, get_or}
 use Rattle.std.proofs.Math.Nat.{min-eq_left}
 use Rattle.std.proofs.lemmas.List.{take_more}
 use Rattle.run_blocks.specs.declared.blocks.Block.{Block}
 use Rattle.run_blocks.specs.declared.rows.Row.{Row}
-use Rattle.run_blocks.specs.Rows.{AreRowsOf}
-use Rattle.run_blocks.proofs.RowCounts.{rows-few}
-use Rattle.trace_lines.specs.declared.line.TraceLine.{TraceLine}
-use Rattle.trace_lines.specs.Traces.{runs_of, time_of_last}
-use Rattle.trace_lines.proofs.LineMoves.{trace-runs-few}
-use Rattle.view_picture.specs.declared.TheConstants.{PICTURE_LIMIT}
+use Rattle.run_blocks.specs.declared.TheConstants.{ROW_LIMIT}
 use Rattle.view_picture.specs.declared.layout.TheConstants.{FAR, ROW, TOP_LIMIT}
 use Rattle.view_picture.specs.declared.layout.Times.{Times}
 use Rattle.view_picture.specs.Backdrops.{HasNoBlock}
-use Rattle.view_picture.specs.Blocks.{AreDrawn, AreFewRows, after_steps, block_text, blocks_text}
+use Rattle.view_picture.specs.Blocks.{AreDrawn, after_steps, block_text, blocks_text, x_of}
+use Rattle.view_picture.specs.Styles.{style_sheet}
+use Rattle.view_picture.specs.declared.style.TheConstants.{STYLE}
 
 -- a drawing with no block that becomes another one with none, or stays
 pub HasNoBlock-drawn :
@@ -24,16 +21,19 @@ pub HasNoBlock-drawn :
 HasNoBlock-drawn (Ok value) grown same old new = subst HasNoBlock (sym grown) new
 HasNoBlock-drawn (Err e) grown same old new = subst HasNoBlock (sym same) old
 
--- few rows, as those of a trace are, end no further than a place may be
-pub rows-near :
-    (lines : List TraceLine) (rows : List Row) (top : ℕ) → top ≤ TOP_LIMIT
-    → time_of_last lines ≤ PICTURE_LIMIT → AreRowsOf rows (runs_of lines) → AreFewRows rows lines
-    → top + length rows * ROW ≤ FAR
-rows-near lines rows top high short own (inl few) = omega (arith, high, few)
-rows-near lines rows top high short own (inr trace) =
-    let few = rows-few rows (runs_of lines) own in
-    let run = trace-runs-few lines trace in
-    omega (arith, high, short, few, run)
+-- few rows end no further than a place may be
+pub rows-near : (rows : List Row) (top : ℕ) → top ≤ TOP_LIMIT → length rows ≤ ROW_LIMIT → top + length rows * ROW ≤ FAR
+rows-near rows top high few = omega (arith, high, few)
+
+-- slots from the first on are as many steps
+pub steps-from : (times : Times) (slots : ℕ) → times.slots ≡ slots → x_of times (times.first + times.slots) ≡ after_steps times.left slots times.slot
+steps-from times slots same =
+    let count : times.first + times.slots - times.first ≡ slots = omega (arith, same) in
+    ap (λ n. after_steps times.left n times.slot) count
+
+-- the sheet that is written is the one of the definition
+pub style-same : STYLE.now ≡ style_sheet
+style-same = refl
 
 -- steps that no place cuts off, and that end inside
 pub steps-inside :

@@ -1,5 +1,5 @@
 -- The blocks of a picture, and the runs that they stand for.
-use Rattle.std.specs.Prelude.{◌≡◌, ◌⊎◌, ℕ, ◌+◌, ◌-◌, ◌*◌, ◌≤◌, Bool, true, false, List, [], ◌∷◌, ◌++◌, codes, length, min}
+use Rattle.std.specs.Prelude.{◌≡◌, ℕ, ◌+◌, ◌-◌, ◌*◌, ◌≤◌, Bool, true, false, List, [], ◌∷◌, ◌++◌, codes, length, min}
 use Rattle.run_blocks.specs.declared.blocks.Block.{Block}
 use Rattle.run_blocks.specs.declared.rows.Row.{Row}
 use Rattle.run_blocks.specs.Blocks.{AreApart, are_placed, blocks_runs}
@@ -9,12 +9,11 @@ use Rattle.svg_text.specs.Shapes.{document_text, rect_text}
 use Rattle.trace_lines.specs.declared.line.KeyName.{KeyName}
 use Rattle.trace_lines.specs.declared.line.KeyName.TheVariants.{Offline, Sporadic, Firm, Soft}
 use Rattle.trace_lines.specs.declared.line.TraceLine.{TraceLine}
-use Rattle.trace_lines.specs.Traces.{AreTrace, runs_of, time_of_last}
-use Rattle.view_picture.specs.declared.TheConstants.{PICTURE_LIMIT}
-use Rattle.view_picture.specs.declared.layout.TheConstants.{ABOVE, BLOCK, FAR, LEAST_SLOT, ROW}
+use Rattle.trace_lines.specs.Traces.{runs_of, slots_of, time_of_first}
+use Rattle.view_picture.specs.declared.layout.TheConstants.{ABOVE, BLOCK, FAR, ROW}
 use Rattle.view_picture.specs.declared.layout.Times.{Times}
-use Rattle.view_picture.specs.declared.style.TheConstants.{STYLE}
 use Rattle.view_picture.specs.Backdrops.{HasNoBlock}
+use Rattle.view_picture.specs.Styles.{style_sheet}
 use Rattle.view_picture.specs.Titles.{block_title}
 
 -- the shade of a block, which is its class: the kind of its job has a first one and a second one
@@ -34,7 +33,7 @@ after_steps from count step = min (from + count * step) FAR
 
 -- the left edge of the slot of a time
 abbrev pub x_of : Times → ℕ → ℕ
-x_of times time = after_steps times.left time times.slot
+x_of times time = after_steps times.left (time - times.first) times.slot
 
 -- where a block lies: from the left edge of its first slot up to a pixel before that of the slot
 -- after it, in its row, which are counted from the top of the first one on
@@ -64,18 +63,12 @@ pub record AreDrawn (times : Times) (top : ℕ) (blocks : List Block) (before af
   pub each : length seconds ≡ length blocks
   pub drawn : after ≡ before ++ blocks_text times top blocks seconds
 
--- the rows are few: no more than a picture may have slots, or the lines are those of a trace, which
--- has a slot for each row
-abbrev pub AreFewRows : List Row → List TraceLine → Type 0
-AreFewRows rows lines = (length rows ≤ PICTURE_LIMIT) ⊎ AreTrace lines
-
--- a document shows what lines run: it is a backdrop in which no element is a block, and then the
--- blocks, which stand for a job and a slot exactly where a line runs that job in that slot, each in
--- the row of its job and joined where they go on, over rows of the jobs that run, one for each, but
--- one for all firm jobs where many run, and over slots of a least width; each slot lies whole
--- inside the document, and so does each row where they are few, as those of a trace are
-pub record ShowsRuns (lines : List TraceLine) (document : List ℕ) : Type 0 where
-  pub rows : List Row
+-- a document shows over rows what lines run: it is a backdrop in which no element is a block, and
+-- then the blocks, which stand for a job and a slot exactly where a line runs that job in that slot,
+-- each in the row of its job and joined where they go on, over slots that are at least 2 pixels
+-- wide, so that a block is seen; the first slot is that of the first line, and each slot and each
+-- row lies whole inside the document
+pub record ShowsRuns (rows : List Row) (lines : List TraceLine) (document : List ℕ) : Type 0 where
   pub blocks : List Block
   pub seconds : List Bool
   pub times : Times
@@ -83,18 +76,22 @@ pub record ShowsRuns (lines : List TraceLine) (document : List ℕ) : Type 0 whe
   pub width : ℕ
   pub height : ℕ
   pub backdrop : List ℕ
-  pub own : AreRowsOf rows (runs_of lines)
-  pub firms : may_all_stand (have_few_firms (runs_of lines)) rows ≡ true
   pub stands : blocks_runs blocks ≡ runs_of lines
   pub placed : are_placed rows blocks ≡ true
   pub apart : AreApart blocks
-  pub wide : LEAST_SLOT ≤ times.slot
-  pub whole : times.left + time_of_last lines * times.slot ≤ FAR
-  pub right : times.left + time_of_last lines * times.slot ≤ width
-  pub low : AreFewRows rows lines → top + length rows * ROW ≤ FAR
-  pub bottom : AreFewRows rows lines → top + length rows * ROW ≤ height
+  pub begins : times.first ≡ time_of_first lines
+  pub wide : 2 ≤ times.slot
+  pub whole : times.left + slots_of lines * times.slot ≤ FAR
+  pub right : times.left + slots_of lines * times.slot ≤ width
+  pub low : top + length rows * ROW ≤ FAR
+  pub bottom : top + length rows * ROW ≤ height
   pub bare : HasNoBlock backdrop
   pub each : length seconds ≡ length blocks
   pub drawn :
       document ≡
-      document_text width height STYLE.now (backdrop ++ blocks_text times top blocks seconds)
+      document_text width height style_sheet (backdrop ++ blocks_text times top blocks seconds)
+
+-- rows of the jobs that run, one for each, but one for all firm jobs where many run
+pub record AreRows (rows : List Row) (lines : List TraceLine) : Type 0 where
+  pub own : AreRowsOf rows (runs_of lines)
+  pub firms : may_all_stand (have_few_firms (runs_of lines)) rows ≡ true

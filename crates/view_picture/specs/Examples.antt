@@ -70,6 +70,7 @@ a_sign =
 -- ten slots that are 16 wide, from 100 on
 abbrev ten_slots : Times
 ten_slots = record {
+  first = 0;
   slots = 10;
   left = 100;
   slot = 16;

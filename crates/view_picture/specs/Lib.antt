@@ -2,4 +2,5 @@ pub mod Backdrops
 pub mod Blocks
 pub mod Examples
 pub mod FaultTexts
+pub mod Styles
 pub mod Titles

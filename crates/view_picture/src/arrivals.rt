@@ -149,13 +149,13 @@ fn draw_arrived(
     let y = down(heights.lanes, arrived.lane, LANE);
     let x = times.x(u64::from(arrived.line.time));
     if let Some(due) = due_of(arrived.line) {
-        let end = times.x(due.min(u64::from(times.slots)));
+        let end = times.x(due.min(times.end()));
         draw_due(
             backdrop,
             x,
             y.saturating_add(3),
             end.saturating_sub(x),
-            due <= u64::from(times.slots),
+            due <= times.end(),
             title.as_slice(),
         )?;
     }

@@ -22,8 +22,9 @@ pub(crate) fn draw_axis(
 ) -> Result<(), Memory> {
     let x = times.left.saturating_sub(MARGIN);
     backdrop.label("what", x, heights.lanes.saturating_sub(5), b"slot")?;
-    let step = step_of(times.slot);
-    for tick in 0..=times.slots / step {
+    let step = u64::from(step_of(times.slot));
+    let first = u64::from(times.first).div_ceil(step);
+    for tick in first..=times.end() / step {
         draw_tick(backdrop, times, heights, tick.saturating_mul(step))?;
     }
     Ok(())
@@ -34,9 +35,9 @@ fn draw_tick(
     backdrop: &mut Backdrop,
     times: &Times,
     heights: &Heights,
-    time: u32,
+    time: u64,
 ) -> Result<(), Memory> {
-    let x = times.x(u64::from(time));
+    let x = times.x(time);
     let frame = Frame {
         x,
         y: heights.lanes,

@@ -1,10 +1,9 @@
 //! The blocks of slots in which one job runs.
 
-ghost use Rattle.std.specs.Prelude.{◌≡◌, ◌+◌, ◌*◌, ◌≤◌, ◌++◌, ℕ, true, length, OnOk};
-ghost use Rattle.run_blocks.specs.Rows.{AreRowsOf, have_few_firms, may_all_stand};
+ghost use Rattle.std.specs.Prelude.{◌≡◌, ◌+◌, ◌*◌, ◌≤◌, ◌++◌, ℕ, length, OnOk};
+ghost use Rattle.run_blocks.specs.declared.TheConstants.{ROW_LIMIT};
 ghost use Rattle.svg_text.specs.Shapes.{document_text};
-ghost use Rattle.trace_lines.specs.Traces.{runs_of, time_of_last};
-ghost use Rattle.view_picture.specs.declared.TheConstants.{PICTURE_LIMIT};
+ghost use Rattle.trace_lines.specs.Traces.{slots_of, time_of_first};
 ghost use Rattle.view_picture.specs.declared.layout.TheConstants.{FAR, LEAST_SLOT, ROW, TOP_LIMIT};
 ghost use Rattle.view_picture.specs.declared.style.TheConstants.{STYLE};
 ghost use Rattle.view_picture.specs.Backdrops.{HasNoBlock};
@@ -34,17 +33,17 @@ pub(crate) fn draw_runs(
     times: &Times,
     top: u32,
 ) -> Result<(), Memory>
-    requires own { AreRowsOf rows.now (runs_of lines.now) }
-    requires firms { may_all_stand (have_few_firms (runs_of lines.now)) rows.now ≡ true }
-    requires count { times.now.slots ≡ time_of_last lines.now }
+    requires few { length rows.now ≤ ROW_LIMIT }
+    requires first { times.now.first ≡ time_of_first lines.now }
+    requires count { times.now.slots ≡ slots_of lines.now }
     requires wide { LEAST_SLOT ≤ times.now.slot }
     requires high { top ≤ TOP_LIMIT }
-    requires whole { times.now.left + time_of_last lines.now * times.now.slot ≤ FAR }
-    requires short { time_of_last lines.now ≤ PICTURE_LIMIT }
+    requires whole { times.now.left + slots_of lines.now * times.now.slot ≤ FAR }
     requires bare { HasNoBlock drawing.old }
-    ensures { OnOk result ((width height : ℕ) → x_of times.now times.now.slots ≤ width
+    ensures { OnOk result ((width height : ℕ)
+        → x_of times.now (times.now.first + times.now.slots) ≤ width
         → after_steps top (length rows.now) ROW ≤ height
-        → ShowsRuns lines.now (document_text width height STYLE.now drawing.new)) }
+        → ShowsRuns rows.now lines.now (document_text width height STYLE.now drawing.new)) }
 {
     let blocks = blocks_of(alloc, lines, rows)?;
     draw_blocks(alloc, drawing, times, top, rows.len(), blocks.as_slice())?;

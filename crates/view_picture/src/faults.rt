@@ -1,6 +1,7 @@
 //! Why there is no picture.
 
 use crate::PICTURE_LIMIT;
+use run_blocks::ROW_LIMIT;
 use slot_core::Memory;
 use std::error::Error;
 use std::fmt;
@@ -12,6 +13,8 @@ pub enum PictureFault {
     Memory,
     /// The trace has more than `PICTURE_LIMIT` slots.
     TooLong,
+    /// The jobs that run ask for more than `ROW_LIMIT` rows.
+    TooManyRows,
 }
 
 impl From<Memory> for PictureFault {
@@ -35,6 +38,7 @@ impl fmt::Display for PictureFault {
         match self {
             PictureFault::Memory => f.write_str("out of memory"),
             PictureFault::TooLong => write!(f, "trace too long {PICTURE_LIMIT}"),
+            PictureFault::TooManyRows => write!(f, "trace too many rows {ROW_LIMIT}"),
         }
     }
 }

@@ -27,6 +27,9 @@ pub(crate) const LEAST_SLOT: u32 = 3;
 
 pub(crate) const GREATEST_SLOT: u32 = 16;
 
+/// So many slots are seen at once: a longer picture has the labels of its rows again.
+pub(crate) const LABEL_SLOTS: u32 = 200;
+
 /// The width of a letter.
 pub(crate) const LETTER: u32 = 7;
 
@@ -47,15 +50,17 @@ pub(crate) const CAPACITIES: u32 = 96;
 /// Where time begins, and how wide a slot is.
 #[derive(Clone, Copy)]
 pub(crate) struct Times {
+    pub first: u32,
     pub slots: u32,
     pub left: u32,
     pub slot: u32,
 }
 
 impl Times {
-    /// So many slots to the right of labels of at most so many letters.
-    pub(crate) fn new(slots: u32, letters: usize) -> Times
+    /// So many slots from the first on, to the right of labels of at most so many letters.
+    pub(crate) fn new(first: u32, slots: u32, letters: usize) -> Times
         requires { letters ≤ MOST_LETTERS }
+        ensures first { result.first ≡ first }
         ensures count { result.slots ≡ slots }
         ensures wide { LEAST_SLOT ≤ result.slot }
         ensures narrow { result.slot ≤ GREATEST_SLOT }
@@ -64,6 +69,7 @@ impl Times {
         let left = down(2 * MARGIN, letters, LETTER);
         let room = PAGE.saturating_sub(left + MARGIN);
         Times {
+            first,
             slots,
             left,
             slot: (room / slots.max(1)).clamp(LEAST_SLOT, GREATEST_SLOT),
@@ -75,7 +81,11 @@ impl Times {
         ensures place { result ≡ x_of self.now time }
         ensures near { result ≤ FAR }
     {
-        steps(self.left, time, self.slot)
+        steps(
+            self.left,
+            time.saturating_sub(u64::from(self.first)),
+            self.slot,
+        )
     }
 
     /// The width of the slots [start, end).
@@ -85,12 +95,24 @@ impl Times {
         self.x(end).saturating_sub(self.x(start))
     }
 
+    /// The time after the last slot.
+    pub(crate) fn end(&self) -> u64
+        ensures { result ≡ self.now.first + self.now.slots }
+    {
+        u64::from(self.first) + u64::from(self.slots)
+    }
+
     /// The right edge of the last slot.
     pub(crate) fn right(&self) -> u32
-        ensures place { result ≡ x_of self.now self.now.slots }
+        ensures place { result ≡ x_of self.now (self.now.first + self.now.slots) }
         ensures near { result ≤ FAR }
     {
-        self.x(u64::from(self.slots))
+        self.x(self.end())
+    }
+
+    /// Whether a picture of so many slots has labels in more than one place.
+    pub(crate) fn is_long(&self) -> bool {
+        self.slots > LABEL_SLOTS
     }
 }
 

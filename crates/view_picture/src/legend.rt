@@ -22,7 +22,7 @@ enum Sign {
     Mark(Mark),
     /// The first capacity.
     First,
-    /// The least capacity.
+    /// The least capacity of those that a line shows.
     Least,
 }
 
@@ -33,7 +33,7 @@ impl Sign {
             Sign::Jobs => "one job, the next",
             Sign::Mark(mark) => mark.words(),
             Sign::First => "capacity of the first span",
-            Sign::Least => "least shown",
+            Sign::Least => "least of the 8 spans that a line shows",
         }
     }
 

@@ -11,13 +11,15 @@ mod faults;
 mod layout;
 mod legend;
 mod marks;
+mod row_marks;
 mod rows;
 mod style;
 mod titles;
 mod trace_picture;
 
 pub use faults::PictureFault;
-pub use trace_picture::picture;
+pub use row_marks::{Moment, RowMark};
+pub use trace_picture::{picture, picture_over};
 
 /// Most slots of a picture.
 pub const PICTURE_LIMIT: u32 = 10_000;

@@ -4,7 +4,7 @@ ghost use Rattle.std.specs.Prelude.{◌≡◌, true};
 ghost use Rattle.svg_text.specs.Content.{is_name};
 
 use crate::backdrop::Backdrop;
-use crate::layout::{Heights, MARGIN, ROW, Times, down};
+use crate::layout::{Heights, LABEL_SLOTS, MARGIN, ROW, Times, down};
 use crate::titles::row_label;
 use run_blocks::Row;
 use slot_core::Memory;
@@ -21,14 +21,15 @@ pub(crate) fn draw_rows(
 ) -> Result<(), Memory> {
     for (place, row) in rows.iter().enumerate() {
         let y = down(heights.rows, place, ROW);
-        draw_label(alloc, backdrop, times, y, row)?;
         draw_edge(backdrop, times, y, begins_group(rows, place))?;
+        draw_labels(alloc, backdrop, times, y, row)?;
     }
     draw_edge(backdrop, times, down(heights.rows, rows.len(), ROW), true)
 }
 
-/// Draws the label of a row.
-fn draw_label(
+/// Draws the label of a row to its left; in a long picture also to its right, and in it each
+/// `LABEL_SLOTS` slots.
+fn draw_labels(
     alloc: Global,
     backdrop: &mut Backdrop,
     times: &Times,
@@ -36,8 +37,20 @@ fn draw_label(
     row: &Row,
 ) -> Result<(), Memory> {
     let label = row_label(alloc, row)?;
-    let x = times.left.saturating_sub(MARGIN);
-    backdrop.label("name", x, y.saturating_add(13), label.as_slice())
+    let y = y.saturating_add(13);
+    let left = times.left.saturating_sub(MARGIN);
+    backdrop.label("name", left, y, label.as_slice())?;
+    if !times.is_long() {
+        return Ok(());
+    }
+    let right = times.right().saturating_add(MARGIN);
+    backdrop.label("again", right, y, label.as_slice())?;
+    for part in 1..times.slots / LABEL_SLOTS {
+        let slots = u64::from(part) * u64::from(LABEL_SLOTS);
+        let x = times.x(u64::from(times.first) + slots).saturating_add(3);
+        backdrop.label("again", x, y, label.as_slice())?;
+    }
+    Ok(())
 }
 
 /// Draws the upper edge of a row, strong where another graph or kind begins.

@@ -6,6 +6,7 @@ pub(crate) const STYLE: &str = "
 text { font: 11px ui-monospace, 'DejaVu Sans Mono', monospace; fill: #222 }
 .page { fill: #fff }
 .name { text-anchor: end }
+.again { font-size: 10px; fill: #777 }
 .what { text-anchor: end; fill: #555; font-style: italic }
 .tick { text-anchor: middle; font-size: 10px; fill: #555 }
 .grid { fill: #e4e4e4 }
@@ -20,6 +21,8 @@ text { font: 11px ui-monospace, 'DejaVu Sans Mono', monospace; fill: #222 }
 .soft-a { fill: #94487a }
 .soft-b { fill: #dfa9ca }
 .due { fill: #00735a }
+.release, .deadline { fill: none; stroke: #222; stroke-width: 1.2 }
+.deadline { stroke: #b00020 }
 .mark, .open, .grey { stroke-width: 1.6; stroke-linejoin: round; stroke-linecap: round }
 .mark { fill: #222; stroke: #222 }
 .open { fill: none; stroke: #222 }

@@ -1,5 +1,5 @@
 -- Each refusal has its cause.
-use Rattle.std.proofs.Common.{◌≡◌, ◌≢◌, ◌+◌, ◌⊎◌, ℕ, Bool, true, List, Option, Some, None, Result, Ok, Err, refl, sym, ap, subst, ◌∙◌, inl, inr}
+use Rattle.std.proofs.Common.{◌≡◌, ◌≢◌, ◌+◌, ◌⊎◌, ◌<◌, ℕ, Bool, true, List, Option, Some, None, Result, Ok, Err, refl, sym, ap, subst, ◌∙◌, inl, inr}
 use Rattle.std.specs.Prelude.{IfSome, IfErr}
 use Rattle.slot_core.specs.Calls.Counts.{Rose}
 use Rattle.slot_core.specs.Keeping.Plans.{IsPlan, PlanParts}
@@ -20,19 +20,29 @@ use Rattle.trace_lines.specs.Texts.{lines_text}
 use Rattle.view_run.specs.declared.views.View.{View}
 use Rattle.view_run.specs.declared.views.View.TheVariants.{Lines, Jobs}
 use Rattle.view_run.specs.declared.views.LineView.TheVariants.{Picture, Events, Spans, Waves}
-use Rattle.view_run.specs.Inputs.{Holds, IsInputRefusal}
+use Rattle.run_blocks.specs.declared.faults.RowsFault.{RowsFault}
+use Rattle.run_blocks.specs.declared.faults.RowsFault.TheVariants.{Memory as RowsMemory, TooMany as TooManyOfRows}
+use Rattle.run_blocks.specs.Rows.{AreCrowded}
+use Rattle.trace_lines.specs.declared.part.Part.{Part}
+use Rattle.trace_lines.specs.declared.part.Slots.{Slots}
+use Rattle.trace_lines.specs.declared.part.TheConstants.{ALL_SLOTS}
+use Rattle.trace_lines.specs.Parts.{IsLong, IsTraceText}
+use Rattle.view_picture.specs.declared.TheConstants.{PICTURE_LIMIT}
+use Rattle.view_picture.specs.declared.faults.PictureFault.{PictureFault}
+use Rattle.view_picture.specs.declared.faults.PictureFault.TheVariants.{Memory as PictureMemory, TooLong, TooManyRows}
+use Rattle.view_run.specs.Inputs.{EndsBefore, Holds, HoldsSuch, IsInputRefusal, IsShown, IsUnread, slots_kept}
 use Rattle.trace_lines.specs.declared.line.TraceLine.{TraceLine}
 use Rattle.trace_lines.specs.declared.trace.TraceFault.{TraceFault}
-use Rattle.trace_lines.specs.declared.trace.TraceFault.TheVariants.{Memory as TraceMemory, NoLine}
-use Rattle.trace_lines.specs.Traces.{Breaks}
+use Rattle.trace_lines.specs.declared.trace.TraceFault.TheVariants.{Memory as TraceMemory, NoLine, NoSlot, TooMany}
+use Rattle.trace_lines.specs.Traces.{Breaks, slots_of}
 use Rattle.view_jobs.specs.declared.faults.JobsFault.{JobsFault}
 use Rattle.view_jobs.specs.declared.faults.JobsFault.TheVariants.{Memory as JobsMemory, Failed as JobsFailed, NoLine as NoJobLine}
 use Rattle.view_jobs.specs.Tables.{first_unknown}
 use Rattle.view_run.specs.declared.views.Source.{Source}
-use Rattle.view_run.specs.Refusals.{no_line, of_jobs, of_text}
+use Rattle.view_run.specs.Refusals.{no_line, no_slot, of_jobs, of_picture, of_rows, of_text}
 use Rattle.view_run.specs.Plans.{IsPlanOf, IsPlanRefusal}
-use Rattle.view_run.specs.Runs.{IsRefused}
-use Rattle.view_run.specs.Shown.{IsJobsRefusal}
+use Rattle.view_run.specs.Runs.{AreInput, IsRefused}
+use Rattle.view_run.specs.Shown.{IsJobsRefusal, IsLinesRefusal}
 use Rattle.view_run.specs.Views.{plan_source}
 
 -- what holds of a value, where there is one
@@ -40,10 +50,31 @@ pub if_some : {X : Type 0} {P Q : X → Type 0} (o : Option X) → ((x : X) → 
 if_some None more is = tt
 if_some (Some x) more is = more x is
 
--- a text that is no trace breaks, or memory ran out
-pub of_text-cause : (bytes : List ℕ) (fault : TraceFault) → ((n : ℕ) → fault ≡ NoLine n → Breaks bytes n) → (of_text fault ≡ Memory) ⊎ ((n : ℕ) × (of_text fault ≡ no_line n) × Breaks bytes n)
-of_text-cause bytes TraceMemory breaks = inl refl
-of_text-cause bytes (NoLine n) breaks = inr (n, refl, breaks n refl)
+-- a whole text that is no trace breaks, or has too many lines, or memory ran out
+pub of_text-cause : (bytes : List ℕ) (fault : TraceFault) → ((n : ℕ) → fault ≡ NoLine n → Breaks bytes n) → (fault ≡ TooMany → IsLong ALL_SLOTS bytes) → ((n : ℕ) → fault ≡ NoSlot n → ⊥) → (of_text fault ≡ Memory) ⊎ IsUnread None (λ IsSo. IsSo bytes) (of_text fault)
+of_text-cause bytes TraceMemory breaks long never = inl refl
+of_text-cause bytes (NoLine n) breaks long never = inr (inl (n, refl, breaks n refl))
+of_text-cause bytes TooMany breaks long never = inr (inr (inl (refl, long refl)))
+of_text-cause bytes (NoSlot n) breaks long never = absurd (never n refl)
+
+-- and one of which a part is asked for may be too short
+pub of_part-cause : (slots : Slots) (bytes : List ℕ) (fault : TraceFault) → ((n : ℕ) → fault ≡ NoLine n → Breaks bytes n) → (fault ≡ TooMany → IsLong slots bytes) → ((n : ℕ) → fault ≡ NoSlot n → (n ≡ slots.from) × EndsBefore slots.from bytes) → (of_text fault ≡ Memory) ⊎ IsUnread (Some slots) (λ IsSo. IsSo bytes) (of_text fault)
+of_part-cause slots bytes TraceMemory breaks long short = inl refl
+of_part-cause slots bytes (NoLine n) breaks long short = inr (inl (n, refl, breaks n refl))
+of_part-cause slots bytes TooMany breaks long short = inr (inr (inl (refl, long refl)))
+of_part-cause slots bytes (NoSlot n) breaks long short =
+    let (is, ends) = short n refl in inr (inr (inr (ap no_slot is, ends)))
+
+-- rows that are not made are too many, or memory ran out
+pub of_rows-cause : (lines : List TraceLine) (before after : ℕ) (fault : RowsFault) → (fault ≡ TooManyOfRows → AreCrowded lines) → IsLinesRefusal Waves lines before after (of_rows fault)
+of_rows-cause lines before after RowsMemory crowded = tt
+of_rows-cause lines before after TooManyOfRows crowded = (crowded refl, refl)
+
+-- a picture that is not made has too many slots or rows, or memory ran out
+pub of_picture-cause : (lines : List TraceLine) (before after : ℕ) (fault : PictureFault) → (fault ≡ TooLong → PICTURE_LIMIT < slots_of lines) → (fault ≡ TooManyRows → AreCrowded lines) → IsLinesRefusal Picture lines before after (of_picture fault)
+of_picture-cause lines before after PictureMemory long crowded = tt
+of_picture-cause lines before after TooLong long crowded = inl (long refl, refl)
+of_picture-cause lines before after TooManyRows long crowded = inr (crowded refl, refl)
 
 -- a table of jobs is not written since the sink counted a fault, memory ran out, or a line names what
 -- the plan does not have
@@ -107,18 +138,39 @@ plan-given held faults blamed before after names may source from (Ok a) view sam
     by_held None is = tt
     by_held (Some files) is = ap (λ s. plan_from files names s) (sym same) ∙ reading.answers files is
 
--- the text of lines that are read is what the input holds
-pub lines-text : {V E : Type 0} (r : Result V E) (items : V → List TraceLine) (bytes : List ℕ) (held : Option Held) → IfSome held (λ files. Holds files bytes) → IfOk r (λ v. bytes ≡ lines_text (items v)) → IfOk r (λ v. IfSome held (λ files. Holds files (lines_text (items v))))
-lines-text (Ok v) items bytes held holds is = subst (λ text. IfSome held (λ files. Holds files text)) is holds
-lines-text (Err e) items bytes held holds is = tt
+-- the lines whose text the bytes are are those of the input
+pub input-lines : (bytes : List ℕ) (held : Option Held) (lines : List TraceLine) → IfSome held (λ files. Holds files bytes) → IsTraceText bytes lines → AreInput held lines
+input-lines bytes held lines holds (trace, text) = (trace, subst (λ t. IfSome held (λ files. Holds files t)) text holds)
+
+-- what is read of them is what is shown
+pub input-shown : {E : Type 0} (slots : Option Slots) (r : Result Part E) (bytes : List ℕ) (held : Option Held) → IfSome held (λ files. Holds files bytes) → IfOk r (λ part. (lines : List TraceLine) × IsTraceText bytes lines × IsShown slots lines part.lines.items part.number) → IfOk r (λ part. (lines : List TraceLine) × AreInput held lines × IsShown slots lines part.lines.items part.number)
+input-shown slots (Ok part) bytes held holds (lines, text, shown) = (lines, input-lines bytes held lines holds text, shown)
+input-shown slots (Err e) bytes held holds shown = tt
+
+-- what holds of the bytes holds of what the input holds
+such : (bytes : List ℕ) (held : Option Held) (IsSo : List ℕ → Type 0) → IfSome held (λ files. Holds files bytes) → IsSo bytes → HoldsSuch held IsSo
+such bytes held IsSo holds so = if_some held (λ files text. (bytes, text, so)) holds
+
+-- so of why they are not shown
+unread-such : (slots : Option Slots) (bytes : List ℕ) (held : Option Held) (e : Refusal) → IfSome held (λ files. Holds files bytes) → IsUnread slots (λ IsSo. IsSo bytes) e → IsUnread slots (HoldsSuch held) e
+unread-such slots bytes held e holds (inl (n, same, breaks)) = inl (n, same, such bytes held (λ text. Breaks text n) holds breaks)
+unread-such slots bytes held e holds (inr (inl (same, long))) = inr (inl (same, such bytes held (IsLong (slots_kept slots)) holds long))
+unread-such None bytes held e holds (inr (inr past)) = absurd past
+unread-such (Some slots) bytes held e holds (inr (inr (same, ends))) = inr (inr (same, such bytes held (EndsBefore slots.from) holds ends))
+
+-- a reason that is told of a text is one of an input
+is_told : (slots : Option Slots) (held : Option Held) (before after : ℕ) (e : Refusal) → IsUnread slots (HoldsSuch held) e → IsInputRefusal slots held before after e
+is_told slots held before after e (inl (n, same, breaks)) = subst (IsInputRefusal slots held before after) (sym same) (inl (n, refl, breaks))
+is_told slots held before after e (inr (inl (same, long))) = subst (IsInputRefusal slots held before after) (sym same) (inr (inl (refl, long)))
+is_told None held before after e (inr (inr past)) = absurd past
+is_told (Some slots) held before after e (inr (inr (same, ends))) = subst (IsInputRefusal (Some slots) held before after) (sym same) (inr (inr (refl, ends)))
 
 -- lines that are not read have a cause in what the input holds
-pub lines-refused : {V : Type 0} (r : Result V Refusal) (bytes : List ℕ) (held : Option Held) (before after : ℕ) → IfSome held (λ files. Holds files bytes) → IfErr r (λ e. (e ≡ Memory) ⊎ ((n : ℕ) × (e ≡ no_line n) × Breaks bytes n)) → IfErr r (IsInputRefusal held before after)
-lines-refused (Ok v) bytes held before after holds cause = tt
-lines-refused (Err e) bytes held before after holds (inl memory) = subst (IsInputRefusal held before after) (sym memory) tt
-lines-refused (Err e) bytes held before after holds (inr (n, same, breaks)) =
-    let there : IfSome held (λ files. (text : List ℕ) × Holds files text × Breaks text n) = if_some held (λ files text_is. (bytes, text_is, breaks)) holds in
-    subst (IsInputRefusal held before after) (sym same) (n, refl, there)
+pub lines-refused : {V : Type 0} (slots : Option Slots) (r : Result V Refusal) (bytes : List ℕ) (held : Option Held) (before after : ℕ) → IfSome held (λ files. Holds files bytes) → IfErr r (λ e. (e ≡ Memory) ⊎ IsUnread slots (λ IsSo. IsSo bytes) e) → IfErr r (IsInputRefusal slots held before after)
+lines-refused slots (Ok v) bytes held before after holds cause = tt
+lines-refused slots (Err e) bytes held before after holds (inl memory) = subst (IsInputRefusal slots held before after) (sym memory) tt
+lines-refused slots (Err e) bytes held before after holds (inr unread) =
+    is_told slots held before after e (unread-such slots bytes held e holds unread)
 
 -- a refusal whose status is a failed write is one
 pub write-by_status : (e : Refusal) → refusal_status e ≡ Status.WriteFault → e ≡ WriteFault
@@ -161,11 +213,11 @@ refused-no_usage view names files input blamed of_files of_input of_output (NoCh
 refused-no_usage view names files input blamed of_files of_input of_output WriteFault cause usage = cc usage
 refused-no_usage view names files input blamed of_files of_input of_output Memory cause usage = cc usage
 refused-no_usage view names files input blamed of_files of_input of_output Usage (inl memory) usage = cc memory
-refused-no_usage (Lines view) names files input blamed of_files of_input of_output Usage (inr (inl plan)) usage = plan
+refused-no_usage (Lines view slots) names files input blamed of_files of_input of_output Usage (inr (inl plan)) usage = plan
 refused-no_usage (Jobs source) names files input blamed of_files of_input of_output Usage (inr (inl plan)) usage = plan
 refused-no_usage view names files input blamed of_files of_input of_output Usage (inr (inr (inl read))) usage = read.1
-refused-no_usage (Lines Picture) names files input blamed of_files of_input of_output Usage (inr (inr (inr (lines, are, cause)))) usage = cause
-refused-no_usage (Lines Events) names files input blamed of_files of_input of_output Usage (inr (inr (inr (lines, are, cause)))) usage = cause
-refused-no_usage (Lines Spans) names files input blamed of_files of_input of_output Usage (inr (inr (inr (lines, are, cause)))) usage = cause
-refused-no_usage (Lines Waves) names files input blamed of_files of_input of_output Usage (inr (inr (inr (lines, are, cause)))) usage = cause
+refused-no_usage (Lines Picture slots) names files input blamed of_files of_input of_output Usage (inr (inr (inr (lines, are, cause)))) usage = cause
+refused-no_usage (Lines Events slots) names files input blamed of_files of_input of_output Usage (inr (inr (inr (lines, are, cause)))) usage = cause
+refused-no_usage (Lines Spans slots) names files input blamed of_files of_input of_output Usage (inr (inr (inr (lines, are, cause)))) usage = cause
+refused-no_usage (Lines Waves slots) names files input blamed of_files of_input of_output Usage (inr (inr (inr (lines, are, cause)))) usage = cause
 refused-no_usage (Jobs source) names files input blamed of_files of_input of_output Usage (inr (inr (inr (lines, are, (plan, own, cause))))) usage = cause

@@ -2,7 +2,8 @@
 -- help: a reader compares its numbers with these. Each list holds by computing the constants.
 use Rattle.std.specs.Prelude.{◌≡◌, [], ◌∷◌, refl}
 use Rattle.slot_core.specs.declared.TheConstants.{TASK_FILE_LIMIT, TABLE_FILE_LIMIT}
-use Rattle.trace_lines.specs.declared.TheConstants.{READ_LINE_LIMIT}
+use Rattle.run_blocks.specs.declared.TheConstants.{ROW_LIMIT}
+use Rattle.trace_lines.specs.declared.TheConstants.{LINE_LIMIT, READ_LINE_LIMIT}
 use Rattle.view_picture.specs.declared.TheConstants.{PICTURE_LIMIT}
 use Rattle.view_run.specs.declared.TheConstants.{INPUT_LIMIT}
 
@@ -12,6 +13,6 @@ pub bytes :
     ≡ 1048576 ∷ 4194304 ∷ 67108864 ∷ 1024 ∷ []
 bytes = refl
 
--- slots of a picture
-pub slots : PICTURE_LIMIT ≡ 10000
+-- slots of a picture, lines that tell of them, rows
+pub slots : PICTURE_LIMIT ∷ LINE_LIMIT ∷ ROW_LIMIT ∷ [] ≡ 10000 ∷ 262144 ∷ 1045 ∷ []
 slots = refl

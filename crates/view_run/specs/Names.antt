@@ -9,7 +9,7 @@ use Rattle.view_run.specs.declared.views.View.TheVariants.{Lines, Jobs}
 abbrev pub plan_name : List (List ℕ) → View → List ℕ
 plan_name words (Jobs Tasks) = word_at words 1
 plan_name words (Jobs Table) = word_at words 2
-plan_name words (Lines view) = []
+plan_name words (Lines view slots) = []
 
 -- words that name the file of the plan in the second place, and standard input in the fourth
 abbrev pub names_of : List (List ℕ) → View → List (List ℕ)

@@ -1,25 +1,43 @@
 -- Why a trace is not shown.
-use Rattle.std.specs.Prelude.{ℕ, List, codes}
+use Rattle.std.specs.Prelude.{ℕ, List, ◌++◌, codes}
 use Rattle.slot_core.specs.Output.Texts.{worded}
 use Rattle.csv_table.specs.declared.faults.CsvFault.{CsvFault}
 use Rattle.csv_table.specs.declared.faults.CsvFault.TheVariants.{Memory as TableMemory, Failed as TableFailed}
 use Rattle.command_line.specs.declared.refusal.Refusal.{Refusal}
 use Rattle.command_line.specs.declared.refusal.Refusal.TheVariants.{NotVerified, WriteFault, Memory}
+use Rattle.run_blocks.specs.declared.TheConstants.{ROW_LIMIT}
+use Rattle.run_blocks.specs.declared.faults.RowsFault.{RowsFault}
+use Rattle.run_blocks.specs.declared.faults.RowsFault.TheVariants.{Memory as RowsMemory, TooMany as TooManyOfRows}
+use Rattle.trace_lines.specs.declared.TheConstants.{LINE_LIMIT}
 use Rattle.trace_lines.specs.declared.trace.TraceFault.{TraceFault}
-use Rattle.trace_lines.specs.declared.trace.TraceFault.TheVariants.{Memory as TraceMemory, NoLine}
+use Rattle.trace_lines.specs.declared.trace.TraceFault.TheVariants.{Memory as TraceMemory, NoLine, NoSlot, TooMany}
 use Rattle.view_jobs.specs.declared.faults.JobsFault.{JobsFault}
 use Rattle.view_jobs.specs.declared.faults.JobsFault.TheVariants.{Memory as JobsMemory, Failed as JobsFailed, NoLine as NoJobLine}
 use Rattle.view_picture.specs.declared.TheConstants.{PICTURE_LIMIT}
 use Rattle.view_picture.specs.declared.faults.PictureFault.{PictureFault}
-use Rattle.view_picture.specs.declared.faults.PictureFault.TheVariants.{Memory as PictureMemory, TooLong}
+use Rattle.view_picture.specs.declared.faults.PictureFault.TheVariants.{Memory as PictureMemory, TooLong, TooManyRows}
 
 -- the usage
 abbrev pub view_usage : List ℕ
-view_usage = codes "usage: slotview picture | jobs T | jobs --table B | events | spans | waves"
+view_usage =
+    codes "usage: slotview picture [FROM UNTIL] | jobs T | jobs --table B | events [FROM UNTIL]"
+    ++ codes " | spans [FROM UNTIL] | waves [FROM UNTIL]"
 
 -- trace no line N
 abbrev pub no_line : ℕ → Refusal
 no_line n = NotVerified (worded (codes "trace no line") n)
+
+-- trace too many lines N
+abbrev pub too_many_lines : Refusal
+too_many_lines = NotVerified (worded (codes "trace too many lines") LINE_LIMIT)
+
+-- trace no slot N
+abbrev pub no_slot : ℕ → Refusal
+no_slot n = NotVerified (worded (codes "trace no slot") n)
+
+-- trace too many rows N
+abbrev pub too_many_rows : Refusal
+too_many_rows = NotVerified (worded (codes "trace too many rows") ROW_LIMIT)
 
 -- trace too long N
 abbrev pub too_long : Refusal
@@ -29,11 +47,19 @@ too_long = NotVerified (worded (codes "trace too long") PICTURE_LIMIT)
 abbrev pub of_text : TraceFault → Refusal
 of_text TraceMemory = Memory
 of_text (NoLine n) = no_line n
+of_text TooMany = too_many_lines
+of_text (NoSlot n) = no_slot n
 
 -- of a trace that has no picture
 abbrev pub of_picture : PictureFault → Refusal
 of_picture PictureMemory = Memory
 of_picture TooLong = too_long
+of_picture TooManyRows = too_many_rows
+
+-- of rows that are not made
+abbrev pub of_rows : RowsFault → Refusal
+of_rows RowsMemory = Memory
+of_rows TooManyOfRows = too_many_rows
 
 -- of a table that is not written
 abbrev pub of_table : CsvFault → Refusal

@@ -1,10 +1,11 @@
 -- How the run of a view comes out.
-use Rattle.std.specs.Prelude.{◌≡◌, ◌⊎◌, ℕ, ⊤, List, Option, IfSome}
+use Rattle.std.specs.Prelude.{◌≡◌, ◌⊎◌, ℕ, ⊤, List, Option, None, IfSome}
 use Rattle.slot_core.specs.Keeping.Plans.{PlanParts}
 use Rattle.slot_io.specs.Files.{Held}
 use Rattle.command_line.specs.declared.refusal.Refusal.{Refusal}
 use Rattle.command_line.specs.declared.refusal.Refusal.TheVariants.{Memory}
 use Rattle.trace_lines.specs.declared.line.TraceLine.{TraceLine}
+use Rattle.trace_lines.specs.declared.part.Slots.{Slots}
 use Rattle.trace_lines.specs.Texts.{lines_text}
 use Rattle.trace_lines.specs.Traces.{AreTrace}
 use Rattle.view_run.specs.declared.views.View.{View}
@@ -21,14 +22,19 @@ AreInput held lines =
 -- why a view has no plan: one of lines alone asks for none
 abbrev pub IsViewPlanRefusal :
     View → List (List ℕ) → Option Held → Option (List ℕ) → ℕ → ℕ → Refusal → Type 0
-IsViewPlanRefusal (Lines view) names held blamed before after e = ⊥
+IsViewPlanRefusal (Lines view slots) names held blamed before after e = ⊥
 IsViewPlanRefusal (Jobs source) names held blamed before after e =
     IsPlanRefusal source names held blamed before after e
 
 -- there is the plan that a view asks for: one of lines alone asks for none
 abbrev pub HasPlan : View → List (List ℕ) → Option Held → Type 0
-HasPlan (Lines view) names held = ⊤
+HasPlan (Lines view slots) names held = ⊤
 HasPlan (Jobs source) names held = (plan : PlanParts) × IsPlanOf source names held plan
+
+-- the slots that a view asks for, or none where it asks for all
+abbrev pub slots_asked : View → Option Slots
+slots_asked (Lines view slots) = slots
+slots_asked (Jobs source) = None
 
 -- the text that is due: that of the view of the lines of the input
 abbrev pub IsTextDue : View → List (List ℕ) → Option Held → Option Held → List ℕ → Type 0
@@ -51,5 +57,6 @@ abbrev pub IsRefused :
 IsRefused view names files input blamed of_files of_input of_output e =
     (e ≡ Memory)
     ⊎ (IsViewPlanRefusal view names files blamed of_files.0 of_files.1 e
-    ⊎ ((HasPlan view names files × IsInputRefusal input of_input.0 of_input.1 e)
+    ⊎ ((HasPlan view names files
+    × IsInputRefusal (slots_asked view) input of_input.0 of_input.1 e)
     ⊎ IsUnviewed view names files input of_output.0 of_output.1 e))

@@ -1,9 +1,9 @@
 -- What is written of a view, and why it is not.
-use Rattle.std.specs.Prelude.{◌≡◌, ◌<◌, ◌≤◌, ℕ, ◌+◌, true, ⊤, List, Option, Some, None}
+use Rattle.std.specs.Prelude.{◌≡◌, ◌<◌, ◌≤◌, ◌⊎◌, ℕ, ◌+◌, true, ⊤, List, Option, Some, None}
 use Rattle.std.specs.Io.KnownBytes.{Appends}
 use Rattle.slot_core.specs.Calls.Counts.{Rose}
 use Rattle.run_blocks.specs.declared.rows.Row.{Row}
-use Rattle.run_blocks.specs.Rows.{AreRowsOf, have_few_firms, may_all_stand}
+use Rattle.run_blocks.specs.Rows.{AreCrowded, AreRowsOf, have_few_firms, may_all_stand}
 use Rattle.command_line.specs.declared.refusal.Refusal.{Refusal}
 use Rattle.command_line.specs.declared.refusal.Refusal.TheVariants.{NotVerified, WriteFault, Memory}
 use Rattle.slot_core.specs.Keeping.Plans.{PlanParts}
@@ -12,32 +12,34 @@ use Rattle.slot_io.specs.Sinks.{AppendsPart}
 use Rattle.svg_text.specs.Content.{IsDocument}
 use Rattle.view_jobs.specs.Tables.{first_unknown, jobs_text}
 use Rattle.trace_lines.specs.declared.line.TraceLine.{TraceLine}
-use Rattle.trace_lines.specs.Traces.{runs_of, time_of_last}
+use Rattle.trace_lines.specs.Traces.{runs_of, slots_of}
 use Rattle.view_picture.specs.declared.TheConstants.{PICTURE_LIMIT}
-use Rattle.view_picture.specs.Blocks.{ShowsRuns}
+use Rattle.view_picture.specs.Blocks.{AreRows, ShowsRuns}
 use Rattle.view_tables.specs.declared.put.Table.TheVariants.{Events as EventTable, Spans as SpanTable}
-use Rattle.view_tables.specs.Tables.{table_text}
+use Rattle.view_tables.specs.Tables.{part_text}
 use Rattle.view_waves.specs.WaveTexts.{waves_text}
 use Rattle.view_run.specs.declared.views.View.{View}
 use Rattle.view_run.specs.declared.views.View.TheVariants.{Lines, Jobs}
 use Rattle.view_run.specs.declared.views.LineView.{LineView}
 use Rattle.view_run.specs.declared.views.LineView.TheVariants.{Picture, Events, Spans, Waves}
+use Rattle.view_run.specs.Inputs.{shown_lines, shown_number}
 use Rattle.view_run.specs.Plans.{IsPlanOf}
-use Rattle.view_run.specs.Refusals.{no_line, too_long}
+use Rattle.view_run.specs.Refusals.{no_line, too_long, too_many_rows}
 
--- a picture of lines: a well-formed document that shows what they run, where they have no more
--- slots than a picture may have
+-- a picture of lines: a well-formed document that shows what they run, over rows of the jobs that
+-- run, where they have no more slots than a picture may have
 abbrev pub IsPicture : List TraceLine → List ℕ → Type 0
 IsPicture lines text =
-    IsDocument text × ShowsRuns lines text × (time_of_last lines ≤ PICTURE_LIMIT)
+    IsDocument text × ((rows : List Row) × AreRows rows lines × ShowsRuns rows lines text)
+    × (slots_of lines ≤ PICTURE_LIMIT)
 
--- the text of a view of lines: a picture, a table, or waves over the rows of the jobs that run, of
--- which firm jobs have one each where few run, and else one
-abbrev pub IsLinesText : LineView → List TraceLine → List ℕ → Type 0
-IsLinesText Picture lines text = IsPicture lines text
-IsLinesText Events lines text = text ≡ table_text EventTable lines
-IsLinesText Spans lines text = text ≡ table_text SpanTable lines
-IsLinesText Waves lines text =
+-- the text of a view of lines, of which the first has this number: a picture, a table, or waves over
+-- the rows of the jobs that run, of which firm jobs have one each where few run, and else one
+abbrev pub IsLinesText : LineView → ℕ → List TraceLine → List ℕ → Type 0
+IsLinesText Picture number lines text = IsPicture lines text
+IsLinesText Events number lines text = text ≡ part_text EventTable number lines
+IsLinesText Spans number lines text = text ≡ part_text SpanTable number lines
+IsLinesText Waves number lines text =
     (rows : List Row) × AreRowsOf rows (runs_of lines)
     × (may_all_stand (have_few_firms (runs_of lines)) rows ≡ true) × (text ≡ waves_text rows lines)
 
@@ -48,7 +50,8 @@ IsJobsText plan lines text =
 
 -- of either: a table of jobs is over the plan of its file
 abbrev pub IsViewText : View → List (List ℕ) → Option Held → List TraceLine → List ℕ → Type 0
-IsViewText (Lines view) names files lines text = IsLinesText view lines text
+IsViewText (Lines view slots) names files lines text =
+    IsLinesText view (shown_number slots lines) (shown_lines slots lines) text
 IsViewText (Jobs source) names files lines text =
     (plan : PlanParts) × IsPlanOf source names files plan × IsJobsText plan lines text
 
@@ -60,13 +63,16 @@ Shows IsText before after = (text : List ℕ) × IsText text × Appends before a
 abbrev pub ShowsPart : (List ℕ → Type 0) → Option (List ℕ) → Option (List ℕ) → Type 0
 ShowsPart IsText before after = (text : List ℕ) × IsText text × AppendsPart before after text
 
--- why a view of the lines is not shown: the sink counted a fault, memory ran out, or they have too
--- many slots for a picture
+-- why a view of the lines is not shown: the sink counted a fault, memory ran out, they have too many
+-- slots for a picture, or what they run asks for too many rows
 abbrev pub IsLinesRefusal : LineView → List TraceLine → ℕ → ℕ → Refusal → Type 0
 IsLinesRefusal view lines before after WriteFault = Rose before after
 IsLinesRefusal view lines before after Memory = ⊤
 IsLinesRefusal Picture lines before after (NotVerified reason) =
-    (PICTURE_LIMIT < time_of_last lines) × (NotVerified reason ≡ too_long)
+    ((PICTURE_LIMIT < slots_of lines) × (NotVerified reason ≡ too_long))
+    ⊎ (AreCrowded lines × (NotVerified reason ≡ too_many_rows))
+IsLinesRefusal Waves lines before after (NotVerified reason) =
+    AreCrowded lines × (NotVerified reason ≡ too_many_rows)
 IsLinesRefusal view lines before after refusal = ⊥
 
 -- why their jobs are not shown: likewise, or line n + 1 is the first that names a task which the
@@ -81,7 +87,7 @@ IsJobsRefusal plan lines before after refusal = ⊥
 -- why a view is not shown
 abbrev pub IsShowRefusal :
     View → List (List ℕ) → Option Held → List TraceLine → ℕ → ℕ → Refusal → Type 0
-IsShowRefusal (Lines view) names files lines before after e =
-    IsLinesRefusal view lines before after e
+IsShowRefusal (Lines view slots) names files lines before after e =
+    IsLinesRefusal view (shown_lines slots lines) before after e
 IsShowRefusal (Jobs source) names files lines before after e =
     (plan : PlanParts) × IsPlanOf source names files plan × IsJobsRefusal plan lines before after e

@@ -43,7 +43,8 @@ pub const INPUT_LIMIT: usize = slot_core::READ_LIMIT;
 
 /// The usage line.
 pub const USAGE: &[u8] =
-    b"usage: slotview picture | jobs T | jobs --table B | events | spans | waves\n";
+    b"usage: slotview picture [FROM UNTIL] | jobs T | jobs --table B | events [FROM UNTIL] \
+      | spans [FROM UNTIL] | waves [FROM UNTIL]\n";
 
 /// Does what the words ask for: tells the help or the version; or reads the plan that a table of
 /// jobs wants from `files`, then the trace from `input`, and writes the view of it to `out`. It puts

@@ -32,7 +32,7 @@ fn plan_name(words: &Words, view: View) -> &str
     match view {
         View::Jobs(Source::Tasks) => word_or_nothing(words, 1),
         View::Jobs(Source::Table) => word_or_nothing(words, 2),
-        View::Lines(_) => "",
+        View::Lines(_, _) => "",
     }
 }
 

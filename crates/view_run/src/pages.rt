@@ -22,7 +22,8 @@ pub(crate) fn tell_view_page<K: Sink, E: Sink>(page: Page, out: &mut K, err: &mu
 fn help() -> &'static [u8]
     ensures { result.now ≡ view_help }
 {
-    b"usage: slotview picture | jobs T | jobs --table B | events | spans | waves
+    b"usage: slotview picture [FROM UNTIL] | jobs T | jobs --table B
+       slotview events [FROM UNTIL] | spans [FROM UNTIL] | waves [FROM UNTIL]
        slotview --help
        slotview --version
 
@@ -38,10 +39,13 @@ views:
   spans            a table (CSV) of the spans that the lines show
   waves            waves (VCD) of what ran, and of the first capacity
 
-  T   a task file (TOML), at most 1048576 bytes
-  B   a binary table (slotshift table), at most 4194304 bytes
+  FROM UNTIL   the slots from FROM on and before UNTIL, of a longer trace
+  T            a task file (TOML), at most 1048576 bytes
+  B            a binary table (slotshift table), at most 4194304 bytes
 
-The trace has at most 67108864 bytes, and a line of it at most 1024.
+The trace has at most 67108864 bytes, and a line of it at most 1024. At most
+262144 lines tell of the slots that are shown, and what runs has at most 1045
+rows.
 
 statuses:
   0   done
@@ -53,7 +57,7 @@ statuses:
   7   standard output takes no more
   8   memory ran out
   9   B is no table of a plan
-  10  standard input is no trace or too long for a picture, or names a task that
-      the plan of jobs does not have
+  10  standard input is no trace, or has not the slot FROM; or it is too long for
+      a view; or it names a task that the plan of jobs does not have
 "
 }

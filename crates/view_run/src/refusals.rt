@@ -4,11 +4,12 @@ ghost use Rattle.std.specs.Prelude.{◌≡◌, ◌≤◌, length};
 ghost use Rattle.slot_core.specs.Output.Texts.{worded};
 ghost use Rattle.command_line.specs.declared.refusal.Refusal.TheVariants.{NotVerified};
 ghost use Rattle.view_run.specs.declared.refusals.TheConstants.{WORDS_LIMIT};
-ghost use Rattle.view_run.specs.Refusals.{of_jobs, of_picture, of_table, of_text};
+ghost use Rattle.view_run.specs.Refusals.{of_jobs, of_picture, of_rows, of_table, of_text, too_many_rows};
 
 use command_line::{Reason, Refusal};
 use csv_table::CsvFault;
-use trace_lines::TraceFault;
+use run_blocks::{ROW_LIMIT, RowsFault};
+use trace_lines::{LINE_LIMIT, TraceFault};
 use trace_text::Line;
 use view_jobs::JobsFault;
 use view_picture::{PICTURE_LIMIT, PictureFault};
@@ -35,6 +36,8 @@ pub(crate) fn of_text(fault: TraceFault) -> Refusal
     match fault {
         TraceFault::Memory => Refusal::Memory,
         TraceFault::NoLine(number) => of_trace(b"trace no line", number),
+        TraceFault::TooMany => of_trace(b"trace too many lines", LINE_LIMIT as u64),
+        TraceFault::NoSlot(slot) => of_trace(b"trace no slot", slot),
     }
 }
 
@@ -45,7 +48,25 @@ pub(crate) fn of_picture(fault: PictureFault) -> Refusal
     match fault {
         PictureFault::Memory => Refusal::Memory,
         PictureFault::TooLong => of_trace(b"trace too long", u64::from(PICTURE_LIMIT)),
+        PictureFault::TooManyRows => too_many_rows(),
     }
+}
+
+/// The refusal of rows that are not made.
+pub(crate) fn of_rows(fault: RowsFault) -> Refusal
+    ensures { result ≡ of_rows fault }
+{
+    match fault {
+        RowsFault::Memory => Refusal::Memory,
+        RowsFault::TooMany => too_many_rows(),
+    }
+}
+
+/// The refusal of a trace that asks for too many rows.
+fn too_many_rows() -> Refusal
+    ensures { result ≡ too_many_rows }
+{
+    of_trace(b"trace too many rows", ROW_LIMIT as u64)
 }
 
 /// The refusal of a table that is not written.

@@ -1,15 +1,17 @@
 //! The command line: which words ask for which view.
 
 ghost use Rattle.std.specs.Prelude.{◌≡◌};
-ghost use Rattle.view_run.specs.Views.{jobs_of_table, jobs_of_tasks, view_of, view_of_lines};
+ghost use Rattle.view_run.specs.Views.{jobs_of_table, jobs_of_tasks, slots_named, view_of, view_of_all, view_of_lines, view_of_part, view_of_three};
 
+use key_texts::number_of;
 use slot_core::Words;
+use trace_lines::Slots;
 
 /// What is shown of a trace.
 #[derive(Clone, Copy, PartialEq, Eq)]
 pub enum View {
-    /// What its lines alone tell.
-    Lines(LineView),
+    /// What its lines alone tell: those of all of it, or of these slots.
+    Lines(LineView, Option<Slots>),
     /// A table of its jobs, beside the plan that they are of.
     Jobs(Source),
 }
@@ -41,10 +43,53 @@ pub fn view_of(words: &Words) -> Option<View>
     ensures { result ≡ view_of words.now }
 {
     match words.len() {
-        1 => view_of_lines(words.word(0)).map(View::Lines),
+        1 => view_of_all(words.word(0)),
         2 => jobs_of_tasks(words.word(0)),
-        3 => jobs_of_table(words.word(0), words.word(1)),
+        3 => view_of_three(words.word(0), words.word(1), words.word(2)),
         _ => None,
+    }
+}
+
+/// The view of all lines that the word asks for.
+fn view_of_all(word: &str) -> Option<View>
+    ensures { result ≡ view_of_all word.now }
+{
+    let view = view_of_lines(word)?;
+    Some(View::Lines(view, None))
+}
+
+/// The view of three words.
+fn view_of_three(word: &str, second: &str, third: &str) -> Option<View>
+    ensures { result ≡ view_of_three word.now second.now third.now }
+{
+    match word {
+        "jobs" => jobs_of_table(second),
+        _ => view_of_part(word, second, third),
+    }
+}
+
+/// The view of a part of the lines: those of the slots from one on and before another.
+fn view_of_part(word: &str, from: &str, until: &str) -> Option<View>
+    ensures { result ≡ view_of_part word.now from.now until.now }
+{
+    let view = view_of_lines(word)?;
+    let slots = slots_named(from.as_bytes(), until.as_bytes())?;
+    Some(View::Lines(view, Some(slots)))
+}
+
+/// The slots from one on and before another, of which there is one.
+fn slots_named(from: &[u8], until: &[u8]) -> Option<Slots>
+    ensures { result ≡ slots_named from.now until.now }
+{
+    let from = number_of(from)?;
+    let until = number_of(until)?;
+    if from < until {
+        Some(Slots {
+            from,
+            until: u64::from(until),
+        })
+    } else {
+        None
     }
 }
 
@@ -72,12 +117,11 @@ fn jobs_of_tasks(word: &str) -> Option<View>
 }
 
 /// The table of jobs of a table file.
-fn jobs_of_table(word: &str, option: &str) -> Option<View>
-    ensures { result ≡ jobs_of_table word.now option.now }
+fn jobs_of_table(option: &str) -> Option<View>
+    ensures { result ≡ jobs_of_table option.now }
 {
-    if word == "jobs" && option == "--table" {
-        Some(View::Jobs(Source::Table))
-    } else {
-        None
+    match option {
+        "--table" => Some(View::Jobs(Source::Table)),
+        _ => None,
     }
 }

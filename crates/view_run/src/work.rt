@@ -1,40 +1,38 @@
 //! The work of a view: what is read, and what is written of it.
 
-ghost use Rattle.std.specs.Prelude.{◌≡◌, ◌≢◌, ◌⊎◌, ℕ, nat_le, List, Err, IfOk, IfErr, IfSome, OnOk, OnErr};
+ghost use Rattle.std.specs.Prelude.{◌≡◌, ◌≢◌, ◌⊎◌, ◌≤◌, ◌+◌, ℕ, nat_le, length, List, None, Some, Err, IfOk, IfErr, IfSome, OnOk, OnErr};
 ghost use Rattle.std.specs.Io.KnownBytes.{Appends};
 ghost use Rattle.slot_core.specs.Calls.Counts.{Rose};
 ghost use Rattle.slot_io.specs.Sinks.{AppendsPart};
 ghost use Rattle.command_line.specs.declared.refusal.Refusal.TheVariants.{Memory as MemoryRefusal, WriteFault as WriteRefusal};
 ghost use Rattle.command_line.specs.declared.refusal.Refusal.{Refusal};
-ghost use Rattle.view_tables.specs.Tables.{table_text};
+ghost use Rattle.view_tables.specs.Tables.{part_text};
 ghost use Rattle.view_waves.specs.WaveTexts.{waves_text};
 ghost use Rattle.trace_lines.specs.declared.line.TraceLine.{TraceLine};
-ghost use Rattle.trace_lines.specs.Texts.{lines_text};
-ghost use Rattle.trace_lines.specs.Traces.{AreTrace, Breaks};
-ghost use Rattle.view_run.specs.Inputs.{BeginsWith, IsInputRefusal, Holds};
+ghost use Rattle.trace_lines.specs.Parts.{IsTraceText};
+ghost use Rattle.view_run.specs.Inputs.{BeginsWith, Holds, IsInputRefusal, IsShown, IsUnread, shown_lines, shown_number};
 ghost use Rattle.view_run.specs.Plans.{IsPlanOf, IsPlanRefusal};
 ghost use Rattle.view_run.specs.declared.TheConstants.{INPUT_LIMIT};
-ghost use Rattle.view_run.specs.Refusals.{no_line};
 ghost use Rattle.view_run.specs.Runs.{AreInput, IsRefused, IsTextDue};
 ghost use Rattle.view_run.specs.Shown.{IsJobsRefusal, IsJobsText, IsLinesRefusal, IsLinesText, IsPicture, Shows, ShowsPart};
 ghost use Rattle.view_run.specs.Views.{plan_source};
 
 use crate::names::Names;
-use crate::refusals::{of_jobs, of_picture, of_table, of_text};
+use crate::refusals::{of_jobs, of_picture, of_rows, of_table, of_text};
 use crate::views::{LineView, Source, View};
 use crate::{INPUT_LIMIT, INPUT_NAME};
 use command_line::{File, Refusal, Source as PlanSource};
 use cycle_plan::Plan;
 use run_blocks::{Row, rows_of};
 use run_steps::plan_from;
-use slot_core::{Failed, Memory};
+use slot_core::Failed;
 use slot_io::{Files, ReadFault, Sink};
 use std::alloc::Global;
 use svg_text::Document;
-use trace_lines::{TraceLine, read_trace};
+use trace_lines::{Part, Slots, TraceLine, read_part, read_trace};
 use view_jobs::put_jobs;
 use view_picture::picture;
-use view_tables::{Table, put_table};
+use view_tables::{Table, put_part};
 use view_waves::put_waves;
 
 /// Reads the plan of the view, if it has one, then the trace, and writes the view.
@@ -61,33 +59,36 @@ pub(crate) fn work<F: Files, I: Files, K: Sink>(
     ensures untouched { (e : Refusal) → result ≡ Err e → e ≢ WriteRefusal → out.new ≡ out.old }
 {
     match view {
-        View::Lines(view) => work_of_lines(alloc, view, input, out),
+        View::Lines(view, slots) => work_of_lines(alloc, view, slots, input, out),
         View::Jobs(source) => work_of_jobs(alloc, names, source, files, input, out),
     }
 }
 
-/// Reads the trace, and writes the view of its lines.
+/// Reads the trace, and writes the view of its lines, or of those of the slots.
 fn work_of_lines<I: Files, K: Sink>(
     alloc: Global,
     view: LineView,
+    slots: Option<Slots>,
     input: &mut I,
     out: &mut K,
 ) -> Result<(), Refusal>
     ensures shown { OnOk result
         (Shows (λ text. (lines : List TraceLine) × AreInput (I.held input.old) lines
-        × IsLinesText view lines text) (K.written out.old) (K.written out.new)) }
+        × IsLinesText view (shown_number slots lines) (shown_lines slots lines) text)
+        (K.written out.old) (K.written out.new)) }
     ensures part { result ≡ Err WriteRefusal
         → ShowsPart (λ text. (lines : List TraceLine) × AreInput (I.held input.old) lines
-        × IsLinesText view lines text) (K.written out.old) (K.written out.new) }
+        × IsLinesText view (shown_number slots lines) (shown_lines slots lines) text)
+        (K.written out.old) (K.written out.new) }
     ensures reads_well { OnOk result (I.faults input.new ≡ I.faults input.old) }
     ensures refused { IfErr result (λ e.
-        IsInputRefusal (I.held input.old) (I.faults input.old) (I.faults input.new) e
+        IsInputRefusal slots (I.held input.old) (I.faults input.old) (I.faults input.new) e
         ⊎ ((lines : List TraceLine) × AreInput (I.held input.old) lines
-        × IsLinesRefusal view lines (K.faults out.old) (K.faults out.new) e)) }
+        × IsLinesRefusal view (shown_lines slots lines) (K.faults out.old) (K.faults out.new) e)) }
     ensures untouched { (e : Refusal) → result ≡ Err e → e ≢ WriteRefusal → out.new ≡ out.old }
 {
-    let lines = read_lines(alloc, input)?;
-    show_lines(alloc, view, &lines, out)
+    let part = read_lines(alloc, slots, input)?;
+    show_lines(alloc, view, part.number, &part.lines, out)
 }
 
 /// Reads the plan and the trace, and writes the table of its jobs.
@@ -114,8 +115,8 @@ fn work_of_jobs<F: Files, I: Files, K: Sink>(
     ensures untouched { (e : Refusal) → result ≡ Err e → e ≢ WriteRefusal → out.new ≡ out.old }
 {
     let plan = planned(alloc, names, source, files)?;
-    let lines = read_lines(alloc, input)?;
-    show_jobs(alloc, &plan, &lines, out)
+    let part = read_lines(alloc, None, input)?;
+    show_jobs(alloc, &plan, &part.lines, out)
 }
 
 /// The plan of a table of jobs.
@@ -143,38 +144,73 @@ fn plan_source(source: Source) -> PlanSource
     }
 }
 
-/// The lines of the trace on standard input.
-fn read_lines<I: Files>(alloc: Global, input: &mut I) -> Result<Vec<TraceLine>, Refusal>
-    ensures trace { IfOk result (λ lines. AreTrace lines.items) }
-    ensures text { IfOk result (λ lines. IfSome (I.held input.old)
-        (λ held. Holds held (lines_text lines.items))) }
+/// The lines of the trace on standard input, or of those of the slots.
+fn read_lines<I: Files>(alloc: Global, slots: Option<Slots>, input: &mut I) -> Result<Part, Refusal>
+    ensures shown { IfOk result (λ part. (lines : List TraceLine)
+        × AreInput (I.held input.old) lines
+        × IsShown slots lines part.lines.items part.number) }
+    ensures number { IfOk result (λ part. part.number ≤ INPUT_LIMIT + 1) }
     ensures refused { IfErr result
-        (IsInputRefusal (I.held input.old) (I.faults input.old) (I.faults input.new)) }
+        (IsInputRefusal slots (I.held input.old) (I.faults input.old) (I.faults input.new)) }
     ensures reads_well { OnOk result (I.faults input.new ≡ I.faults input.old) }
 {
-    let bytes = read_input(alloc, input)?;
-    lines_of(alloc, &bytes)
+    let bytes = read_input(alloc, slots, input)?;
+    lines_of(alloc, slots, &bytes)
+}
+
+/// The lines of the trace that the bytes write, or of those of the slots.
+fn lines_of(alloc: Global, slots: Option<Slots>, bytes: &[u8]) -> Result<Part, Refusal>
+    ensures shown { IfOk result (λ part. (lines : List TraceLine) × IsTraceText bytes.now lines
+        × IsShown slots lines part.lines.items part.number) }
+    ensures number { IfOk result (λ part. part.number ≤ length bytes.now + 1) }
+    ensures refused { IfErr result (λ e. (e ≡ MemoryRefusal)
+        ⊎ IsUnread slots (λ IsSo. IsSo bytes.now) e) }
+{
+    match slots {
+        None => all_lines(alloc, bytes),
+        Some(slots) => lines_of_part(alloc, slots, bytes),
+    }
 }
 
 /// The lines of the trace that the bytes write.
-fn lines_of(alloc: Global, bytes: &[u8]) -> Result<Vec<TraceLine>, Refusal>
-    ensures trace { IfOk result (λ lines. AreTrace lines.items) }
-    ensures text { IfOk result (λ lines. bytes.now ≡ lines_text lines.items) }
+fn all_lines(alloc: Global, bytes: &[u8]) -> Result<Part, Refusal>
+    ensures shown { IfOk result (λ part. (lines : List TraceLine) × IsTraceText bytes.now lines
+        × IsShown None lines part.lines.items part.number) }
+    ensures number { IfOk result (λ part. part.number ≤ length bytes.now + 1) }
     ensures refused { IfErr result (λ e. (e ≡ MemoryRefusal)
-        ⊎ ((n : ℕ) × (e ≡ no_line n) × Breaks bytes.now n)) }
+        ⊎ IsUnread None (λ IsSo. IsSo bytes.now) e) }
 {
     match read_trace(alloc, bytes) {
-        Ok(lines) => Ok(lines),
+        Ok(lines) => Ok(Part { lines, number: 1 }),
+        Err(fault) => Err(of_text(fault)),
+    }
+}
+
+/// The lines of the part that tells of the slots, of the trace that the bytes write.
+fn lines_of_part(alloc: Global, slots: Slots, bytes: &[u8]) -> Result<Part, Refusal>
+    ensures shown { IfOk result (λ part. (lines : List TraceLine) × IsTraceText bytes.now lines
+        × IsShown (Some slots) lines part.lines.items part.number) }
+    ensures number { IfOk result (λ part. part.number ≤ length bytes.now + 1) }
+    ensures refused { IfErr result (λ e. (e ≡ MemoryRefusal)
+        ⊎ IsUnread (Some slots) (λ IsSo. IsSo bytes.now) e) }
+{
+    match read_part(alloc, bytes, slots) {
+        Ok(part) => Ok(part),
         Err(fault) => Err(of_text(fault)),
     }
 }
 
 /// The bytes of standard input, where they are within the limit.
-fn read_input<I: Files>(alloc: Global, input: &mut I) -> Result<Vec<u8>, Refusal>
+fn read_input<I: Files>(
+    alloc: Global,
+    slots: Option<Slots>,
+    input: &mut I,
+) -> Result<Vec<u8>, Refusal>
     ensures bytes { IfOk result (λ bytes. IfSome (I.held input.old)
         (λ held. Holds held bytes.items)) }
+    ensures short { IfOk result (λ bytes. length bytes.items ≤ INPUT_LIMIT) }
     ensures refused { IfErr result
-        (IsInputRefusal (I.held input.old) (I.faults input.old) (I.faults input.new)) }
+        (IsInputRefusal slots (I.held input.old) (I.faults input.old) (I.faults input.new)) }
     ensures reads_well { OnOk result (I.faults input.new ≡ I.faults input.old) }
 {
     match input.read(alloc, INPUT_NAME, INPUT_LIMIT) {
@@ -197,25 +233,27 @@ fn is_within_limit(count: usize) -> bool
     count <= INPUT_LIMIT
 }
 
-/// Writes the view of the lines.
+/// Writes the view of the lines, of which the first has this number.
 fn show_lines<K: Sink>(
     alloc: Global,
     view: LineView,
+    number: u64,
     lines: &[TraceLine],
     out: &mut K,
 ) -> Result<(), Refusal>
+    requires { number ≤ INPUT_LIMIT + 1 }
     ensures shown { OnOk result
-        (Shows (IsLinesText view lines.now) (K.written out.old) (K.written out.new)) }
+        (Shows (IsLinesText view number lines.now) (K.written out.old) (K.written out.new)) }
     ensures part { result ≡ Err WriteRefusal
-        → ShowsPart (IsLinesText view lines.now) (K.written out.old) (K.written out.new) }
+        → ShowsPart (IsLinesText view number lines.now) (K.written out.old) (K.written out.new) }
     ensures refused { IfErr result
         (IsLinesRefusal view lines.now (K.faults out.old) (K.faults out.new)) }
     ensures untouched { (e : Refusal) → result ≡ Err e → e ≢ WriteRefusal → out.new ≡ out.old }
 {
     match view {
         LineView::Picture => show_picture(alloc, lines, out),
-        LineView::Events => show_table(alloc, Table::Events, lines, out),
-        LineView::Spans => show_table(alloc, Table::Spans, lines, out),
+        LineView::Events => show_table(alloc, Table::Events, number, lines, out),
+        LineView::Spans => show_table(alloc, Table::Spans, number, lines, out),
         LineView::Waves => show_waves(alloc, lines, out),
     }
 }
@@ -256,22 +294,24 @@ fn put_document<K: Sink>(
     }
 }
 
-/// Writes a table of the lines.
+/// Writes a table of the lines, of which the first has this number.
 fn show_table<K: Sink>(
     alloc: Global,
     table: Table,
+    number: u64,
     lines: &[TraceLine],
     out: &mut K,
 ) -> Result<(), Refusal>
+    requires { number ≤ INPUT_LIMIT + 1 }
     ensures shown { OnOk result
-        (Appends (K.written out.old) (K.written out.new) (table_text table lines.now)) }
+        (Appends (K.written out.old) (K.written out.new) (part_text table number lines.now)) }
     ensures part { OnErr result
-        (AppendsPart (K.written out.old) (K.written out.new) (table_text table lines.now)) }
+        (AppendsPart (K.written out.old) (K.written out.new) (part_text table number lines.now)) }
     ensures untouched { (e : Refusal) → result ≡ Err e → e ≢ WriteRefusal → out.new ≡ out.old }
     ensures refused { (e : Refusal) → result ≡ Err e → (e ≡ MemoryRefusal)
         ⊎ ((e ≡ WriteRefusal) × Rose (K.faults out.old) (K.faults out.new)) }
 {
-    match put_table(alloc, table, lines, out) {
+    match put_part(alloc, table, number, lines, out) {
         Ok(()) => Ok(()),
         Err(fault) => Err(of_table(fault)),
     }
@@ -280,17 +320,17 @@ fn show_table<K: Sink>(
 /// Writes the waves of the lines.
 fn show_waves<K: Sink>(alloc: Global, lines: &[TraceLine], out: &mut K) -> Result<(), Refusal>
     ensures shown { OnOk result
-        (Shows (IsLinesText LineView.Waves lines.now) (K.written out.old) (K.written out.new)) }
+        (Shows (IsLinesText LineView.Waves 1 lines.now) (K.written out.old) (K.written out.new)) }
     ensures part { result ≡ Err WriteRefusal
-        → ShowsPart (IsLinesText LineView.Waves lines.now)
+        → ShowsPart (IsLinesText LineView.Waves 1 lines.now)
         (K.written out.old) (K.written out.new) }
     ensures untouched { (e : Refusal) → result ≡ Err e → e ≢ WriteRefusal → out.new ≡ out.old }
-    ensures refused { (e : Refusal) → result ≡ Err e → (e ≡ MemoryRefusal)
-        ⊎ ((e ≡ WriteRefusal) × Rose (K.faults out.old) (K.faults out.new)) }
+    ensures refused { IfErr result
+        (IsLinesRefusal LineView.Waves lines.now (K.faults out.old) (K.faults out.new)) }
 {
     match rows_of(alloc, lines) {
         Ok(rows) => put_rows(&rows, lines, out),
-        Err(Memory) => Err(Refusal::Memory),
+        Err(fault) => Err(of_rows(fault)),
     }
 }
 

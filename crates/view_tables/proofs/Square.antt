@@ -1,5 +1,5 @@
 -- Each row has as many fields as the header.
-use Rattle.std.proofs.Common.{◌≡◌, ℕ, ◌+◌, List, [], ◌∷◌, ◌++◌, length, map, Option, Some, None, refl}
+use Rattle.std.proofs.Common.{◌≡◌, ℕ, ◌+◌, List, [], ◌∷◌, length, map, Option, Some, None, refl}
 use Rattle.std.specs.Prelude.{All, option_map}
 use Rattle.std.specs.List.{AllByRecursion, enumerate_from}
 use Rattle.std.proofs.lemmas.List.Elements.{All-from_recursion}
@@ -11,7 +11,7 @@ use Rattle.view_tables.specs.declared.put.Table.{Table}
 use Rattle.view_tables.specs.declared.put.Table.TheVariants.{Events, Spans}
 use Rattle.view_tables.specs.Columns.{told_of}
 use Rattle.view_tables.specs.LineRows.{event_fields, span_fields}
-use Rattle.view_tables.specs.Tables.{header, row_if_any, rows_from, rows_of_line, table_rows}
+use Rattle.view_tables.specs.Tables.{header, row_if_any, rows_from, rows_of_line, part_rows}
 
 -- the row has as many fields as the header
 abbrev IsFull : Table → List (List ℕ) → Type 0
@@ -34,6 +34,6 @@ lines-full table n [] = tt
 lines-full table n (line ∷ lines) =
     AllByRecursion-append (IsFull table) (rows_of_line table (n, line)) (rows_from table (n + 1) lines) (line-full table n line) (lines-full table (n + 1) lines)
 
-pub table-square : (table : Table) (lines : List TraceLine) → All (λ row. length row ≡ length (header table)) (table_rows table lines)
-table-square table lines =
-    All-from_recursion (IsFull table) (table_rows table lines) (refl, lines-full table 1 lines)
+pub part-square : (table : Table) (n : ℕ) (lines : List TraceLine) → All (λ row. length row ≡ length (header table)) (part_rows table n lines)
+part-square table n lines =
+    All-from_recursion (IsFull table) (part_rows table n lines) (refl, lines-full table n lines)

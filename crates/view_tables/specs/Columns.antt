@@ -1,5 +1,5 @@
 -- What the line of an arrival tells, by columns.
-use Rattle.std.specs.Prelude.{ℕ, List, [], ◌++◌, codes, decimal, Option, Some, None}
+use Rattle.std.specs.Prelude.{ℕ, List, [], codes, Option, Some, None}
 use Rattle.slot_core.specs.declared.events.Soft.{Soft as SoftAnswer}
 use Rattle.slot_core.specs.declared.events.Soft.TheVariants.{Taken as SoftTaken, Full}
 use Rattle.slot_core.specs.declared.events.Firm.{Firm as FirmAnswer}

@@ -26,10 +26,19 @@ header Spans = span_names
 abbrev pub rows_from : Table → ℕ → List TraceLine → List (List (List ℕ))
 rows_from table number lines = flat_map (rows_of_line table) (enumerate_from number lines)
 
--- the rows of a table: the header, and those of each line
-abbrev pub table_rows : Table → List TraceLine → List (List (List ℕ))
-table_rows table lines = header table ∷ rows_from table 1 lines
+-- the rows of a table of lines, of which the first has this number: the header, and those of each
+-- line
+abbrev pub part_rows : Table → ℕ → List TraceLine → List (List (List ℕ))
+part_rows table number lines = header table ∷ rows_from table number lines
 
--- the text of a table
+-- the rows of a table of a whole trace
+abbrev pub table_rows : Table → List TraceLine → List (List (List ℕ))
+table_rows table lines = part_rows table 1 lines
+
+-- the text of a table of lines, of which the first has this number
+abbrev pub part_text : Table → ℕ → List TraceLine → List ℕ
+part_text table number lines = rows_text (part_rows table number lines)
+
+-- the text of a table of a whole trace
 abbrev pub table_text : Table → List TraceLine → List ℕ
-table_text table lines = rows_text (table_rows table lines)
+table_text table lines = part_text table 1 lines

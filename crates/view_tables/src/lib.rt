@@ -6,4 +6,4 @@ mod put;
 mod spans;
 mod told;
 
-pub use put::{Table, put_table};
+pub use put::{Table, put_part, put_table};

@@ -1,11 +1,11 @@
 //! Tables of the lines of a trace.
 
-ghost use Rattle.std.specs.Prelude.{◌≡◌, ℕ, ◌≤◌, ◌++◌, List, length, All, Some, Err, IfOk, OnOk, OnErr};
+ghost use Rattle.std.specs.Prelude.{◌≡◌, ℕ, ◌≤◌, ◌<◌, ◌+◌, ◌^◌, ◌++◌, List, length, All, Some, Err, IfOk, OnOk, OnErr};
 ghost use Rattle.std.specs.Io.KnownBytes.{Appends};
 ghost use Rattle.slot_core.specs.Calls.Counts.{Rose};
 ghost use Rattle.slot_io.specs.Sinks.{AppendsPart};
 ghost use Rattle.csv_table.specs.Tables.{row_line, rows_text};
-ghost use Rattle.view_tables.specs.Tables.{header, rows_from, rows_of_line, table_rows, table_text};
+ghost use Rattle.view_tables.specs.Tables.{header, part_rows, part_text, rows_from, rows_of_line, table_rows, table_text};
 
 use crate::events::{event_names, push_event};
 use crate::spans::{push_spans, span_names};
@@ -48,17 +48,47 @@ pub fn put_table<K: Sink>(
         (λ row. length row ≡ length (header table))
         (table_rows table lines.now) }
 {
-    let rows = whole_table(alloc, table, lines)?;
+    put_part(alloc, table, 1, lines, out)
+}
+
+/// The same of the lines of a part of a trace, of which the first has this number, from 1 on.
+pub fn put_part<K: Sink>(
+    alloc: Global,
+    table: Table,
+    number: u64,
+    lines: &[TraceLine],
+    out: &mut K,
+) -> Result<(), CsvFault>
+    requires counted { number + length lines.now < 2 ^ 64 }
+    ensures text { OnOk result
+        (Appends (K.written out.old) (K.written out.new) (part_text table number lines.now)) }
+    ensures part { OnErr result
+        (AppendsPart (K.written out.old) (K.written out.new) (part_text table number lines.now)) }
+    ensures memory { result ≡ Err (CsvFault.Memory) → out.new ≡ out.old }
+    ensures counted { K.faults out.old ≤ K.faults out.new }
+    ensures failed { result ≡ Err (CsvFault.Failed)
+        → Rose (K.faults out.old) (K.faults out.new) }
+    ensures square { All
+        (λ row. length row ≡ length (header table))
+        (part_rows table number lines.now) }
+{
+    let rows = whole_table(alloc, table, number, lines)?;
     rows.put(out)
 }
 
-/// The header and the rows of the lines.
-fn whole_table(alloc: Global, table: Table, lines: &[TraceLine]) -> Result<Rows, Memory>
-    ensures { IfOk result (λ rows. rows ≡ Some (table_text table lines.now)) }
+/// The header and the rows of the lines, of which the first has this number.
+fn whole_table(
+    alloc: Global,
+    table: Table,
+    number: u64,
+    lines: &[TraceLine],
+) -> Result<Rows, Memory>
+    requires { number + length lines.now < 2 ^ 64 }
+    ensures { IfOk result (λ rows. rows ≡ Some (part_text table number lines.now)) }
 {
     let mut rows = Rows::new(alloc);
     push_header(&mut rows, table)?;
-    push_lines(&mut rows, table, lines)?;
+    push_lines(&mut rows, table, number, lines)?;
     Ok(rows)
 }
 
@@ -73,14 +103,15 @@ fn push_header(rows: &mut Rows, table: Table) -> Result<(), Memory>
     }
 }
 
-/// Appends the rows of the lines, which are numbered from 1 on.
-fn push_lines(rows: &mut Rows, table: Table, lines: &[TraceLine]) -> Result<(), Memory>
+/// Appends the rows of the lines, of which the first has this number.
+fn push_lines(rows: &mut Rows, table: Table, number: u64, lines: &[TraceLine]) -> Result<(), Memory>
+    requires { number + length lines.now < 2 ^ 64 }
     ensures { (text : List ℕ) → rows.old ≡ Some text → OnOk result
-        (rows.new ≡ Some (text ++ rows_text (rows_from table 1 lines.now))) }
+        (rows.new ≡ Some (text ++ rows_text (rows_from table number lines.now))) }
 {
     let mut job = Line::new();
     for (i, line) in lines.iter().enumerate() {
-        push_line(rows, table, i as u64 + 1, line, &mut job)?;
+        push_line(rows, table, number + i as u64, line, &mut job)?;
     }
     Ok(())
 }

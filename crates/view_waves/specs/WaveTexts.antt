@@ -7,6 +7,7 @@ use Rattle.run_blocks.specs.declared.rows.Row.TheVariants.{Task, Sporadic, FirmJ
 use Rattle.view_waves.specs.declared.lines.TheConstants.{BITS}
 use Rattle.view_waves.specs.declared.steps.Step.{Step}
 use Rattle.view_waves.specs.declared.steps.Wave.{Wave}
+use Rattle.trace_lines.specs.Traces.{time_of_first}
 use Rattle.view_waves.specs.Steps.{first_wave, steps_from}
 
 -- the name of a row: graph.task, the sporadic task, firm.row, firm, soft
@@ -66,10 +67,14 @@ levels_text wires on =
 abbrev pub shown_text : ℕ → List ℕ
 shown_text bits = capacity_text bits ++ codes "$end\n"
 
--- the first values
-abbrev pub first_text : ℕ → Wave → List ℕ
-first_text wires wave =
-    codes "#0\n$dumpvars\n" ++ (levels_text wires wave.on ++ shown_text wave.shown)
+-- the time of the first values
+abbrev pub first_time_text : ℕ → List ℕ
+first_time_text time = codes "#" ++ decimal time ++ codes "\n$dumpvars\n"
+
+-- the first values, which stand from this time on
+abbrev pub first_text : ℕ → ℕ → Wave → List ℕ
+first_text wires time wave =
+    first_time_text time ++ (levels_text wires wave.on ++ shown_text wave.shown)
 
 -- a wire falls, and another rises
 abbrev pub turn_text : Option (ℕ × ℕ) → List ℕ
@@ -94,4 +99,5 @@ steps_text rows wave lines = flat_map step_text (steps_from rows wave lines)
 abbrev pub waves_text : List Row → List TraceLine → List ℕ
 waves_text rows lines =
     let wave = first_wave rows lines in
-    head_text rows ++ (first_text (length rows + 1) wave ++ steps_text rows wave lines)
+    head_text rows
+    ++ (first_text (length rows + 1) (time_of_first lines) wave ++ steps_text rows wave lines)

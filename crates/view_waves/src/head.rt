@@ -5,13 +5,15 @@ ghost use Rattle.std.specs.List.{enumerate_from, range_with_len};
 ghost use Rattle.std.specs.Io.KnownBytes.{Appends};
 ghost use Rattle.slot_core.specs.Calls.Counts.{Rose};
 ghost use Rattle.slot_io.specs.Sinks.{AppendsPart};
-ghost use Rattle.view_waves.specs.WaveTexts.{after_wires, first_text, head_text, levels_text, before_wires, row_text, shown_text};
+ghost use Rattle.trace_lines.specs.Traces.{time_of_first};
+ghost use Rattle.view_waves.specs.WaveTexts.{after_wires, first_text, first_time_text, head_text, levels_text, before_wires, row_text, shown_text};
 
-use crate::lines::{push_after_wires, push_capacity, push_level, push_row};
+use crate::lines::{push_after_wires, push_capacity, push_first_time, push_level, push_row};
 use crate::steps::Wave;
 use run_blocks::Row;
 use slot_core::Failed;
 use slot_io::Sink;
+use trace_lines::TraceLine;
 use trace_text::Line;
 
 /// What stands before the wires.
@@ -78,18 +80,38 @@ fn put_after_wires<K: Sink>(idle: usize, out: &mut K) -> Result<(), Failed>
     out.put(line.bytes())
 }
 
-/// Writes the first values of so many wires and of the capacity.
-pub(crate) fn put_first<K: Sink>(wires: usize, wave: Wave, out: &mut K) -> Result<(), Failed>
+/// Writes the first values of so many wires and of the capacity, which stand from the time of the
+/// first line on.
+pub(crate) fn put_first<K: Sink>(
+    wires: usize,
+    lines: &[TraceLine],
+    wave: Wave,
+    out: &mut K,
+) -> Result<(), Failed>
     ensures text { OnOk result
-        (Appends (K.written out.old) (K.written out.new) (first_text wires wave)) }
+        (Appends (K.written out.old) (K.written out.new) (first_text wires (time_of_first lines.now) wave)) }
     ensures part { OnErr result
-        (AppendsPart (K.written out.old) (K.written out.new) (first_text wires wave)) }
+        (AppendsPart (K.written out.old) (K.written out.new) (first_text wires (time_of_first lines.now) wave)) }
     ensures counted { K.faults out.old ≤ K.faults out.new }
     ensures failed { OnErr result (Rose (K.faults out.old) (K.faults out.new)) }
 {
-    out.put(b"#0\n$dumpvars\n")?;
+    put_first_time(lines, out)?;
     put_levels(wires, wave.on, out)?;
     put_first_capacity(wave.shown, out)
+}
+
+/// Writes the time of the first values.
+fn put_first_time<K: Sink>(lines: &[TraceLine], out: &mut K) -> Result<(), Failed>
+    ensures text { OnOk result
+        (Appends (K.written out.old) (K.written out.new) (first_time_text (time_of_first lines.now))) }
+    ensures part { OnErr result
+        (AppendsPart (K.written out.old) (K.written out.new) (first_time_text (time_of_first lines.now))) }
+    ensures counted { K.faults out.old ≤ K.faults out.new }
+    ensures failed { OnErr result (Rose (K.faults out.old) (K.faults out.new)) }
+{
+    let mut line = Line::new();
+    push_first_time(&mut line, lines);
+    out.put(line.bytes())
 }
 
 /// Writes the values of so many wires, of which this one is on.

@@ -4,11 +4,13 @@ ghost use Rattle.std.specs.Prelude.{◌≡◌, ℕ, ◌≤◌, ◌<◌, ◌+◌,
 ghost use Rattle.std.specs.List.{range_with_len};
 ghost use Rattle.trace_text.specs.declared.TheConstants.{LINE_LIMIT};
 ghost use Rattle.view_waves.specs.declared.lines.TheConstants.{BITS, CAPACITY_SIZE, LABEL_LIMIT, LEVEL_LIMIT, TURN_LIMIT};
-ghost use Rattle.view_waves.specs.WaveTexts.{bit_digit, change_text, after_wires, level_text, row_label, row_text, capacity_text, step_text, turn_text};
+ghost use Rattle.trace_lines.specs.Traces.{time_of_first};
+ghost use Rattle.view_waves.specs.WaveTexts.{bit_digit, change_text, after_wires, first_time_text, level_text, row_label, row_text, capacity_text, step_text, turn_text};
 
 use crate::steps::Step;
 use run_blocks::Row;
 use slot_core::NAME_LIMIT;
+use trace_lines::{TraceLine, time_of_first};
 use trace_text::{DECIMAL_LIMIT, Line};
 
 /// Most bytes of the name of a row: two names and a point.
@@ -47,6 +49,16 @@ pub(crate) fn push_after_wires(line: &mut Line, idle: usize)
     line.number(idle as u64);
     line.push(b" idle $end\n");
     line.push(b"$var integer 64 c capacity $end\n$upscope $end\n$enddefinitions $end\n");
+}
+
+/// Writes the time of the first values, that of the first line, into an empty line.
+pub(crate) fn push_first_time(line: &mut Line, lines: &[TraceLine])
+    requires { line.old ≡ [] }
+    ensures { line.new ≡ first_time_text (time_of_first lines.now) }
+{
+    line.push(b"#");
+    line.number(u64::from(time_of_first(lines)));
+    line.push(b"\n$dumpvars\n");
 }
 
 /// Appends the name of a row.

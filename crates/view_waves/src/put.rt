@@ -31,7 +31,7 @@ pub fn put_waves<K: Sink>(rows: &[Row], lines: &[TraceLine], out: &mut K) -> Res
 {
     let wave = first_wave(rows, lines);
     put_head(rows, out)?;
-    put_first(rows.len() + 1, wave, out)?;
+    put_first(rows.len() + 1, lines, wave, out)?;
     put_steps(rows, lines, wave, out)
 }
 

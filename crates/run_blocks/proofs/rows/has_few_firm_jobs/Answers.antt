@@ -1,5 +1,5 @@
 -- One line more, until there are too many.
-use Rattle.std.proofs.Common.{◌≡◌, ◌≤◌, ◌<◌, ◌+◌, List, ℕ, [], length, take, sym, arith}
+use Rattle.std.proofs.Common.{◌≡◌, ◌<◌, ◌+◌, List, ℕ, [], length, take, sym, arith}
 use Rattle.trace_lines.specs.declared.line.TraceLine.{TraceLine}
 use Rattle.trace_lines.specs.Traces.{runs_of}
 use Rattle.run_blocks.specs.declared.TheConstants.{FIRM_ROW_LIMIT}

@@ -1,5 +1,5 @@
 -- A row that is not among them is appended.
-use Rattle.std.proofs.Common.{rules, ◌≡◌, ◌==◌, ℕ, false, refl, sym, ◌∙◌}
+use Rattle.std.proofs.Common.{rules, ◌≡◌, ◌==◌, ℕ, false, sym, ◌∙◌}
 use Rattle.std.specs.List.{list_any}
 use Rattle.run_blocks.proofs.FirmCounts.{with_firm-new}
 use Rattle.run_blocks.proofs.rows.push_once.Goals as goal

@@ -3,7 +3,7 @@ use Rattle.std.proofs.lemmas.Grind.{common_steps}
 use Rattle.key_texts.specs.KeyTexts.{cut_at}
 use Rattle.key_texts.proofs.CutLemmas.{cut_at-Some}
 use Rattle.trace_lines.specs.declared.trace.TraceFault.TheVariants.{NoLine, TooMany}
-use Rattle.trace_lines.proofs.PartReads.{IsLong-more}
+use Rattle.trace_lines.proofs.PartReads.{IsKept-part, IsLong-more}
 use Rattle.trace_lines.proofs.TraceReads.{Breaks-line, Breaks-unended, IsRead-more, IsRead-start}
 use Rattle.trace_lines.proofs.trace.push_lines.Goals as goal
 
@@ -47,3 +47,9 @@ loop-rest-preserved c =
       read = (lines ++ line ∷ [], IsRead-more c.args.text.now c.loop-rest.rest.now c.in-Some.after.now c.in-Some.line.now lines line c.loop-rest.reached c.in_ok-reached.reached read cut found step, more lines kept);
       room = omega (arith, c.loop-rest.invariant.room, c.in_ok-reached.ensures.count, length-append c.in-Some.line.now (10 ∷ c.in-Some.after.now), ap length (cut_at-Some 10 c.loop-rest.rest.now (c.in-Some.line.now, c.in-Some.after.now) cut));
     }
+
+pub returns-then-eq-clause-number : goal.returns-then-eq-clause-number
+returns-then-eq-clause-number c =
+    let (lines, read, kept) = c.loop-rest.invariant.read in
+    let few = IsKept-part _ _ _ _ _ _ _ kept in
+    omega (arith, few, c.loop-rest.invariant.room)

@@ -5,4 +5,4 @@ use Rattle.view_tables.specs.Tables.{rows_from}
 use Rattle.view_tables.proofs.put.push_lines.Given as goal
 
 abbrev pub invariant-loop-i : goal.invariant-loop-i
-invariant-loop-i l = (text : List ℕ) → l.initial.rows ≡ Some text → l.rows ≡ Some (text ++ rows_text (rows_from l.table 1 (take l.i l.lines)))
+invariant-loop-i l = (text : List ℕ) → l.initial.rows ≡ Some text → l.rows ≡ Some (text ++ rows_text (rows_from l.table l.number (take l.i l.lines)))

@@ -7,6 +7,7 @@ use Rattle.slot_io.specs.Sinks.{AppendsPart}
 use Rattle.trace_lines.specs.declared.line.TraceLine.{TraceLine}
 use Rattle.run_blocks.specs.declared.rows.Row.{Row}
 use Rattle.view_waves.specs.declared.steps.Wave.{Wave}
+use Rattle.trace_lines.specs.Traces.{time_of_first}
 use Rattle.view_waves.specs.Steps.{first_wave}
 use Rattle.view_waves.specs.WaveTexts.{first_text, head_text, steps_text, waves_text}
 use Rattle.slot_io.proofs.SinkParts.{OnErr-anyhow}
@@ -16,7 +17,7 @@ use Rattle.view_waves.proofs.put.put_waves.Goals as goal
 -- the waves that begin with these values
 abbrev text_with : List Row → List TraceLine → Wave → List ℕ
 text_with rows lines wave =
-    head_text rows ++ (first_text (length rows + 1) wave ++ steps_text rows wave lines)
+    head_text rows ++ (first_text (length rows + 1) (time_of_first lines) wave ++ steps_text rows wave lines)
 
 -- which are those before the first slot
 whole : (rows : List Row) (lines : List TraceLine) (wave : Wave) → wave ≡ first_wave rows lines → text_with rows lines wave ≡ waves_text rows lines
@@ -39,7 +40,7 @@ returns-in_err-put_head-clause-part g c =
     let wave : Wave = c.first_wave-wave.result in
     OnErr-anyhow c.from_residual.result
     (part-of before after rows lines wave c.first_wave-wave.ensures
-    (first-broken before after (head_text rows) (first_text (length rows + 1) wave) (steps_text rows wave lines) c.in_err-put_head.ensures.part))
+    (first-broken before after (head_text rows) (first_text (length rows + 1) (time_of_first lines) wave) (steps_text rows wave lines) c.in_err-put_head.ensures.part))
 
 pub returns-in_err-put_first-clause-part : goal.returns-in_err-put_first-clause-part
 returns-in_err-put_first-clause-part g c =
@@ -50,7 +51,7 @@ returns-in_err-put_first-clause-part g c =
     let wave : Wave = c.first_wave-wave.result in
     OnErr-anyhow c.from_residual-in_err-put_first.result
     (part-of before after rows lines wave c.first_wave-wave.ensures
-    (second-broken before (g.K.Sink.written c.put_head.new.out) after (head_text rows) (first_text (length rows + 1) wave) (steps_text rows wave lines) c.in_ok-put_head.ensures.text c.in_err-put_first.ensures.part))
+    (second-broken before (g.K.Sink.written c.put_head.new.out) after (head_text rows) (first_text (length rows + 1) (time_of_first lines) wave) (steps_text rows wave lines) c.in_ok-put_head.ensures.text c.in_err-put_first.ensures.part))
 
 pub returns-clause-text : goal.returns-clause-text
 returns-clause-text g c =
@@ -62,7 +63,7 @@ returns-clause-text g c =
     on_ok_weaker c.put_steps.result
     (λ (text : Appends (g.K.Sink.written c.put_first.new.out) after (steps_text rows wave lines)).
     all-of before after rows lines wave c.first_wave-wave.ensures
-    (three-written before (g.K.Sink.written c.put_head.new.out) (g.K.Sink.written c.put_first.new.out) after (head_text rows) (first_text (length rows + 1) wave) (steps_text rows wave lines) c.in_ok-put_head.ensures.text c.in_ok-put_first.ensures.text text))
+    (three-written before (g.K.Sink.written c.put_head.new.out) (g.K.Sink.written c.put_first.new.out) after (head_text rows) (first_text (length rows + 1) (time_of_first lines) wave) (steps_text rows wave lines) c.in_ok-put_head.ensures.text c.in_ok-put_first.ensures.text text))
     c.put_steps.ensures.text
 
 pub returns-clause-part : goal.returns-clause-part
@@ -75,5 +76,5 @@ returns-clause-part g c =
     on_err_weaker c.put_steps.result
     (λ (part : AppendsPart (g.K.Sink.written c.put_first.new.out) after (steps_text rows wave lines)).
     part-of before after rows lines wave c.first_wave-wave.ensures
-    (last-broken before (g.K.Sink.written c.put_head.new.out) (g.K.Sink.written c.put_first.new.out) after (head_text rows) (first_text (length rows + 1) wave) (steps_text rows wave lines) c.in_ok-put_head.ensures.text c.in_ok-put_first.ensures.text part))
+    (last-broken before (g.K.Sink.written c.put_head.new.out) (g.K.Sink.written c.put_first.new.out) after (head_text rows) (first_text (length rows + 1) (time_of_first lines) wave) (steps_text rows wave lines) c.in_ok-put_head.ensures.text c.in_ok-put_first.ensures.text part))
     c.put_steps.ensures.part
