@@ -8,7 +8,7 @@ from .reading import byte_told, characters_of, encoding_of, is_task_file, look_o
 from .task_file import TaskFile, TaskSet
 from .task_rules import RULES, cycle_length, demand
 from .toml_text import Document
-from .unit_file import UnitFile
+from .unit_file import UnitFile, cycle_in_slots
 
 NOT_TOML = "tasks not toml"
 NO_UNITS = "units not toml"
@@ -74,9 +74,11 @@ def judge_units(name, data):
     if faults := syntax_faults(document, text, file.labels, NO_UNITS):
         return Judged(name, text, [*faults, *file.findings])
     # (a set that does not fit has a task file all the same)
-    rules = [rule for rule in RULES if rule is not demand and (file.is_in_slots or rule is not cycle_length)]
-    for rule in rules:
-        rule(file)
+    for rule in RULES:
+        if rule not in (cycle_length, demand):
+            rule(file)
+    if file.is_in_slots:
+        cycle_in_slots(file)
     return Judged(name, text, file.findings)
 
 

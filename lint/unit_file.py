@@ -4,6 +4,7 @@ The parts are read in the order in which slotunits reads them. Then the times ar
 in its order too; and what is wrong with the set in slots is found as in a task file.
 """
 
+import math
 import re
 
 from .limits import GRAPH_LIMIT, SLOT_LIMIT, SOFT_DEFAULT, SOFT_LIMIT, SPORADIC_LIMIT, TASK_LIMIT
@@ -41,6 +42,31 @@ def time_text(time):
 
 def up(size, time):
     return -(-time // size)
+
+
+def cycle_in_slots(file):
+    """The least common multiple of all periods and separations has a limit. A separation may be planned for
+    as a shorter one."""
+    cycle, slot = 1, file.slot.value
+    numbers = [(graph, "period", graph.period) for graph in file.set.graphs]
+    numbers += [(task, "separation", task.separation) for task in file.set.sporadics]
+    for owner, key, number in numbers:
+        longer = math.lcm(cycle, number.value or 1)
+        if longer <= SLOT_LIMIT:
+            cycle = longer
+            continue
+        message = (
+            f"{key} comes to {number.value} slots of {time_text(slot)} and makes the cycle {longer} slots, and {SLOT_LIMIT} "
+            "is the most: it is the least common multiple of all periods and separations"
+        )
+        if key == "separation":
+            fits = max(it for it in range(1, number.value) if math.lcm(cycle, it) <= SLOT_LIMIT)
+            divides = max(it for it in range(1, number.value) if cycle % it == 0)
+            message += f'; plan for a shorter one: plan = "{time_text(fits * slot)}"'
+            message += f', or "{time_text(divides * slot)}", which divides the cycle of the others' if divides != fits else ""
+        else:
+            message += f", {cycle} before this one"
+        file.tell("cycle too long", owner, number.entry.value, message, f"cycle too long {longer}")
 
 
 class UnitFile(TaskFile):
