@@ -5,7 +5,7 @@ import json
 import os
 import sys
 
-from .judge import judge_arrivals, judge_tasks
+from .judge import judge_arrivals, judge_tasks, judge_units
 from .limits import ARRIVALS_FILE_LIMIT, REPLAY_LIMIT, TASK_FILE_LIMIT, VERSION
 from .places import did_you_mean, shown
 from .reading import CannotRead, bytes_of
@@ -18,7 +18,7 @@ Tells all that is wrong in task files and arrivals files of slotshift, a line ea
   FILE:LINE:COLUMN: graph "speed", task "pi": unknown key "perid"; did you mean "period"?
 A line with "note:" behind the place marks what is valid but probably unintended.
 
-  FILE ..        task files, or behind --tasks arrivals files
+  FILE ..        task files, files of units (NAME.units.toml), or behind --tasks arrivals files
   --tasks T      the task file of the arrivals, which is judged first
   --slots N      the slots of the replay, below which the arrivals have to be
   COMMAND        a command that failed, as ./slotshift replay T A N: its words and files
@@ -95,6 +95,7 @@ class Run:
             # (where words stand in the wrong order, files may be taken for one another)
             if not self.words.faults or self.words.tasks:
                 self.judge(self.words.tasks, self.words.arrivals, self.words.slots)
+                self.judge_units(self.words.units)
         elif options.tasks is None:
             self.judge(options.files, [], None)
         else:
@@ -112,6 +113,13 @@ class Run:
             data = self.read(name, ARRIVALS_FILE_LIMIT)
             if data is not None:
                 self.judged.append(judge_arrivals(name, data, tasks, slots))
+
+    def judge_units(self, names):
+        """Judges files of units."""
+        for name in names:
+            data = self.read(name, TASK_FILE_LIMIT)
+            if data is not None:
+                self.judged.append(judge_units(name, data))
 
     def read(self, name, most):
         """The bytes of a file, or none, of which the reason is kept."""

@@ -6,10 +6,15 @@ from .csv_rows import LINE_END, rows_of
 from .places import Finding, Text
 from .reading import byte_told, characters_of, encoding_of, is_task_file, look_of, strange_bytes
 from .task_file import TaskFile, TaskSet
-from .task_rules import RULES
+from .task_rules import RULES, cycle_length, demand
 from .toml_text import Document
+from .unit_file import UnitFile, cycle_in_slots
 
 NOT_TOML = "tasks not toml"
+NO_UNITS = "units not toml"
+
+# How the name of a file of units ends.
+UNITS_END = ".units.toml"
 
 
 class Judged:
@@ -38,7 +43,9 @@ class Judged:
 
 
 def judge_tasks(name, data):
-    """A task file."""
+    """A task file, or a file of units, which its name tells."""
+    if name.endswith(UNITS_END):
+        return judge_units(name, data)
     text = Text(characters_of(data))
     encoding = encoding_of(data)
     message = f"the file is {encoding}, and a task file is UTF-8: save it as UTF-8" if encoding else None
@@ -59,14 +66,30 @@ def judge_tasks(name, data):
     return Judged(name, text, file.findings, file.set)
 
 
-def syntax_faults(document, text, labels):
+def judge_units(name, data):
+    """A file of units."""
+    text = Text(characters_of(data))
+    document = Document(text)
+    file = UnitFile(document, text)
+    if faults := syntax_faults(document, text, file.labels, NO_UNITS):
+        return Judged(name, text, [*faults, *file.findings])
+    # (a set that does not fit has a task file all the same)
+    for rule in RULES:
+        if rule not in (cycle_length, demand):
+            rule(file)
+    if file.is_in_slots:
+        cycle_in_slots(file)
+    return Judged(name, text, file.findings)
+
+
+def syntax_faults(document, text, labels, line=NOT_TOML):
     """What makes the bytes no UTF-8 or no TOML."""
     found = []
     for place in strange_bytes(text.characters):
-        found.append(Finding("syntax", place, place + 1, "", byte_told(text.characters[place]), NOT_TOML))
+        found.append(Finding("syntax", place, place + 1, "", byte_told(text.characters[place]), line))
     for fault, section in document.faults:
         owner = labels.get(id(section), "")
-        found.append(Finding("syntax", fault.start, fault.end, owner, fault.message, NOT_TOML))
+        found.append(Finding("syntax", fault.start, fault.end, owner, fault.message, line))
     return found
 
 

@@ -86,7 +86,11 @@ class TaskSet:
 
 
 class TaskFile:
-    """The set that a document writes, and the faults of its shape in the program's order."""
+    """The set that a document writes, and the faults of its shape in the program's order. It has these
+    keys, and its faults begin with this word."""
+
+    keys = KEYS
+    what = "tasks"
 
     def __init__(self, document, text):
         self.document = document
@@ -179,10 +183,10 @@ class TaskFile:
         for key, entry in part.table.entries.items():
             value = entry.value
             # (of a key that stands alone, the fault of its line is told)
-            if key in KEYS[part.kind] or (value.kind == "unreadable" and value.start == entry.key.start):
+            if key in self.keys[part.kind] or (value.kind == "unreadable" and value.start == entry.key.start):
                 continue
             line = self.text.line_at(entry.key.start).strip()
-            message = f"unknown key {shown(key)}{unknown_key(part, key, line, self.text)}"
+            message = f"unknown key {shown(key)}{unknown_key(part, key, line, self.text, self.keys)}"
             self.tell("unknown key", part, entry.key, message, f"unknown key in {part.part}")
             part.has_strays = part.has_strays or value.kind in ("table", "array")
 
@@ -270,10 +274,13 @@ class TaskFile:
     def tell_missing(self, part, key):
         """Tells that a key is missing, unless it is misspelt or may stand in a faulty line."""
         is_lost = not part.table.is_whole or (key in LISTS and self.document.has_lost_tables)
-        if is_lost or key in meant_keys(part):
+        if is_lost or key in meant_keys(part, self.keys):
             return
-        message = missing_key(part.kind, key, "sporadic" in self.document.top.entries)
-        self.tell("missing", part, part.table, message, f"missing {part.part} {key}")
+        self.tell("missing", part, part.table, self.why_missing(part, key), f"missing {part.part} {key}")
+
+    def why_missing(self, part, key):
+        """How to write a key that has to be there."""
+        return missing_key(part.kind, key, "sporadic" in self.document.top.entries)
 
     def written(self, value):
         """A value as the file has it, its first line."""
@@ -284,8 +291,8 @@ class TaskFile:
         return f"{number.value} (line {self.text.line(number.entry.key.start)})"
 
     def tell(self, rule, owner, node, message, fault):
-        """Adds a fault of the task file."""
-        self.tell_line(rule, owner, node, message, f"tasks {fault}")
+        """Adds a fault of the file."""
+        self.tell_line(rule, owner, node, message, f"{self.what} {fault}")
 
     def tell_line(self, rule, owner, node, message, line=""):
         """Adds a fault for which the program has this line, or a note."""

@@ -72,8 +72,9 @@ def kind_told(kind):
     return "the top of a file" if kind == "file" else f"a {kind}"
 
 
-def unknown_key(part, key, line, text):
+def unknown_key(part, key, line, text, known=None):
     """What to do with a key that a table does not have. It stands in this line of the text."""
+    known = known or KEYS
     lower = key.lower()
     if part.kind == "file" and lower in ("task", "tasks"):
         return ": a task belongs to a graph, so write [[graph.task]] below its [[graph]]"
@@ -83,27 +84,28 @@ def unknown_key(part, key, line, text):
         return f": {kind_told(part.kind)} has {LISTS.get(word, word)} for it{meaning}"
     if key in HEADER_KEYS and line.startswith("["):
         return f": it belongs to no {part.kind}, so write {LISTS[key]}"
-    if key in KEYS["file"]:
+    if key in known["file"]:
         return (
             ": it belongs at the top of the file, before the first [[graph]]; here it is a key of "
             f"{HEADERS[part.kind]} in line {text.line(part.table.start)}"
         )
-    kinds = [kind for kind, keys in KEYS.items() if key in keys]
+    kinds = [kind for kind, keys in known.items() if key in keys]
     if kinds:
         places = listed((f"{kind_told(kind)}, below {HEADERS[kind]}" for kind in kinds), "or")
         return f": it is a key of {places}"
-    word = nearest(key, KEYS[part.kind])
+    word = nearest(key, known[part.kind])
     if word and line.startswith("["):
         return f"; did you mean {line.replace(key, word, 1)}?"
     if word:
-        return did_you_mean(key, KEYS[part.kind])
-    return f": {kind_told(part.kind)} has only {listed(KEYS[part.kind])}; a remark stands behind #"
+        return did_you_mean(key, known[part.kind])
+    return f": {kind_told(part.kind)} has only {listed(known[part.kind])}; a remark stands behind #"
 
 
-def meant_keys(part):
+def meant_keys(part, known=None):
     """The keys of a table that its unknown ones may be meant to be."""
-    found = [key for key in part.table.entries if key not in KEYS[part.kind]]
-    return [nearest(key, KEYS[part.kind]) for key in found] + [
+    known = known or KEYS
+    found = [key for key in part.table.entries if key not in known[part.kind]]
+    return [nearest(key, known[part.kind]) for key in found] + [
         OTHER_WORDS[part.kind].get(key.lower()) for key in found
     ]
 

@@ -25,6 +25,7 @@ FORMS = {
         "selfrun N", "migrate B", "verify T A X N", "explain T A N R", "switch T U A N C", "margin T",
     ],
     "slotlive": ["T", "T --record FILE", "--table B", "--table B --record FILE"],
+    "slotunits": ["tasks U", "check U", "check U FROM TO", "arrivals U A", "trace U"],
     "slotview": ["picture", "jobs T", "jobs --table B", "events", "spans", "waves"],
 }
 
@@ -38,7 +39,7 @@ def is_program(word):
 
 class Words:
     """The words of a command with what is wrong in them: `faults` has a pair of the word's number,
-    0 for all of them, and a message. `tasks` and `arrivals` are the files to judge, and `slots`
+    0 for all of them, and a message. `tasks`, `units` and `arrivals` are the files to judge, and `slots`
     those of the replay, if it is known."""
 
     def __init__(self, words):
@@ -47,6 +48,7 @@ class Words:
         self.faults = []
         self.tasks = []
         self.arrivals = []
+        self.units = []
         self.slots = None
         if not self.words:
             self.tell(0, f"words are missing behind it: {self.forms()}")
@@ -54,6 +56,8 @@ class Words:
             self.check_live()
         elif self.program == "slotview":
             self.check_view()
+        elif self.program == "slotunits":
+            self.check_units()
         else:
             self.check_command()
 
@@ -134,6 +138,15 @@ class Words:
         if record in words:
             why = "is the file of the plan, and the record would replace it: name another"
             self.tell(len(self.words), f"{shown(record)} {why}")
+
+    def check_units(self):
+        counts = [len(form.split()) for form in FORMS["slotunits"] if form.split()[0] == self.words[0]]
+        if not counts:
+            self.tell_command()
+        elif len(self.words) not in counts:
+            self.tell(0, f"the words are none of its forms: {self.forms()}")
+        else:
+            self.units = [self.words[1]]
 
     def check_view(self):
         view, words = self.words[0], self.words[1:]
