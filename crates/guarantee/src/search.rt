@@ -179,8 +179,9 @@ fn short_or_left_on<T: SpareTable, L: Ledger>(
             return Err(first_short_start(table, ask, place, steps));
         }
         let demand = tried.level.demand;
-        let Some(next) = onward(table, reserve, ask, place, passes, demand, tried.left, steps)
-        else {
+        let Some(next) = onward(
+            table, reserve, ask, place, passes, demand, tried.left, steps,
+        ) else {
             let all = place.due + place.span.work;
             return left_between(reserve, ask, all, from.max(last), last + 1, tried);
         };
