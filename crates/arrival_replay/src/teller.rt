@@ -1,5 +1,7 @@
 //! The takers of this crate that are told which spans stay.
 
+ghost use Rattle.std.specs.Prelude.{◌≡◌};
+
 use crate::silent::Silent;
 use slot_core::{Entry, Failed, Taker, TaskSet};
 use trace_text::Teller;

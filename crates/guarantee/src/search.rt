@@ -158,6 +158,7 @@ fn short_or_left_on<T: SpareTable, L: Ledger>(
     let most = reserve.demand(ask.arrivals, last);
     let mut tried = untried(ask, last, told);
     let mut place = place;
+    let mut passes = false;
     loop {
         let first = from.max(place.span.start);
         if let Some(evidence) = short_between(
@@ -178,10 +179,12 @@ fn short_or_left_on<T: SpareTable, L: Ledger>(
             return Err(first_short_start(table, ask, place, steps));
         }
         let demand = tried.level.demand;
-        let Some(next) = onward(table, reserve, ask, place, demand, tried.left, steps) else {
+        let Some(next) = onward(table, reserve, ask, place, passes, demand, tried.left, steps)
+        else {
             let all = place.due + place.span.work;
             return left_between(reserve, ask, all, from.max(last), last + 1, tried);
         };
+        passes = place.index + 1 < next.index;
         place = next;
     }
 }
@@ -189,14 +192,16 @@ fn short_or_left_on<T: SpareTable, L: Ledger>(
 /// The place from which a search goes on, where `left` slots are left at the times so far: the next
 /// span, or a later one. None exactly after the last.
 ///
-/// Where the span crosses the border of a page, those after it are passed whose times leave `left`
-/// slots too. `demand` is that of the level tried last, 0 before any; only steps depend on it.
+/// Where the span crosses the border of a page, and where the last look has passed some, those after
+/// it are passed whose times leave `left` slots too. `demand` is that of the level tried last, 0
+/// before any. Only steps depend on it and on `passes`.
 #[inline(always)]
 fn onward<T: SpareTable, L: Ledger>(
     table: &T,
     reserve: &Reserve,
     ask: Ask,
     place: SpanPlace,
+    passes: bool,
     demand: u64,
     left: u64,
     steps: &mut Steps<L>,
@@ -226,7 +231,8 @@ fn onward<T: SpareTable, L: Ledger>(
         (steps.new ≡ steps.old)
         (λ later. steps.new ≡ steps.old + 1) }
 {
-    if place.span.start / PAGE == place.span.end / PAGE || has_long_spans(table, ask.now) {
+    let crosses = place.span.start / PAGE != place.span.end / PAGE;
+    if !(crosses || passes) || has_long_spans(table, ask.now) {
         return after(table, place, steps);
     }
     let front = passed_at_once(table, reserve, ask, place, demand, left);

@@ -1,4 +1,4 @@
--- A change of plan that takes soft work over too: what goes on, and what it makes of two executives.
+-- A change of plan that takes soft work over too: what goes on, and what becomes of two executives.
 use Rattle.std.specs.Prelude.{◌≡◌, ◌≢◌, ℕ, ◌+◌, ◌-◌, ◌≤◌, ◌<◌, List, [], ◌∷◌, ◌++◌, Contains, length, map, take, ⊤}
 use Rattle.slot_core.specs.declared.TheConstants.{OFFER_LIMIT}
 use Rattle.slot_core.specs.declared.jobs.SoftJob.{SoftJob}
@@ -64,7 +64,8 @@ RowsAreApart offers jobs =
 -- the change is made: the executive has this plan, and stands for a legal history in which these
 -- offers were accepted and these soft jobs taken, all in rising rows and before the first slot
 pub record IsChangedWithSoft
-    (plan : PlanParts) (offers : List Offer) (jobs : List SoftJob) (after : Executive) : Type 0 where
+    (plan : PlanParts) (offers : List Offer) (jobs : List SoftJob) (after : Executive)
+    : Type 0 where
   pub plan_of : after.plan ≡ plan
   pub served : CanStartWith plan.tasks offers
   pub accepted : AllAccepted plan.tasks plan.cycle started offers

@@ -58,7 +58,7 @@ pub fn is_fresh<T: SpareTable>(exec: &Exec<T>) -> bool
 /// Carries what an executive has left over to a second one, whose first slot comes next. Firm and
 /// sporadic jobs go on in their rows, as firm ones. Such offline jobs as `keep` tells get rows from
 /// `first` on; where it is `Drop` there are none, and `first` says nothing. A deadline beyond the
-/// second plan's cycle is cut to it. Soft work is left behind.
+/// second plan's cycle is cut to it. Soft work is left behind: `carry_with_soft` takes it over too.
 ///
 /// It is granted exactly where the offers of all of them can be served beside the second plan,
 /// whatever legal sporadic arrivals come. Where it is refused the second executive has accepted the
@@ -109,8 +109,8 @@ pub fn carry<T: SpareTable>(
     carry_counted::<T, Brand>(from, into, list, 0, keep, first, Blank::new(1))
 }
 
-/// Carries over what an executive has left, and its first soft jobs, so many, with steps that nobody
-/// asks for.
+/// Carries over what an executive has left with so many of its soft jobs, the first ones, and takes
+/// steps that nobody asks for.
 pub(crate) fn carry_counted<T: SpareTable, L: Ledger>(
     from: &Exec<T>,
     into: &mut Exec<T>,

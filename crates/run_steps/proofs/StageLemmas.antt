@@ -22,6 +22,7 @@ use Rattle.faults.specs.VerifyTexts.{verify_fault_text}
 use Rattle.faults.specs.declared.verify_fault.VerifyFault.{VerifyFault}
 use Rattle.command_line.specs.declared.file.File.{File}
 use Rattle.command_line.specs.declared.file.File.TheVariants.{Tasks as TaskFile, Table as TableFile, Second as SecondFile, Arrivals as ArrivalsFile, Trace as TraceFile}
+use Rattle.command_line.specs.declared.refusal.Refusal.{Refusal}
 use Rattle.command_line.specs.declared.refusal.Refusal.TheVariants.{Unreadable, TooLarge, BadTasks, Infeasible, BadTable, BadArrivals, NotVerified, NoRow, NotCycleEnd}
 use Rattle.command_line.specs.Refusals.{Outcome, name_of, limit_of, is_found}
 use Rattle.command_line.specs.declared.commands.Arrivals.{Arrivals}

@@ -1,19 +1,17 @@
 -- A length with which there is a set in slots is listed.
-use Rattle.std.proofs.Common.{◌≡◌, ◌+◌, ◌-◌, ◌*◌, ◌/◌, ◌%◌, ◌<◌, ◌≤◌, ℕ, List, [], ◌∷◌, Ok, true, refl, sym, ap, subst, ◌∙◌, inl, length, arith}
-use Rattle.std.specs.Prelude.{Contains, flat_map, ◌==◌, ◌&&◌, nat_le, nat_lt}
+use Rattle.std.proofs.Common.{◌≡◌, ◌+◌, ◌-◌, ◌*◌, ◌/◌, ◌%◌, ◌<◌, ◌≤◌, ℕ, List, [], ◌∷◌, Ok, true, refl, subst, inl, length, arith}
+use Rattle.std.specs.Prelude.{Contains, flat_map, ◌==◌, nat_le, nat_lt}
 use Rattle.std.specs.List.{range_with_len}
 use Rattle.std.proofs.Math.Nat.{mul-mod_left, mul-div_cancel_left}
 use Rattle.std.proofs.lemmas.Bool.{and_from}
 use Rattle.slot_core.specs.declared.TheConstants.{SLOT_LIMIT}
 use Rattle.slot_core.specs.declared.tasks.Graph.{Graph}
-use Rattle.slot_core.specs.declared.tasks.TaskSet.{TaskSet}
 use Rattle.slot_facts.proofs.Lists.Members.{Has, Has-flat_map, Has-range_with_len, Contains-from_Has}
 use Rattle.clock_units.specs.declared.sets.PhysicalGraph.{PhysicalGraph}
-use Rattle.clock_units.specs.declared.sets.PhysicalSet.{PhysicalSet}
-use Rattle.clock_units.specs.Derived.{derived_set, each, graph_of}
+use Rattle.clock_units.specs.Derived.{each, graph_of}
 use Rattle.clock_units.proofs.Parts.{GraphParts-from_Ok, SetParts-from_Ok, same, step}
 use Rattle.slot_lengths.specs.Checks.{with_slot}
-use Rattle.slot_lengths.specs.Lengths.{divides_all, first_period, is_length, length_at, lengths_in, slot_lengths}
+use Rattle.slot_lengths.specs.Lengths.{divides_all, first_period, is_length, length_at}
 use Rattle.slot_lengths.specs.Laws.{EachLengthIsListed}
 use Rattle.slot_lengths.proofs.Loops.{lengths-of}
 

@@ -1,5 +1,5 @@
 -- What a length of a slot comes to.
-use Rattle.std.specs.Prelude.{ℕ, ◌*◌, ◌/◌, Option, Some, None, Result, Ok, Err}
+use Rattle.std.specs.Prelude.{ℕ, ◌*◌, ◌/◌, Option, Some, None, Ok, Err}
 use Rattle.slot_core.specs.declared.faults.TaskFault.{TaskFault}
 use Rattle.slot_core.specs.declared.jobs.Window.{Window}
 use Rattle.slot_core.specs.declared.tasks.TaskSet.{TaskSet}
@@ -7,7 +7,6 @@ use Rattle.slot_core.specs.Feasibility.Feasible.{counterexample, demand}
 use Rattle.slot_core.specs.Sets.Cycles.{cycle_of}
 use Rattle.slot_core.specs.Sets.Faults.{set_fault}
 use Rattle.clock_units.specs.declared.sets.PhysicalSet.{PhysicalSet}
-use Rattle.clock_units.specs.declared.faults.UnitFault.{UnitFault}
 use Rattle.clock_units.specs.Derived.{derived_set, Derived}
 use Rattle.slot_lengths.specs.declared.checks.LengthRow.{LengthRow}
 use Rattle.slot_lengths.specs.declared.checks.SlotCheck.{SlotCheck}

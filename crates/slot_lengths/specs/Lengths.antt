@@ -29,7 +29,7 @@ length_at from to graphs parts =
 unfoldable pub lengths_in : ℕ → ℕ → ℕ → List PhysicalGraph → List ℕ
 lengths_in most from to graphs = flat_map (length_at from to graphs) (range_with_len 1 most)
 
--- the lengths of a slot from one to another that divide all periods, the longest first: no period of
--- a task file has more than 8192 slots
+-- the lengths of a slot from one to another that divide all periods, the longest first: no period
+-- of a task file has more than 8192 slots
 abbrev pub slot_lengths : ℕ → ℕ → List PhysicalGraph → List ℕ
 slot_lengths from to graphs = lengths_in SLOT_LIMIT from to graphs

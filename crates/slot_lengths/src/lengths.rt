@@ -7,8 +7,8 @@ use clock_units::PhysicalGraph;
 use slot_core::{List, Memory, SLOT_LIMIT};
 use std::alloc::Global;
 
-/// The lengths of a slot from `from` to `to` nanoseconds that divide all periods, the longest first:
-/// the first period has 1 to `SLOT_LIMIT` of them.
+/// The lengths of a slot from `from` to `to` nanoseconds that divide all periods, the longest
+/// first: the first period has 1 to `SLOT_LIMIT` of them.
 pub(crate) fn slot_lengths(
     alloc: Global,
     graphs: &[PhysicalGraph],

@@ -99,8 +99,8 @@ CannotCarry keep first from before after told =
     × IsNoChange before.plan.tasks offers refusal told
     × IsCutOff before.plan offers refusal after
 
--- of a change at which soft work goes over too: how many soft jobs do, how many guaranteed ones, how
--- many of these have a deadline that is cut, and how many soft jobs are left behind
+-- of a change at which soft work goes over too: how many soft jobs do, how many guaranteed ones,
+-- how many of these have a deadline that is cut, and how many soft jobs are left behind
 abbrev pub moved_with_soft_numbers : Keep → Executive → ℕ → ℕ → Told
 moved_with_soft_numbers keep from cycle limit =
     three_numbers

@@ -1,2 +1,3 @@
+mod Examples
 pub mod Reading
 pub mod Tables

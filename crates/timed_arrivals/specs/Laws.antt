@@ -1,5 +1,5 @@
 -- What a trace in times says.
-use Rattle.std.specs.Prelude.{◌≡◌, ◌*◌, ◌/◌, ◌<◌, ℕ, List, ◌++◌, Ok, Some}
+use Rattle.std.specs.Prelude.{◌≡◌, ◌/◌, ◌<◌, ℕ, List, Ok, Some}
 use Rattle.time_texts.specs.Reading.{time_of_text}
 use Rattle.time_texts.specs.Writing.{time_text}
 use Rattle.timed_arrivals.specs.Traces.{front_of, line_in_times, line_text, FrontParts}

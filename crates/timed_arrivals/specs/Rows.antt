@@ -1,5 +1,5 @@
 -- A row of arrivals with times, and the row of an arrivals file that stands for it.
-use Rattle.std.specs.Prelude.{ℕ, ◌+◌, ◌-◌, List, [], ◌∷◌, ◌++◌, codes, decimal, Result, Ok, Err, ok_or}
+use Rattle.std.specs.Prelude.{ℕ, ◌+◌, ◌-◌, List, ◌++◌, codes, decimal, Result, Ok, ok_or}
 use Rattle.slot_core.specs.Calls.Results.{◌>>=◌}
 use Rattle.key_texts.specs.KeyTexts.{cut_at}
 use Rattle.time_texts.specs.Reading.{time_of_text}

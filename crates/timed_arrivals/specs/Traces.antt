@@ -1,11 +1,10 @@
 -- A line of a trace, and the line with a time that stands for it.
-use Rattle.std.specs.Prelude.{ℕ, ◌*◌, List, ◌++◌, codes, nat_lt, if◌then◌else◌, Result, Ok, Err, ok_or}
+use Rattle.std.specs.Prelude.{ℕ, ◌*◌, List, ◌++◌, codes, nat_lt, if◌then◌else◌, Ok, Err, ok_or}
 use Rattle.slot_core.specs.Calls.Results.{◌>>=◌}
 use Rattle.key_texts.specs.KeyTexts.{cut_at}
 use Rattle.key_texts.specs.Numbers.{number_of}
 use Rattle.time_texts.specs.declared.TheConstants.{NANOS_LIMIT}
 use Rattle.time_texts.specs.Writing.{time_text}
-use Rattle.timed_arrivals.specs.declared.timed_fault.TimedFault.{TimedFault}
 use Rattle.timed_arrivals.specs.declared.timed_fault.TimedFault.TheVariants.{NoLine, TooLate}
 use Rattle.timed_arrivals.specs.Rows.{Timed}
 

@@ -1,6 +1,6 @@
 //! Arrivals with times: rows of an arrivals file whose slots are written as times, turned into an
-//! arrivals file. Each arrival is handed over at the next boundary of slots. And the other way round
-//! a trace, whose lines begin with times then.
+//! arrivals file. Each arrival is handed over at the next boundary of slots. And the other way
+//! round a trace, whose lines begin with times then.
 #![tactic(auto)]
 
 pub mod form;

@@ -9,9 +9,9 @@ use crate::timed_fault::TimedFault;
 use clock_units::PhysicalSet;
 use std::alloc::Global;
 
-/// The arrivals file of the bytes of a file of arrivals with times, for the set; or the trace in times
-/// of a trace. Any fault but want of memory is its first, line by line. Lines end with a line feed, an
-/// empty one is none, and a field has no quotes.
+/// The arrivals file of the bytes of a file of arrivals with times, for the set; or the trace in
+/// times of a trace. Any fault but want of memory is its first, line by line. Lines end with a line
+/// feed, an empty one is none, and a field has no quotes.
 pub fn timed_text(
     alloc: Global,
     form: Form,

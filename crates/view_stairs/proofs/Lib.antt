@@ -1,2 +1,3 @@
 pub mod Curves
+pub mod OfSets
 pub mod StepReads

@@ -33,7 +33,7 @@ four a b c d n p q r s = grind (arith, nat_tests)
 unfour : (a b c d n : ℕ) → (nat_le a n && nat_le b n && nat_le c n && nat_le d n) ≡ true → (a ≤ n) × (b ≤ n) × (c ≤ n) × (d ≤ n)
 unfour a b c d n all = grind (arith, nat_tests)
 
-written-to : (s : Step) → AreWritten s → is_written s ≡ true
+pub written-to : (s : Step) → AreWritten s → is_written s ≡ true
 written-to s w = four s.within s.supply.slots s.supply.from s.supply.until NUMBER_LIMIT w.within w.slots w.from w.until
 
 written-from : (s : Step) → is_written s ≡ true → AreWritten s

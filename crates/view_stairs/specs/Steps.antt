@@ -1,14 +1,19 @@
 -- The lines of a supply as steps of a staircase, and the text of which they are read.
-use Rattle.std.specs.Prelude.{◌≡◌, ◌≢◌, ℕ, ◌+◌, ◌-◌, ◌≤◌, Bool, true, ◌&&◌, List, [], ◌∷◌, ◌++◌, codes, flat_map, length, nat_le, nat_lt, slice_get, if◌then◌else◌, Option, Some, None}
+use Rattle.std.specs.Prelude.{◌≡◌, ◌≢◌, ℕ, ◌+◌, ◌-◌, ◌≤◌, Bool, true, ◌&&◌, List, [], ◌∷◌, ◌++◌, codes, flat_map, length, map, nat_le, nat_lt, slice_get, if◌then◌else◌, Option, Some, None}
 use Rattle.std.specs.Option.{option_map_or}
 use Rattle.std.specs.Str.{bytes_eq}
 use Rattle.slot_core.specs.declared.TheConstants.{NUMBER_LIMIT, SLOT_LIMIT}
+use Rattle.slot_core.specs.declared.tasks.TaskSet.{TaskSet}
+use Rattle.slot_core.specs.Sets.Cycles.{cycle_of}
+use Rattle.slot_core.specs.Sets.Ranges.{is_sound}
+use Rattle.slot_core.specs.Feasibility.Feasible.{IsFeasible}
 use Rattle.slot_core.specs.Output.Texts.{worded}
 use Rattle.key_texts.specs.KeyTexts.{cut_at}
 use Rattle.key_texts.specs.Numbers.{number_of}
 use Rattle.key_texts.specs.Options.{◌>>=◌}
 use Rattle.supply_find.specs.declared.supply.Supply.{Supply}
-use Rattle.supply_lines.specs.Lines.{line_of}
+use Rattle.supply_find.specs.Found.{supply_of}
+use Rattle.supply_lines.specs.Lines.{ends_of, line_of, supply_text}
 use Rattle.view_stairs.specs.declared.lines.Step.{Step}
 
 -- a step as a number of slots and the supply within it
@@ -111,3 +116,17 @@ pub record Breaks (text : List ℕ) (n : ℕ) : Type 0 where
 -- the numbers of a step are at most those of the longest cycle
 abbrev pub IsSmall : Step → Type 0
 IsSmall step = (step.within ≤ SLOT_LIMIT) × (step.supply.slots ≤ SLOT_LIMIT)
+
+-- what is found within a number of slots, as a step
+abbrev pub step_within : TaskSet → ℕ → Step
+step_within set within = record { within = within; supply = supply_of set within }
+
+-- the steps of a set
+abbrev pub steps_of : TaskSet → List Step
+steps_of set = map (step_within set) (ends_of set)
+
+-- the lines of each set that fits are those of a staircase
+abbrev pub LinesAreStairs : Type 0
+LinesAreStairs =
+    (set : TaskSet) → is_sound set ≡ true → IsFeasible set (cycle_of set)
+    → (steps_text (steps_of set) ≡ supply_text set) × AreStairs (steps_of set)

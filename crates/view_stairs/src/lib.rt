@@ -4,6 +4,7 @@
 mod bars;
 mod curve;
 mod fault;
+pub mod laws;
 mod lines;
 mod picture;
 mod scale;

@@ -1,4 +1,4 @@
-use Rattle.std.proofs.Common.{◌≡◌, ◌+◌, arith}
+use Rattle.std.proofs.Common.{◌+◌, arith}
 use Rattle.slot_lengths.specs.Lengths.{length_at}
 use Rattle.slot_lengths.proofs.Loops.{lengths-all, range-more}
 use Rattle.slot_lengths.proofs.lengths.lengths_in.Goals as goal

@@ -1,5 +1,5 @@
 -- The last line is all that is left.
-use Rattle.std.proofs.Common.{◌≡◌, ◌+◌, ◌-◌, [], ◌∷◌, Ok, Err, List, ℕ, sym, ap, ◌∙◌, subst, append-nil, rules, drop}
+use Rattle.std.proofs.Common.{◌≡◌, ◌+◌, [], Ok, Err, List, ℕ, sym, ap, ◌∙◌, subst, append-nil, rules, drop}
 use Rattle.std.proofs.lemmas.List.{drop_all, drop_more}
 use Rattle.timed_arrivals.specs.Texts.{timed_text, due_of, lines_after}
 use Rattle.timed_arrivals.proofs.text.timed_text.Goals as goal
