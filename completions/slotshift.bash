@@ -51,7 +51,7 @@ _slotview() {
     COMPREPLY=()
     case ${COMP_WORDS[1]}:$COMP_CWORD in
     *:1)
-        local views='picture jobs events spans waves'
+        local views='picture jobs events spans waves stairs'
         COMPREPLY=($(compgen -W "$views --help --version" -- "$current"))
         ;;
     jobs:2)

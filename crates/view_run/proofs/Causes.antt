@@ -18,7 +18,7 @@ use Rattle.command_line.specs.Commands.{is_file_of}
 use Rattle.run_steps.specs.Steps.{IsOfReading, IsReading}
 use Rattle.trace_lines.specs.Texts.{lines_text}
 use Rattle.view_run.specs.declared.views.View.{View}
-use Rattle.view_run.specs.declared.views.View.TheVariants.{Lines, Jobs}
+use Rattle.view_run.specs.declared.views.View.TheVariants.{Lines, Jobs, Stairs}
 use Rattle.view_run.specs.declared.views.LineView.TheVariants.{Picture, Events, Spans, Waves}
 use Rattle.run_blocks.specs.declared.faults.RowsFault.{RowsFault}
 use Rattle.run_blocks.specs.declared.faults.RowsFault.TheVariants.{Memory as RowsMemory, TooMany as TooManyOfRows}
@@ -30,7 +30,7 @@ use Rattle.trace_lines.specs.Parts.{IsLong, IsTraceText}
 use Rattle.view_picture.specs.declared.TheConstants.{PICTURE_LIMIT}
 use Rattle.view_picture.specs.declared.faults.PictureFault.{PictureFault}
 use Rattle.view_picture.specs.declared.faults.PictureFault.TheVariants.{Memory as PictureMemory, TooLong, TooManyRows}
-use Rattle.view_run.specs.Inputs.{EndsBefore, Holds, HoldsSuch, IsInputRefusal, IsShown, IsUnread, slots_kept}
+use Rattle.view_run.specs.Inputs.{EndsBefore, Holds, HoldsSuch, IsByteRefusal, IsInputRefusal, IsShown, IsUnread, slots_kept}
 use Rattle.trace_lines.specs.declared.line.TraceLine.{TraceLine}
 use Rattle.trace_lines.specs.declared.trace.TraceFault.{TraceFault}
 use Rattle.trace_lines.specs.declared.trace.TraceFault.TheVariants.{Memory as TraceMemory, NoLine, NoSlot, TooMany}
@@ -39,7 +39,12 @@ use Rattle.view_jobs.specs.declared.faults.JobsFault.{JobsFault}
 use Rattle.view_jobs.specs.declared.faults.JobsFault.TheVariants.{Memory as JobsMemory, Failed as JobsFailed, NoLine as NoJobLine}
 use Rattle.view_jobs.specs.Tables.{first_unknown}
 use Rattle.view_run.specs.declared.views.Source.{Source}
-use Rattle.view_run.specs.Refusals.{no_line, no_slot, of_jobs, of_picture, of_rows, of_text}
+use Rattle.view_run.specs.Refusals.{no_line, no_slot, of_jobs, of_picture, of_rows, of_supply, of_text}
+use Rattle.view_run.specs.Supplies.{AreSupply, IsNoSupply, IsSupplyRefusal}
+use Rattle.view_stairs.specs.declared.fault.StairsFault.{StairsFault}
+use Rattle.view_stairs.specs.declared.fault.StairsFault.TheVariants.{Memory as StairsMemory, NoLine as NoStep}
+use Rattle.view_stairs.specs.declared.lines.Step.{Step}
+use Rattle.view_stairs.specs.Steps.{AreStairs, steps_text, Breaks as StepsBreak}
 use Rattle.view_run.specs.Plans.{IsPlanOf, IsPlanRefusal}
 use Rattle.view_run.specs.Runs.{AreInput, IsRefused}
 use Rattle.view_run.specs.Shown.{IsJobsRefusal, IsLinesRefusal}
@@ -158,19 +163,28 @@ unread-such slots bytes held e holds (inr (inl (same, long))) = inr (inl (same, 
 unread-such None bytes held e holds (inr (inr past)) = absurd past
 unread-such (Some slots) bytes held e holds (inr (inr (same, ends))) = inr (inr (same, such bytes held (EndsBefore slots.from) holds ends))
 
--- a reason that is told of a text is one of an input
-is_told : (slots : Option Slots) (held : Option Held) (before after : ℕ) (e : Refusal) → IsUnread slots (HoldsSuch held) e → IsInputRefusal slots held before after e
-is_told slots held before after e (inl (n, same, breaks)) = subst (IsInputRefusal slots held before after) (sym same) (inl (n, refl, breaks))
-is_told slots held before after e (inr (inl (same, long))) = subst (IsInputRefusal slots held before after) (sym same) (inr (inl (refl, long)))
-is_told None held before after e (inr (inr past)) = absurd past
-is_told (Some slots) held before after e (inr (inr (same, ends))) = subst (IsInputRefusal (Some slots) held before after) (sym same) (inr (inr (refl, ends)))
-
 -- lines that are not read have a cause in what the input holds
 pub lines-refused : {V : Type 0} (slots : Option Slots) (r : Result V Refusal) (bytes : List ℕ) (held : Option Held) (before after : ℕ) → IfSome held (λ files. Holds files bytes) → IfErr r (λ e. (e ≡ Memory) ⊎ IsUnread slots (λ IsSo. IsSo bytes) e) → IfErr r (IsInputRefusal slots held before after)
 lines-refused slots (Ok v) bytes held before after holds cause = tt
-lines-refused slots (Err e) bytes held before after holds (inl memory) = subst (IsInputRefusal slots held before after) (sym memory) tt
+lines-refused slots (Err e) bytes held before after holds (inl memory) = inl (subst (IsByteRefusal held before after) (sym memory) tt)
 lines-refused slots (Err e) bytes held before after holds (inr unread) =
-    is_told slots held before after e (unread-such slots bytes held e holds unread)
+    inr (unread-such slots bytes held e holds unread)
+
+-- a text that is no supply is a cause in what the input holds
+pub supply-refused : {V : Type 0} (r : Result V Refusal) (bytes : List ℕ) (held : Option Held) (before after : ℕ) → IfSome held (λ files. Holds files bytes) → IfErr r (λ e. (e ≡ Memory) ⊎ IsNoSupply (λ IsSo. IsSo bytes) e) → IfErr r (IsSupplyRefusal held before after)
+supply-refused (Ok v) bytes held before after holds cause = tt
+supply-refused (Err e) bytes held before after holds (inl memory) = inl (subst (IsByteRefusal held before after) (sym memory) tt)
+supply-refused (Err e) bytes held before after holds (inr (n, same, breaks)) = inr (n, same, such bytes held (λ text. StepsBreak text n) holds breaks)
+
+-- a supply that is not read breaks at a line, or memory ran out
+pub of_supply-cause : (bytes : List ℕ) (fault : StairsFault) → ((n : ℕ) → fault ≡ NoStep n → StepsBreak bytes n) → (of_supply fault ≡ Memory) ⊎ IsNoSupply (λ IsSo. IsSo bytes) (of_supply fault)
+of_supply-cause bytes StairsMemory breaks = inl refl
+of_supply-cause bytes (NoStep n) breaks = inr (n, refl, breaks n refl)
+
+-- lines whose text the bytes are are those of the supply on the input
+pub supply-read : {E : Type 0} (r : Result (Vec Step) E) (bytes : List ℕ) (held : Option Held) → IfSome held (λ files. Holds files bytes) → IfOk r (λ steps. bytes ≡ steps_text steps.items) → IfOk r (λ steps. AreStairs steps.items) → IfOk r (λ steps. AreSupply held steps.items)
+supply-read (Ok steps) bytes held holds text are = (are, subst (λ t. IfSome held (λ files. Holds files t)) text holds)
+supply-read (Err e) bytes held holds text are = tt
 
 -- a refusal whose status is a failed write is one
 pub write-by_status : (e : Refusal) → refusal_status e ≡ Status.WriteFault → e ≡ WriteFault
@@ -215,7 +229,19 @@ refused-no_usage view names files input blamed of_files of_input of_output Memor
 refused-no_usage view names files input blamed of_files of_input of_output Usage (inl memory) usage = cc memory
 refused-no_usage (Lines view slots) names files input blamed of_files of_input of_output Usage (inr (inl plan)) usage = plan
 refused-no_usage (Jobs source) names files input blamed of_files of_input of_output Usage (inr (inl plan)) usage = plan
-refused-no_usage view names files input blamed of_files of_input of_output Usage (inr (inr (inl read))) usage = read.1
+refused-no_usage Stairs names files input blamed of_files of_input of_output Usage (inr (inl plan)) usage = plan
+refused-no_usage (Lines view slots) names files input blamed of_files of_input of_output Usage (inr (inr (inl (plan, inl bytes)))) usage = bytes
+refused-no_usage (Lines view slots) names files input blamed of_files of_input of_output Usage (inr (inr (inl (plan, inr (inl (n, same, breaks)))))) usage = cc same
+refused-no_usage (Lines view slots) names files input blamed of_files of_input of_output Usage (inr (inr (inl (plan, inr (inr (inl (same, long))))))) usage = cc same
+refused-no_usage (Jobs source) names files input blamed of_files of_input of_output Usage (inr (inr (inl (plan, inl bytes)))) usage = bytes
+refused-no_usage (Jobs source) names files input blamed of_files of_input of_output Usage (inr (inr (inl (plan, inr (inl (n, same, breaks)))))) usage = cc same
+refused-no_usage (Jobs source) names files input blamed of_files of_input of_output Usage (inr (inr (inl (plan, inr (inr (inl (same, long))))))) usage = cc same
+refused-no_usage (Lines view None) names files input blamed of_files of_input of_output Usage (inr (inr (inl (plan, inr (inr (inr past)))))) usage = past
+refused-no_usage (Lines view (Some slots)) names files input blamed of_files of_input of_output Usage (inr (inr (inl (plan, inr (inr (inr (same, ends))))))) usage = cc same
+refused-no_usage (Jobs source) names files input blamed of_files of_input of_output Usage (inr (inr (inl (plan, inr (inr (inr past)))))) usage = past
+refused-no_usage Stairs names files input blamed of_files of_input of_output Usage (inr (inr (inl (plan, inl bytes)))) usage = bytes
+refused-no_usage Stairs names files input blamed of_files of_input of_output Usage (inr (inr (inl (plan, inr (n, same, breaks))))) usage = cc same
+refused-no_usage Stairs names files input blamed of_files of_input of_output Usage (inr (inr (inr (steps, are, (same, rose))))) usage = cc same
 refused-no_usage (Lines Picture slots) names files input blamed of_files of_input of_output Usage (inr (inr (inr (lines, are, cause)))) usage = cause
 refused-no_usage (Lines Events slots) names files input blamed of_files of_input of_output Usage (inr (inr (inr (lines, are, cause)))) usage = cause
 refused-no_usage (Lines Spans slots) names files input blamed of_files of_input of_output Usage (inr (inr (inr (lines, are, cause)))) usage = cause

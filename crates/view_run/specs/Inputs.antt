@@ -4,7 +4,7 @@ use Rattle.slot_core.specs.Calls.Counts.{Rose}
 use Rattle.slot_io.specs.Files.{Held, first_bytes}
 use Rattle.command_line.specs.declared.file.File.TheVariants.{Trace}
 use Rattle.command_line.specs.declared.refusal.Refusal.{Refusal}
-use Rattle.command_line.specs.declared.refusal.Refusal.TheVariants.{Unreadable, TooLarge, NotVerified, Memory}
+use Rattle.command_line.specs.declared.refusal.Refusal.TheVariants.{Unreadable, TooLarge, Memory}
 use Rattle.trace_lines.specs.declared.line.TraceLine.{TraceLine}
 use Rattle.trace_lines.specs.declared.part.Slots.{Slots}
 use Rattle.trace_lines.specs.declared.part.TheConstants.{ALL_SLOTS}
@@ -47,16 +47,19 @@ IsUnread slots OfText e =
     ((n : ℕ) × (e ≡ no_line n) × OfText (λ text. Breaks text n))
     ⊎ (((e ≡ too_many_lines) × OfText (IsLong (slots_kept slots))) ⊎ IsPast slots OfText e)
 
--- why standard input is refused: a fault is counted, there are too many bytes, or the text is not
--- shown
-abbrev pub IsInputRefusal : Option Slots → Option Held → ℕ → ℕ → Refusal → Type 0
-IsInputRefusal slots held before after (Unreadable Trace) = Rose before after
-IsInputRefusal slots held before after (TooLarge Trace) =
+-- why the bytes of standard input are refused: a fault is counted, there are too many, or memory
+-- ran out
+abbrev pub IsByteRefusal : Option Held → ℕ → ℕ → Refusal → Type 0
+IsByteRefusal held before after (Unreadable Trace) = Rose before after
+IsByteRefusal held before after (TooLarge Trace) =
     IfSome held (λ files. (text : List ℕ) × BeginsWith files text × (INPUT_LIMIT < length text))
-IsInputRefusal slots held before after (NotVerified reason) =
-    IsUnread slots (HoldsSuch held) (NotVerified reason)
-IsInputRefusal slots held before after Memory = ⊤
-IsInputRefusal slots held before after refusal = ⊥
+IsByteRefusal held before after Memory = ⊤
+IsByteRefusal held before after refusal = ⊥
+
+-- why standard input is refused: its bytes are, or the text is not shown
+abbrev pub IsInputRefusal : Option Slots → Option Held → ℕ → ℕ → Refusal → Type 0
+IsInputRefusal slots held before after e =
+    IsByteRefusal held before after e ⊎ IsUnread slots (HoldsSuch held) e
 
 -- what is shown of the lines of a trace: all, or the part that tells of the slots
 abbrev pub shown_lines : Option Slots → List TraceLine → List TraceLine

@@ -5,4 +5,5 @@ pub mod Plans
 pub mod Refusals
 pub mod Runs
 pub mod Shown
+pub mod Supplies
 pub mod Views

@@ -1,4 +1,4 @@
--- Why a trace is not shown.
+-- Why a trace or a supply is not shown.
 use Rattle.std.specs.Prelude.{ℕ, List, ◌++◌, codes}
 use Rattle.slot_core.specs.Output.Texts.{worded}
 use Rattle.csv_table.specs.declared.faults.CsvFault.{CsvFault}
@@ -16,16 +16,22 @@ use Rattle.view_jobs.specs.declared.faults.JobsFault.TheVariants.{Memory as Jobs
 use Rattle.view_picture.specs.declared.TheConstants.{PICTURE_LIMIT}
 use Rattle.view_picture.specs.declared.faults.PictureFault.{PictureFault}
 use Rattle.view_picture.specs.declared.faults.PictureFault.TheVariants.{Memory as PictureMemory, TooLong, TooManyRows}
+use Rattle.view_stairs.specs.declared.fault.StairsFault.{StairsFault}
+use Rattle.view_stairs.specs.declared.fault.StairsFault.TheVariants.{Memory as StairsMemory, NoLine as NoStep}
 
 -- the usage
 abbrev pub view_usage : List ℕ
 view_usage =
     codes "usage: slotview picture [FROM UNTIL] | jobs T | jobs --table B | events [FROM UNTIL]"
-    ++ codes " | spans [FROM UNTIL] | waves [FROM UNTIL]"
+    ++ codes " | spans [FROM UNTIL] | waves [FROM UNTIL] | stairs"
 
 -- trace no line N
 abbrev pub no_line : ℕ → Refusal
 no_line n = NotVerified (worded (codes "trace no line") n)
+
+-- supply no line N
+abbrev pub no_supply_line : ℕ → Refusal
+no_supply_line n = NotVerified (worded (codes "supply no line") n)
 
 -- trace too many lines N
 abbrev pub too_many_lines : Refusal
@@ -71,3 +77,8 @@ abbrev pub of_jobs : JobsFault → Refusal
 of_jobs JobsMemory = Memory
 of_jobs JobsFailed = WriteFault
 of_jobs (NoJobLine n) = no_line n
+
+-- of a text that is no supply
+abbrev pub of_supply : StairsFault → Refusal
+of_supply StairsMemory = Memory
+of_supply (NoStep n) = no_supply_line n

@@ -7,7 +7,6 @@ use Rattle.run_blocks.specs.Rows.{AreCrowded, AreRowsOf, have_few_firms, may_all
 use Rattle.command_line.specs.declared.refusal.Refusal.{Refusal}
 use Rattle.command_line.specs.declared.refusal.Refusal.TheVariants.{NotVerified, WriteFault, Memory}
 use Rattle.slot_core.specs.Keeping.Plans.{PlanParts}
-use Rattle.slot_io.specs.Files.{Held}
 use Rattle.slot_io.specs.Sinks.{AppendsPart}
 use Rattle.svg_text.specs.Content.{IsDocument}
 use Rattle.view_jobs.specs.Tables.{first_unknown, jobs_text}
@@ -18,12 +17,8 @@ use Rattle.view_picture.specs.Blocks.{AreRows, ShowsRuns}
 use Rattle.view_tables.specs.declared.put.Table.TheVariants.{Events as EventTable, Spans as SpanTable}
 use Rattle.view_tables.specs.Tables.{part_text}
 use Rattle.view_waves.specs.WaveTexts.{waves_text}
-use Rattle.view_run.specs.declared.views.View.{View}
-use Rattle.view_run.specs.declared.views.View.TheVariants.{Lines, Jobs}
 use Rattle.view_run.specs.declared.views.LineView.{LineView}
 use Rattle.view_run.specs.declared.views.LineView.TheVariants.{Picture, Events, Spans, Waves}
-use Rattle.view_run.specs.Inputs.{shown_lines, shown_number}
-use Rattle.view_run.specs.Plans.{IsPlanOf}
 use Rattle.view_run.specs.Refusals.{no_line, too_long, too_many_rows}
 
 -- a picture of lines: a well-formed document that shows what they run, over rows of the jobs that
@@ -47,13 +42,6 @@ IsLinesText Waves number lines text =
 abbrev pub IsJobsText : PlanParts → List TraceLine → List ℕ → Type 0
 IsJobsText plan lines text =
     (first_unknown plan.tasks lines ≡ None) × (text ≡ jobs_text plan lines)
-
--- of either: a table of jobs is over the plan of its file
-abbrev pub IsViewText : View → List (List ℕ) → Option Held → List TraceLine → List ℕ → Type 0
-IsViewText (Lines view slots) names files lines text =
-    IsLinesText view (shown_number slots lines) (shown_lines slots lines) text
-IsViewText (Jobs source) names files lines text =
-    (plan : PlanParts) × IsPlanOf source names files plan × IsJobsText plan lines text
 
 -- known bytes grow by a text of this kind
 abbrev pub Shows : (List ℕ → Type 0) → Option (List ℕ) → Option (List ℕ) → Type 0
@@ -83,11 +71,3 @@ IsJobsRefusal plan lines before after Memory = ⊤
 IsJobsRefusal plan lines before after (NotVerified reason) =
     (n : ℕ) × (first_unknown plan.tasks lines ≡ Some n) × (NotVerified reason ≡ no_line (n + 1))
 IsJobsRefusal plan lines before after refusal = ⊥
-
--- why a view is not shown
-abbrev pub IsShowRefusal :
-    View → List (List ℕ) → Option Held → List TraceLine → ℕ → ℕ → Refusal → Type 0
-IsShowRefusal (Lines view slots) names files lines before after e =
-    IsLinesRefusal view (shown_lines slots lines) before after e
-IsShowRefusal (Jobs source) names files lines before after e =
-    (plan : PlanParts) × IsPlanOf source names files plan × IsJobsRefusal plan lines before after e

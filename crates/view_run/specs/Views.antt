@@ -10,7 +10,7 @@ use Rattle.command_line.specs.declared.commands.Source.TheVariants.{Tasks as Tas
 use Rattle.view_run.specs.declared.views.Source.{Source}
 use Rattle.view_run.specs.declared.views.Source.TheVariants.{Tasks, Table}
 use Rattle.view_run.specs.declared.views.View.{View}
-use Rattle.view_run.specs.declared.views.View.TheVariants.{Lines, Jobs}
+use Rattle.view_run.specs.declared.views.View.TheVariants.{Lines, Jobs, Stairs}
 use Rattle.view_run.specs.declared.views.LineView.{LineView}
 use Rattle.view_run.specs.declared.views.LineView.TheVariants.{Picture, Events, Spans, Waves}
 
@@ -37,6 +37,10 @@ view_of_all word = do
   view ← view_of_lines word
   Some (Lines view None)
 
+-- the view that one word asks for: the staircase of a supply, or that of all lines
+abbrev pub view_of_one : List ℕ → Option View
+view_of_one word = if bytes_eq word (codes "stairs") then Some Stairs else view_of_all word
+
 -- the slots from one on and before another, of which there is at least one
 abbrev pub slots_named : List ℕ → List ℕ → Option Slots
 slots_named from until = do
@@ -57,10 +61,10 @@ view_of_three word second third =
     if bytes_eq word (codes "jobs") then jobs_of_table second else view_of_part word second third
 
 -- the view that the words ask for, or none: picture, events, spans, waves, each with or without two
--- numbers, jobs T, jobs --table B
+-- numbers, jobs T, jobs --table B, stairs
 abbrev pub view_of : List (List ℕ) → Option View
 view_of words =
-    if length words == 1 then view_of_all (word_at words 0)
+    if length words == 1 then view_of_one (word_at words 0)
     else if length words == 2 then jobs_of_tasks (word_at words 0)
     else if length words == 3 then
     view_of_three (word_at words 0) (word_at words 1) (word_at words 2)

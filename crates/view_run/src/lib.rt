@@ -1,5 +1,5 @@
 //! The views of slotview, over any files and sinks: a trace on standard input as a picture, as
-//! tables or as waves.
+//! tables or as waves, or a supply as a staircase.
 #![tactic(auto)]
 
 ghost use Rattle.std.specs.Prelude.{◌≡◌, ◌≢◌, ◌↔◌, ◌++◌, ◌∷◌, [], None, Some, codes};
@@ -21,6 +21,7 @@ pub mod input;
 mod names;
 mod pages;
 mod refusals;
+mod supply;
 pub mod views;
 mod work;
 
@@ -38,18 +39,18 @@ use work::work;
 /// The name by which standard input is told.
 pub const INPUT_NAME: &str = "standard input";
 
-/// Most bytes of a trace on standard input.
+/// Most bytes of a trace, or of a supply, on standard input.
 pub const INPUT_LIMIT: usize = slot_core::READ_LIMIT;
 
 /// The usage line.
 pub const USAGE: &[u8] =
     b"usage: slotview picture [FROM UNTIL] | jobs T | jobs --table B | events [FROM UNTIL] \
-      | spans [FROM UNTIL] | waves [FROM UNTIL]\n";
+      | spans [FROM UNTIL] | waves [FROM UNTIL] | stairs\n";
 
 /// Does what the words ask for: tells the help or the version; or reads the plan that a table of
-/// jobs wants from `files`, then the trace from `input`, and writes the view of it to `out`. It puts
-/// one line on `err` where it ends otherwise than Done. All memory is taken before the first put on
-/// `out`.
+/// jobs wants from `files`, then the trace or supply from `input`, and writes the view of it to
+/// `out`. It puts one line on `err` where it ends otherwise than Done. All memory is taken before
+/// the first put on `out`.
 pub fn run<F: Files, I: Files, K: Sink, E: Sink>(
     alloc: Global,
     words: &Words,
@@ -74,7 +75,8 @@ pub fn run<F: Files, I: Files, K: Sink, E: Sink>(
         → (files.new ≡ files.old) × (input.new ≡ input.old) }
 
     // For other words, where it is done, standard input is a trace, and the view of its lines is
-    // written: of jobs, their table over the plan that its file calls for.
+    // written: of jobs, their table over the plan that its file calls for. Of a staircase it is the
+    // text of a supply, and the picture of its lines is written.
     ensures done { page_of words.now ≡ None → result ≡ Status.Done
         → (view : View) × (view_of words.now ≡ Some view)
         × Shows (IsTextDue view (names_of words.now view) (F.held files.old) (I.held input.old))

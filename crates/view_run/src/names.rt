@@ -10,7 +10,7 @@ use slot_core::{Memory, Words};
 use std::alloc::Global;
 
 /// Words that name the files of a view in the places that `File` gives them: the task file or table
-/// in the second place, and standard input, which holds the trace, in the fourth.
+/// in the second place, and standard input, which holds the trace or supply, in the fourth.
 pub(crate) type Names = Words;
 
 /// The names of the files of the view.
@@ -32,7 +32,7 @@ fn plan_name(words: &Words, view: View) -> &str
     match view {
         View::Jobs(Source::Tasks) => word_or_nothing(words, 1),
         View::Jobs(Source::Table) => word_or_nothing(words, 2),
-        View::Lines(_, _) => "",
+        View::Lines(_, _) | View::Stairs => "",
     }
 }
 

@@ -24,11 +24,13 @@ fn help() -> &'static [u8]
 {
     b"usage: slotview picture [FROM UNTIL] | jobs T | jobs --table B
        slotview events [FROM UNTIL] | spans [FROM UNTIL] | waves [FROM UNTIL]
+       slotview stairs
        slotview --help
        slotview --version
 
 Reads a trace from standard input, as slotshift and slotlive print it, and
-writes one view of it. Times and lengths are whole slots.
+writes one view of it. Times and lengths are whole slots. stairs reads a supply
+in its place, as slotplan supply prints it.
 
 views:
   picture          a picture (SVG) of what arrived, what ran and the capacities,
@@ -38,6 +40,7 @@ views:
   events           a table (CSV) of what arrived, with the answers
   spans            a table (CSV) of the spans that the lines show
   waves            waves (VCD) of what ran, and of the first capacity
+  stairs           a picture (SVG) of the staircase of a supply
 
   FROM UNTIL   the slots from FROM on and before UNTIL, of a longer trace
   T            a task file (TOML), at most 1048576 bytes
@@ -45,7 +48,7 @@ views:
 
 The trace has at most 67108864 bytes, and a line of it at most 1024. At most
 262144 lines tell of the slots that are shown, and what runs has at most 1045
-rows.
+rows. A supply has at most 67108864 bytes, and tells of at most 8192 slots.
 
 statuses:
   0   done
@@ -58,6 +61,7 @@ statuses:
   8   memory ran out
   9   B is no table of a plan
   10  standard input is no trace, or has not the slot FROM; or it is too long for
-      a view; or it names a task that the plan of jobs does not have
+      a view; or it names a task that the plan of jobs does not have; or it is no
+      supply
 "
 }

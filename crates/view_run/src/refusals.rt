@@ -1,10 +1,10 @@
-//! Why a trace is not shown.
+//! Why a trace or a supply is not shown.
 
 ghost use Rattle.std.specs.Prelude.{◌≡◌, ◌≤◌, length};
 ghost use Rattle.slot_core.specs.Output.Texts.{worded};
 ghost use Rattle.command_line.specs.declared.refusal.Refusal.TheVariants.{NotVerified};
 ghost use Rattle.view_run.specs.declared.refusals.TheConstants.{WORDS_LIMIT};
-ghost use Rattle.view_run.specs.Refusals.{of_jobs, of_picture, of_rows, of_table, of_text, too_many_rows};
+ghost use Rattle.view_run.specs.Refusals.{of_jobs, of_picture, of_rows, of_supply, of_table, of_text, too_many_rows};
 
 use command_line::{Reason, Refusal};
 use csv_table::CsvFault;
@@ -13,12 +13,13 @@ use trace_lines::{LINE_LIMIT, TraceFault};
 use trace_text::Line;
 use view_jobs::JobsFault;
 use view_picture::{PICTURE_LIMIT, PictureFault};
+use view_stairs::StairsFault;
 
 /// Most bytes of the words of a fault, of which a number is told.
 const WORDS_LIMIT: usize = 100;
 
-/// The refusal of a trace, by these words and a number.
-fn of_trace(words: &[u8], number: u64) -> Refusal
+/// The refusal of standard input, by these words and a number.
+fn numbered(words: &[u8], number: u64) -> Refusal
     requires { length words.now ≤ WORDS_LIMIT }
     ensures { result ≡ NotVerified (worded words.now number) }
 {
@@ -35,9 +36,9 @@ pub(crate) fn of_text(fault: TraceFault) -> Refusal
 {
     match fault {
         TraceFault::Memory => Refusal::Memory,
-        TraceFault::NoLine(number) => of_trace(b"trace no line", number),
-        TraceFault::TooMany => of_trace(b"trace too many lines", LINE_LIMIT as u64),
-        TraceFault::NoSlot(slot) => of_trace(b"trace no slot", slot),
+        TraceFault::NoLine(number) => numbered(b"trace no line", number),
+        TraceFault::TooMany => numbered(b"trace too many lines", LINE_LIMIT as u64),
+        TraceFault::NoSlot(slot) => numbered(b"trace no slot", slot),
     }
 }
 
@@ -47,7 +48,7 @@ pub(crate) fn of_picture(fault: PictureFault) -> Refusal
 {
     match fault {
         PictureFault::Memory => Refusal::Memory,
-        PictureFault::TooLong => of_trace(b"trace too long", u64::from(PICTURE_LIMIT)),
+        PictureFault::TooLong => numbered(b"trace too long", u64::from(PICTURE_LIMIT)),
         PictureFault::TooManyRows => too_many_rows(),
     }
 }
@@ -66,7 +67,7 @@ pub(crate) fn of_rows(fault: RowsFault) -> Refusal
 fn too_many_rows() -> Refusal
     ensures { result ≡ too_many_rows }
 {
-    of_trace(b"trace too many rows", ROW_LIMIT as u64)
+    numbered(b"trace too many rows", ROW_LIMIT as u64)
 }
 
 /// The refusal of a table that is not written.
@@ -86,6 +87,16 @@ pub(crate) fn of_jobs(fault: JobsFault) -> Refusal
     match fault {
         JobsFault::Memory => Refusal::Memory,
         JobsFault::Failed => Refusal::WriteFault,
-        JobsFault::NoLine(number) => of_trace(b"trace no line", number),
+        JobsFault::NoLine(number) => numbered(b"trace no line", number),
+    }
+}
+
+/// The refusal of a text that is no supply.
+pub(crate) fn of_supply(fault: StairsFault) -> Refusal
+    ensures { result ≡ of_supply fault }
+{
+    match fault {
+        StairsFault::Memory => Refusal::Memory,
+        StairsFault::NoLine(number) => numbered(b"supply no line", number),
     }
 }

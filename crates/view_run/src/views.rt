@@ -1,19 +1,21 @@
 //! The command line: which words ask for which view.
 
 ghost use Rattle.std.specs.Prelude.{◌≡◌};
-ghost use Rattle.view_run.specs.Views.{jobs_of_table, jobs_of_tasks, slots_named, view_of, view_of_all, view_of_lines, view_of_part, view_of_three};
+ghost use Rattle.view_run.specs.Views.{jobs_of_table, jobs_of_tasks, slots_named, view_of, view_of_all, view_of_lines, view_of_one, view_of_part, view_of_three};
 
 use key_texts::number_of;
 use slot_core::Words;
 use trace_lines::Slots;
 
-/// What is shown of a trace.
+/// What is shown of a trace, or of a supply.
 #[derive(Clone, Copy, PartialEq, Eq)]
 pub enum View {
     /// What its lines alone tell: those of all of it, or of these slots.
     Lines(LineView, Option<Slots>),
     /// A table of its jobs, beside the plan that they are of.
     Jobs(Source),
+    /// The staircase of a supply: a picture of its lines.
+    Stairs,
 }
 
 /// What is shown of the lines of a trace alone.
@@ -43,10 +45,20 @@ pub fn view_of(words: &Words) -> Option<View>
     ensures { result ≡ view_of words.now }
 {
     match words.len() {
-        1 => view_of_all(words.word(0)),
+        1 => view_of_one(words.word(0)),
         2 => jobs_of_tasks(words.word(0)),
         3 => view_of_three(words.word(0), words.word(1), words.word(2)),
         _ => None,
+    }
+}
+
+/// The view that one word asks for.
+fn view_of_one(word: &str) -> Option<View>
+    ensures { result ≡ view_of_one word.now }
+{
+    match word {
+        "stairs" => Some(View::Stairs),
+        _ => view_of_all(word),
     }
 }
 

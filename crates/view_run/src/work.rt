@@ -10,7 +10,7 @@ ghost use Rattle.view_tables.specs.Tables.{part_text};
 ghost use Rattle.view_waves.specs.WaveTexts.{waves_text};
 ghost use Rattle.trace_lines.specs.declared.line.TraceLine.{TraceLine};
 ghost use Rattle.trace_lines.specs.Parts.{IsTraceText};
-ghost use Rattle.view_run.specs.Inputs.{BeginsWith, Holds, IsInputRefusal, IsShown, IsUnread, shown_lines, shown_number};
+ghost use Rattle.view_run.specs.Inputs.{BeginsWith, Holds, IsByteRefusal, IsInputRefusal, IsShown, IsUnread, shown_lines, shown_number};
 ghost use Rattle.view_run.specs.Plans.{IsPlanOf, IsPlanRefusal};
 ghost use Rattle.view_run.specs.declared.TheConstants.{INPUT_LIMIT};
 ghost use Rattle.view_run.specs.Runs.{AreInput, IsRefused, IsTextDue};
@@ -19,6 +19,7 @@ ghost use Rattle.view_run.specs.Views.{plan_source};
 
 use crate::names::Names;
 use crate::refusals::{of_jobs, of_picture, of_rows, of_table, of_text};
+use crate::supply::work_of_stairs;
 use crate::views::{LineView, Source, View};
 use crate::{INPUT_LIMIT, INPUT_NAME};
 use command_line::{File, Refusal, Source as PlanSource};
@@ -35,7 +36,7 @@ use view_picture::picture;
 use view_tables::{Table, put_part};
 use view_waves::put_waves;
 
-/// Reads the plan of the view, if it has one, then the trace, and writes the view.
+/// Reads the plan of the view, if it has one, then standard input, and writes the view.
 pub(crate) fn work<F: Files, I: Files, K: Sink>(
     alloc: Global,
     names: &Names,
@@ -61,6 +62,7 @@ pub(crate) fn work<F: Files, I: Files, K: Sink>(
     match view {
         View::Lines(view, slots) => work_of_lines(alloc, view, slots, input, out),
         View::Jobs(source) => work_of_jobs(alloc, names, source, files, input, out),
+        View::Stairs => work_of_stairs(alloc, input, out),
     }
 }
 
@@ -154,7 +156,7 @@ fn read_lines<I: Files>(alloc: Global, slots: Option<Slots>, input: &mut I) -> R
         (IsInputRefusal slots (I.held input.old) (I.faults input.old) (I.faults input.new)) }
     ensures reads_well { OnOk result (I.faults input.new ≡ I.faults input.old) }
 {
-    let bytes = read_input(alloc, slots, input)?;
+    let bytes = read_input(alloc, input)?;
     lines_of(alloc, slots, &bytes)
 }
 
@@ -201,16 +203,12 @@ fn lines_of_part(alloc: Global, slots: Slots, bytes: &[u8]) -> Result<Part, Refu
 }
 
 /// The bytes of standard input, where they are within the limit.
-fn read_input<I: Files>(
-    alloc: Global,
-    slots: Option<Slots>,
-    input: &mut I,
-) -> Result<Vec<u8>, Refusal>
+pub(crate) fn read_input<I: Files>(alloc: Global, input: &mut I) -> Result<Vec<u8>, Refusal>
     ensures bytes { IfOk result (λ bytes. IfSome (I.held input.old)
         (λ held. Holds held bytes.items)) }
     ensures short { IfOk result (λ bytes. length bytes.items ≤ INPUT_LIMIT) }
     ensures refused { IfErr result
-        (IsInputRefusal slots (I.held input.old) (I.faults input.old) (I.faults input.new)) }
+        (IsByteRefusal (I.held input.old) (I.faults input.old) (I.faults input.new)) }
     ensures reads_well { OnOk result (I.faults input.new ≡ I.faults input.old) }
 {
     match input.read(alloc, INPUT_NAME, INPUT_LIMIT) {
@@ -226,7 +224,7 @@ fn read_input<I: Files>(
     }
 }
 
-/// Whether a trace may have so many bytes.
+/// Whether standard input may have so many bytes.
 fn is_within_limit(count: usize) -> bool
     ensures { result ≡ nat_le count INPUT_LIMIT }
 {
