@@ -22,8 +22,9 @@ use Rattle.view_stairs.specs.declared.fault.StairsFault.TheVariants.{Memory as S
 -- the usage
 abbrev pub view_usage : List ℕ
 view_usage =
-    codes "usage: slotview picture [FROM UNTIL] | jobs T | jobs --table B | events [FROM UNTIL]"
-    ++ codes " | spans [FROM UNTIL] | waves [FROM UNTIL] | stairs"
+    codes "usage: slotview picture [FROM UNTIL] | jobs T | jobs --table B"
+    ++ codes ", slotview events [FROM UNTIL] | spans [FROM UNTIL] | waves [FROM UNTIL]"
+    ++ codes " | stairs"
 
 -- trace no line N
 abbrev pub no_line : ℕ → Refusal

@@ -44,8 +44,8 @@ pub const INPUT_LIMIT: usize = slot_core::READ_LIMIT;
 
 /// The usage line.
 pub const USAGE: &[u8] =
-    b"usage: slotview picture [FROM UNTIL] | jobs T | jobs --table B | events [FROM UNTIL] \
-      | spans [FROM UNTIL] | waves [FROM UNTIL] | stairs\n";
+    b"usage: slotview picture [FROM UNTIL] | jobs T | jobs --table B, slotview events \
+      [FROM UNTIL] | spans [FROM UNTIL] | waves [FROM UNTIL] | stairs\n";
 
 /// Does what the words ask for: tells the help or the version; or reads the plan that a table of
 /// jobs wants from `files`, then the trace or supply from `input`, and writes the view of it to
