@@ -43,9 +43,9 @@ fn refuses_a_long_trace(rt: HostRuntime) -> Result<(), Fail> {
     Ok(())
 }
 
-/// Why there is no picture of a trace that ends at this time, if there is none.
+/// Why there is no picture of lines from time 0 to this time, if there is none.
 fn fault_of(alloc: Global, slots: u32) -> Option<PictureFault> {
-    picture(alloc, &[ended(slots)]).err()
+    picture(alloc, &[ended(0), ended(slots)]).err()
 }
 
 /// The last line of a trace that ends at this time.
