@@ -79,11 +79,7 @@ fn draw_stairs<K: Sink>(alloc: Global, steps: &[Step], out: &mut K) -> Result<()
 }
 
 /// Writes the document, a picture of the lines.
-fn put_stairs<K: Sink>(
-    steps: &[Step],
-    document: &Document,
-    out: &mut K,
-) -> Result<(), Refusal>
+fn put_stairs<K: Sink>(steps: &[Step], document: &Document, out: &mut K) -> Result<(), Refusal>
     requires { IsStaircase steps.now document.now }
     ensures shown { OnOk result
         (Shows (IsStaircase steps.now) (K.written out.old) (K.written out.new)) }
