@@ -55,9 +55,9 @@ pub record AreLengths (from to : ℕ) (bytes text : List ℕ) : Type 0 where
   pub units : reading_of_units bytes ≡ Ok physical
   pub lengths : IsLengthsText from to physical text
 
--- the text is the arrivals file of the rows with times that the file of this name holds, or the trace
--- with times of the trace, for the set in physical time that the bytes write, which has a set in
--- slots
+-- the text is the arrivals file of the rows with times that the file of this name holds, or the
+-- trace with times of the trace, for the set in physical time that the bytes write, which has a set
+-- in slots
 pub record AreTimed
     (form : Form) (held : Option Held) (name bytes text : List ℕ) : Type 0 where
   pub physical : PhysicalSet
@@ -153,9 +153,9 @@ IsRowRefusal form physical rows (BadRows told fault) =
 IsRowRefusal form physical rows Memory = ⊤
 IsRowRefusal form physical rows _ = ⊥
 
--- why they have no rows with the other file, over its name, its blame and the counts of faults: they
--- write no set in physical time, that has no set in slots, the other file is not read, or a row or a
--- line of it has a fault
+-- why they have no rows with the other file, over its name, its blame and the counts of faults:
+-- they write no set in physical time, that has no set in slots, the other file is not read, or a row
+-- or a line of it has a fault
 abbrev pub IsTimedRefusal :
     Form → Option Held → List ℕ → List ℕ → Option (List ℕ) → ℕ × ℕ → UnitsRefusal → Type 0
 IsTimedRefusal form held other bytes blamed of_files (BadUnits fault) =

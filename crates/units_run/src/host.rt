@@ -57,7 +57,8 @@ where
     O: Write + Drop,
     E: Write + Drop,
     R: Files + AllocGlobal + Drop,
-    ensures { (result ≡ Status.Usage) ↔ ((page_of words.now ≡ None) × (question_of words.now ≡ None)) }
+    ensures { (result ≡ Status.Usage)
+        ↔ ((page_of words.now ≡ None) × (question_of words.now ≡ None)) }
 {
     let alloc = rt.alloc();
     let mut out = HostSink::new(out);

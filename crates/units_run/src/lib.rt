@@ -1,5 +1,6 @@
-//! What slotunits does, over any files and sinks: a file of units to a task file in slots, or to the
-//! lengths of a slot that suit it, arrivals with times to an arrivals file, and a trace to times.
+//! What slotunits does, over any files and sinks: a file of units to a task file in slots, or to
+//! the lengths of a slot that suit it, arrivals with times to an arrivals file, and a trace to
+//! times.
 #![tactic(auto)]
 
 ghost use Rattle.std.specs.Prelude.{◌≡◌, ◌≢◌, ◌↔◌, ◌⊎◌, None, Some, codes};
@@ -7,7 +8,7 @@ ghost use Rattle.command_line.specs.Pages.{IsPageTold, page_of, page_text};
 ghost use Rattle.command_line.specs.Refusals.{word_at};
 ghost use Rattle.command_line.specs.Reports.{IsTold};
 ghost use Rattle.command_line.specs.declared.pages.Page.{Page};
-ghost use Rattle.units_run.specs.Lines.{refusal_line, units_help, units_usage};
+ghost use Rattle.units_run.specs.Lines.{refusal_line, units_help};
 ghost use Rattle.units_run.specs.Questions.{other_of, question_of};
 ghost use Rattle.units_run.specs.Runs.{IsRefused, IsWritten, refusal_status};
 ghost use Rattle.units_run.specs.declared.questions.Question.{Question};
@@ -66,7 +67,8 @@ pub fn run<F: Files, K: Sink, E: Sink>(
         → (question : Question) × (question_of words.now ≡ Some question)
         × ((e : UnitsRefusal) × (result ≡ refusal_status e)
         × IsRefused question (F.held files.old) (word_at words.now 1) (other_of words.now)
-        (F.blamed files.new) (F.faults files.old, F.faults files.new) (K.faults out.old, K.faults out.new) e
+        (F.blamed files.new) (F.faults files.old, F.faults files.new)
+        (K.faults out.old, K.faults out.new) e
         × IsTold (refusal_line (word_at words.now 1) (other_of words.now) e)
         (E.written err.old) (E.written err.new) (E.faults err.old) (E.faults err.new)) }
     ensures refusal_writes_nothing { result ≢ Status.Done → result ≢ Status.WriteFault
@@ -96,7 +98,8 @@ fn run_file_of<F: Files, K: Sink, E: Sink>(
         → (question : Question) × (question_of words.now ≡ Some question)
         × ((e : UnitsRefusal) × (result ≡ refusal_status e)
         × IsRefused question (F.held files.old) (word_at words.now 1) (other_of words.now)
-        (F.blamed files.new) (F.faults files.old, F.faults files.new) (K.faults out.old, K.faults out.new) e
+        (F.blamed files.new) (F.faults files.old, F.faults files.new)
+        (K.faults out.old, K.faults out.new) e
         × IsTold (refusal_line (word_at words.now 1) (other_of words.now) e)
         (E.written err.old) (E.written err.new) (E.faults err.old) (E.faults err.new)) }
     ensures refusal_writes_nothing { result ≢ Status.Done → result ≢ Status.WriteFault

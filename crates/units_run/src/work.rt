@@ -113,8 +113,8 @@ fn answer_to<F: Files>(
     }
 }
 
-/// The arrivals file of the file of arrivals with times of this name, or the trace with times of the
-/// trace.
+/// The arrivals file of the file of arrivals with times of this name, or the trace with times of
+/// the trace.
 fn timed_from<F: Files>(
     alloc: Global,
     form: Form,

@@ -1,5 +1,4 @@
 -- The rows that are refused are those of the other file.
-use Rattle.std.proofs.Common.{◌≡◌}
 use Rattle.std.proofs.lemmas.Result.{IfErr-weaker}
 use Rattle.units_run.specs.Runs.{AreRows, IsRowRefusal, IsTimedRefusal}
 use Rattle.units_run.proofs.Timed.{rows-refused}
