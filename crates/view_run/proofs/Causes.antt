@@ -1,5 +1,5 @@
 -- Each refusal has its cause.
-use Rattle.std.proofs.Common.{◌≡◌, ◌≢◌, ◌+◌, ◌⊎◌, ◌<◌, ℕ, Bool, true, List, Option, Some, None, Result, Ok, Err, refl, sym, ap, subst, ◌∙◌, inl, inr}
+use Rattle.std.proofs.Common.{◌≡◌, ◌≢◌, ◌+◌, ◌⊎◌, ◌<◌, ℕ, Bool, true, List, Option, Some, None, Result, Ok, Err, Vec, refl, sym, ap, subst, ◌∙◌, inl, inr}
 use Rattle.std.specs.Prelude.{IfSome, IfErr}
 use Rattle.slot_core.specs.Calls.Counts.{Rose}
 use Rattle.slot_core.specs.Keeping.Plans.{IsPlan, PlanParts}
@@ -241,7 +241,7 @@ refused-no_usage (Lines view (Some slots)) names files input blamed of_files of_
 refused-no_usage (Jobs source) names files input blamed of_files of_input of_output Usage (inr (inr (inl (plan, inr (inr (inr past)))))) usage = past
 refused-no_usage Stairs names files input blamed of_files of_input of_output Usage (inr (inr (inl (plan, inl bytes)))) usage = bytes
 refused-no_usage Stairs names files input blamed of_files of_input of_output Usage (inr (inr (inl (plan, inr (n, same, breaks))))) usage = cc same
-refused-no_usage Stairs names files input blamed of_files of_input of_output Usage (inr (inr (inr (steps, are, (same, rose))))) usage = cc same
+refused-no_usage Stairs names files input blamed of_files of_input of_output Usage (inr (inr (inr (steps, are, same, rose)))) usage = cc same
 refused-no_usage (Lines Picture slots) names files input blamed of_files of_input of_output Usage (inr (inr (inr (lines, are, cause)))) usage = cause
 refused-no_usage (Lines Events slots) names files input blamed of_files of_input of_output Usage (inr (inr (inr (lines, are, cause)))) usage = cause
 refused-no_usage (Lines Spans slots) names files input blamed of_files of_input of_output Usage (inr (inr (inr (lines, are, cause)))) usage = cause
