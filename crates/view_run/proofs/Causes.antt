@@ -1,5 +1,5 @@
 -- Each refusal has its cause.
-use Rattle.std.proofs.Common.{◌≡◌, ◌≢◌, ◌+◌, ◌⊎◌, ◌<◌, ℕ, Bool, true, List, Option, Some, None, Result, Ok, Err, Vec, refl, sym, ap, subst, ◌∙◌, inl, inr}
+use Rattle.std.proofs.Common.{◌≡◌, ◌≢◌, ◌+◌, ◌⊎◌, ◌<◌, ℕ, Bool, true, List, Option, Some, None, Result, Ok, Err, Vec, Global, refl, sym, ap, subst, ◌∙◌, inl, inr}
 use Rattle.std.specs.Prelude.{IfSome, IfErr}
 use Rattle.slot_core.specs.Calls.Counts.{Rose}
 use Rattle.slot_core.specs.Keeping.Plans.{IsPlan, PlanParts}
@@ -182,7 +182,7 @@ of_supply-cause bytes StairsMemory breaks = inl refl
 of_supply-cause bytes (NoStep n) breaks = inr (n, refl, breaks n refl)
 
 -- lines whose text the bytes are are those of the supply on the input
-pub supply-read : {E : Type 0} (r : Result (Vec Step) E) (bytes : List ℕ) (held : Option Held) → IfSome held (λ files. Holds files bytes) → IfOk r (λ steps. bytes ≡ steps_text steps.items) → IfOk r (λ steps. AreStairs steps.items) → IfOk r (λ steps. AreSupply held steps.items)
+pub supply-read : {E : Type 0} (r : Result (Vec Step Global) E) (bytes : List ℕ) (held : Option Held) → IfSome held (λ files. Holds files bytes) → IfOk r (λ steps. bytes ≡ steps_text steps.items) → IfOk r (λ steps. AreStairs steps.items) → IfOk r (λ steps. AreSupply held steps.items)
 supply-read (Ok steps) bytes held holds text are = (are, subst (λ t. IfSome held (λ files. Holds files t)) text holds)
 supply-read (Err e) bytes held holds text are = tt
 
