@@ -111,7 +111,7 @@ fn header<F: Files>(alloc: Global, words: &Words, files: &mut F) -> Result<Vec<u
 
 /// The lines of the supply of the plan of the task file.
 fn supply<F: Files>(alloc: Global, words: &Words, files: &mut F) -> Result<Vec<u8>, Refusal>
-    ensures { IsReading F.held F.faults F.blamed files.old files.new words.now
+    ensures { IsReading F.held F.faults F.blamed F.given files.old files.new words.now
         (same_file File.Tasks) (λ held. answer_from held words.now Question.Supply) result
         (λ text. text.items) }
 {
@@ -127,7 +127,7 @@ fn supply_within<F: Files>(
     within: u32,
     files: &mut F,
 ) -> Result<Vec<u8>, Refusal>
-    ensures { IsReading F.held F.faults F.blamed files.old files.new words.now
+    ensures { IsReading F.held F.faults F.blamed F.given files.old files.new words.now
         (same_file File.Tasks) (λ held. answer_from held words.now (Question.SupplyWithin within))
         result (λ text. text.items) }
 {
