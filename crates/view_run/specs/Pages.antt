@@ -42,6 +42,6 @@ view_help =
     ++ codes "  7   standard output takes no more\n"
     ++ codes "  8   memory ran out\n"
     ++ codes "  9   B is no table of a plan\n"
-    ++ codes "  10  standard input is no trace, or has not the slot FROM; or it is too long for\n"
-    ++ codes "      a view; or it names a task that the plan of jobs does not have; or it is no\n"
+    ++ codes "  10  standard input is no trace, has not the slot FROM, or is too long for a\n"
+    ++ codes "      view; or it names a task that the plan of jobs does not have; or it is no\n"
     ++ codes "      supply\n"

@@ -60,8 +60,8 @@ statuses:
   7   standard output takes no more
   8   memory ran out
   9   B is no table of a plan
-  10  standard input is no trace, or has not the slot FROM; or it is too long for
-      a view; or it names a task that the plan of jobs does not have; or it is no
+  10  standard input is no trace, has not the slot FROM, or is too long for a
+      view; or it names a task that the plan of jobs does not have; or it is no
       supply
 "
 }
