@@ -16,7 +16,6 @@ use Rattle.command_line.specs.Refusals.{is_found, refusal_status}
 use Rattle.command_line.specs.declared.status.Status.{Status}
 use Rattle.command_line.specs.Commands.{is_file_of}
 use Rattle.run_steps.specs.Steps.{IsOfReading, IsReading}
-use Rattle.trace_lines.specs.Texts.{lines_text}
 use Rattle.view_run.specs.declared.views.View.{View}
 use Rattle.view_run.specs.declared.views.View.TheVariants.{Lines, Jobs, Stairs}
 use Rattle.view_run.specs.declared.views.LineView.TheVariants.{Picture, Events, Spans, Waves}

@@ -1,5 +1,5 @@
 -- A part of a text has its lines, or a cause.
-use Rattle.std.proofs.Common.{◌≡◌, ◌⊎◌, Err, Some, refl, sym, ap, subst, ◌∙◌}
+use Rattle.std.proofs.Common.{◌≡◌, ◌⊎◌, Err, Some, sym, ap, subst, ◌∙◌}
 use Rattle.command_line.specs.declared.refusal.Refusal.TheVariants.{Memory}
 use Rattle.view_run.specs.Inputs.{IsUnread}
 use Rattle.view_run.proofs.Causes.{of_part-cause}

@@ -1,5 +1,5 @@
 -- The lines are those of the input, or have a cause.
-use Rattle.std.proofs.Common.{◌≤◌, ap, length, sym, subst, arith}
+use Rattle.std.proofs.Common.{sym, subst}
 use Rattle.std.specs.Prelude.{IfSome}
 use Rattle.view_run.specs.Inputs.{Holds}
 use Rattle.view_run.proofs.Causes.{input-shown, lines-refused}

@@ -1,5 +1,5 @@
 -- The table is that of the lines of the input, over the plan of the file.
-use Rattle.std.proofs.Common.{◌≡◌, sym, subst, ◌∙◌}
+use Rattle.std.proofs.Common.{◌≡◌, subst, ◌∙◌}
 use Rattle.std.proofs.lemmas.Result.{on_ok_weaker}
 use Rattle.view_run.specs.Shown.{IsJobsText}
 use Rattle.view_run.proofs.work.work_of_jobs.Goals as goal
