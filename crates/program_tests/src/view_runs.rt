@@ -94,7 +94,7 @@ b1111111111111111111111111111111111111111111111111111111111111111 c
 ";
 
 const USAGE: &str = "usage: slotview picture [FROM UNTIL] | jobs T | jobs --table B, \
-     slotview events [FROM UNTIL] | spans [FROM UNTIL] | waves [FROM UNTIL]\n";
+     slotview events [FROM UNTIL] | spans [FROM UNTIL] | waves [FROM UNTIL] | stairs\n";
 
 /// The words, the trace, the status, and what is written, or else told on standard error.
 const RUNS: [(&str, &str, Status, &str); 18] = [
