@@ -79,7 +79,8 @@ enum {
     SS_CLOSED = 6,     /* the handle has no executive */
     SS_STILL_OPEN = 7, /* the handle has one already (ss_open alone) */
     SS_REFUSED = 8,    /* what is carried over has no room there (ss_carry, ss_change) */
-    SS_NOT_FRESH = 9   /* the second executive has seen a slot or an arrival (ss_carry alone) */
+    SS_NOT_FRESH = 9   /* a slot has passed in the second executive, or it has seen an arrival
+                        * in a row above 0 (ss_carry alone) */
 };
 
 /* The kind of a key. */
