@@ -211,9 +211,12 @@ WORD_FILES = {
     "full.toml": TASKS.replace("wcet = 2", "wcet = 9").replace("wcet = 1\nsep", "wcet = 4\nsep"),
     "ok.csv": "0,soft,2\n3,soft,1\n",
     "late.csv": "0,soft,2\n50,soft,1\n",
+    "loop.toml": TASKS.replace("wcet = 1", 'wcet = 1\nafter = ["control"]', 1),
+    "base.units.toml": 'slot = "1ms"\n' + (GRAPH + READ).replace("= 10", '= "10ms"').replace("= 1\n", '= "1ms"\n'),
+    "times.csv": "0ms,soft,2ms\n1,soft,1ms\n2ms,soft,1.0000us\n2ms,Soft,1ms\n3ms,firm,1ms\n",
 }
 
-# Of each: the words, a file where there is a dot in one; and what a line on them has.
+# Of each: the words, a file where there is a dot in one that begins with no digit; and what a line on them has.
 WORD_MISTAKES = [
     ("slotshift --help", ["--help", "no command", "check T", "replay T A N"]),
     ("slotshift -h", ["-h", "no command", "check T", "replay T A N"]),
@@ -269,4 +272,60 @@ WORD_MISTAKES = [
     ("slotview table", ["word 1", "table", "jobs T"]),
     ("slotview picture base.toml", ["word 2", "standard input"]),
     ("slotview", ["missing", "picture", "jobs T"]),
+    ("slotview picture 20 10", ["word 2", "FROM = 20", "UNTIL = 10", "below"]),
+    ("slotview waves 010 20", ["word 2", "FROM", "010", "leading zero"]),
+    ("slotview spans 0 4294967296", ["word 3", "UNTIL = 4294967296", "0 to 4294967295"]),
+    ("slotview events 5", ["word 2", "FROM and UNTIL", "standard input"]),
+    ("slotview events 1 2 3", ["FROM and UNTIL", "standard input"]),
+    ("slotview stairs 5", ["word 2", "no word", "supply"]),
+    ("slotview stiars", ["word 1", "stiars", '"stairs"']),
+    ("slotplan", ["missing", "load T", "supply T D"]),
+    ("slotplan laod base.toml", ["word 1", "laod", '"load"']),
+    ("slotplan load loop.toml", ["loop.toml", "a loop", '"control"']),
+    ("slotplan who bad.toml", ["bad.toml:5", "perid", "period"]),
+    ("slotplan header", ["header takes T", "a task file", "no words"]),
+    ("slotplan load base.toml 5", ["load takes T", "are 2"]),
+    ("slotplan supply", ["none of its forms", "supply T or supply T D"]),
+    ("slotplan supply base.toml 0", ["word 3", "D = 0", "1 to 65535"]),
+    ("slotplan supply base.toml 65536", ["word 3", "D = 65536", "1 to 65535"]),
+    ("slotplan supply 5 base.toml", ["word 2", "a number", "supply T D"]),
+    ("slotplan supply base.toml 5", ["base.toml", "no fault"]),
+    ("slotunits", ["missing", "arrivals U A"]),
+    ("slotunits arrivals base.units.toml", ["none of its forms", "arrivals U A"]),
+    ("slotunits check base.units.toml 1ms", ["none of its forms", "check U FROM TO"]),
+    ("slotunits check base.units.toml 1.0000us 2us", ["word 3", "FROM", "1.0000us", "3 digits"]),
+    ("slotunits check base.units.toml 1us 1.0ns", ["word 4", "TO", "1.0ns", "no point"]),
+    ("slotunits check base.units.toml 1us 2", ["word 4", "TO", "no unit"]),
+    ("slotunits check base.units.toml 1us 12345678901ns", ["word 4", "10 digits"]),
+    ("slotunits arrivals base.units.toml times.csv", ["times.csv:2:1", "no unit"]),
+    ("slotunits arrivals base.units.toml times.csv", ["times.csv:3:10", "1.0000us", "3 digits"]),
+    ("slotunits arrivals base.units.toml times.csv", ["times.csv:4:5", "Soft", '"soft"']),
+    ("slotunits arrivals base.units.toml times.csv", ["times.csv:5:1", "TIME is missing"]),
+    ("slotunits arrivals base.units.toml base.units.toml", ["base.units.toml:1", "task file", "swapped"]),
+    ("slotunits trace base.units.toml", ["base.units.toml", "no fault"]),
+]
+
+# Words of the other programs, which say whether they are a form: of each front what may stand behind it.
+PARTS = [
+    "", " 10 20", " 20 10", " 10 10", " 010 20", " 0 4294967295", " 0 4294967296", " 0 99999999999", " +1 2", " 1",
+    " 1 2 3", " x 2", " 1 x",
+]
+TIMES = [
+    "", " 1us", " 1us 1ms", " 1ms 1us", " 0ns 9999999999s", " 1 2", " 1us 2", " 1.0000us 2us", " 1.us 2us",
+    " 1.0ns 2ns", " 12345678901ns 1s", " 0.000000001s 1s",
+    " 0.0000000001s 1s", " 1.000000ms 1s", " 1.0000000ms 1s", " 01us 2us",
+    " 1us 2us 3us", " 1us 1s\n", " 1US 2us",
+]
+PLAN_WORDS = ["", " base.toml", " base.toml base.toml", " base.toml 5"]
+NUMBERS = [" 0", " 1", " 65535", " 65536", " 01", " -1", " x", " 1000000", " 1 1"]
+UNIT_WORDS = ["", " base.units.toml", " base.units.toml ok.csv", " base.units.toml 1us", " base.units.toml 1us ok.csv"]
+PROGRAM_WORDS = [
+    ("slotview", ["", " table", " jobs"]),
+    *((f"slotview {view}", PARTS) for view in ("picture", "events", "spans", "waves", "stairs")),
+    ("slotplan", ["", " table base.toml", " Load base.toml"]),
+    *((f"slotplan {question}", PLAN_WORDS) for question in ("load", "who", "header", "supply")),
+    ("slotplan supply base.toml", NUMBERS),
+    ("slotunits", ["", " table base.units.toml", " Tasks base.units.toml"]),
+    *((f"slotunits {question}", UNIT_WORDS) for question in ("tasks", "check", "arrivals", "trace")),
+    ("slotunits check base.units.toml", TIMES),
 ]

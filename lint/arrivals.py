@@ -36,6 +36,11 @@ OPEN_QUOTE = "the quote that opens here is not closed, so the rest of the file b
 class ArrivalsFile:
     """The rows of a file, the set whose arrivals they are, and the slots of the replay, if told."""
 
+    forms = FORMS
+    # What a row begins with, and a row as an example.
+    front = "slot"
+    example = "0,soft,2"
+
     def __init__(self, text, rows, tasks, slots):
         self.text = text
         self.tasks = tasks
@@ -114,7 +119,7 @@ class ArrivalsFile:
     def why_one_field(self, row):
         """What is wrong with a row that has no comma."""
         text = row.fields[0].text
-        form = "a row is SLOT,KIND,.., as 0,soft,2"
+        form = f"a row is {self.front.upper()},KIND,.., as {self.example}"
         if text and not text.strip():
             return "this line has spaces, so it is a row without fields: take them out; an empty line is none"
         if text.lstrip().startswith(("#", "//", ";", "%")):
@@ -130,11 +135,11 @@ class ArrivalsFile:
 
     def why_count(self, row, kind):
         """What is wrong with the number of fields."""
-        form = ",".join(FORMS[kind])
-        have = f"{len(row.fields)} fields, and {kind} has {len(FORMS[kind])}: {form}"
-        if len(row.fields) < len(FORMS[kind]):
-            return f"{have}; {FORMS[kind][len(row.fields)]} is missing"
-        more = row.fields[len(FORMS[kind])]
+        fields = self.forms[kind]
+        have = f"{len(row.fields)} fields, and {kind} has {len(fields)}: {','.join(fields)}"
+        if len(row.fields) < len(fields):
+            return f"{have}; {fields[len(row.fields)]} is missing"
+        more = row.fields[len(fields)]
         if not more.text and more is row.fields[-1]:
             return f"{have}; take out the comma at the end"
         return f"{have}; {shown(more.text)} is too much"
@@ -149,13 +154,14 @@ class ArrivalsFile:
         if field.is_open:
             message = OPEN_QUOTE
         elif word in FORMS:
-            message = f"{shown(field.text)} has a space in it: write none beside the commas, as 0,{word},.."
+            row_begins = f"{self.example.split(',')[0]},{word},.."
+            message = f"{shown(field.text)} has a space in it: write none beside the commas, as {row_begins}"
         elif word.lower() in OTHER_KINDS:
             message = f"{shown(word)} is no kind of arrival: {OTHER_KINDS[word.lower()]}"
         elif nearest(word, kinds):
             message = f"{shown(word)} is no kind of arrival{did_you_mean(word, kinds)}"
         else:
-            message = f"{shown(word)} is no kind of arrival: behind the slot stands {listed(kinds, 'or')}"
+            message = f"{shown(word)} is no kind of arrival: behind the {self.front} stands {listed(kinds, 'or')}"
         self.tell("kind", row, field, message, f"unknown kind {row.number}")
 
     # Fields

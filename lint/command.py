@@ -5,7 +5,7 @@ import json
 import os
 import sys
 
-from .judge import judge_arrivals, judge_tasks, judge_units
+from .judge import judge_arrivals, judge_tasks, judge_timed, judge_units
 from .limits import ARRIVALS_FILE_LIMIT, REPLAY_LIMIT, TASK_FILE_LIMIT, VERSION
 from .places import did_you_mean, shown
 from .reading import CannotRead, bytes_of
@@ -93,9 +93,9 @@ class Run:
         self.words = Words(options.files) if is_program(options.files[0]) else None
         if self.words:
             # (where words stand in the wrong order, files may be taken for one another)
-            if not self.words.faults or self.words.tasks:
+            if not self.words.faults or self.words.tasks or self.words.units:
                 self.judge(self.words.tasks, self.words.arrivals, self.words.slots)
-                self.judge_units(self.words.units)
+                self.judge_units(self.words.units, self.words.timed)
         elif options.tasks is None:
             self.judge(options.files, [], None)
         else:
@@ -114,12 +114,16 @@ class Run:
             if data is not None:
                 self.judged.append(judge_arrivals(name, data, tasks, slots))
 
-    def judge_units(self, names):
-        """Judges files of units."""
+    def judge_units(self, names, timed):
+        """Judges files of units, and files of arrivals with times."""
         for name in names:
             data = self.read(name, TASK_FILE_LIMIT)
             if data is not None:
                 self.judged.append(judge_units(name, data))
+        for name in timed:
+            data = self.read(name, ARRIVALS_FILE_LIMIT)
+            if data is not None:
+                self.judged.append(judge_timed(name, data))
 
     def read(self, name, most):
         """The bytes of a file, or none, of which the reason is kept."""

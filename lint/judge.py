@@ -7,6 +7,7 @@ from .places import Finding, Text
 from .reading import byte_told, characters_of, encoding_of, is_task_file, look_of, strange_bytes
 from .task_file import TaskFile, TaskSet
 from .task_rules import RULES, cycle_length, demand
+from .timed_rows import TimedFile
 from .toml_text import Document
 from .unit_file import UnitFile, cycle_in_slots
 
@@ -99,10 +100,7 @@ def judge_arrivals(name, data, tasks, slots):
     text = Text(characters_of(data), LINE_END)
     known = (tasks and tasks.content) or TaskSet([], [], False)
     file = ArrivalsFile(text, rows_of(text.characters), known, slots)
-    if file.findings and (message := other_kind(data, text.characters)):
-        # (the fault of its first row is the one that the program tells)
-        first = file.findings[0]
-        other = Finding("other kind", first.start, first.end, "", message, first.fault)
+    if other := other_kind(data, file):
         return Judged(name, text, [other], file)
     if tasks and not tasks.faults:
         for note in arrival_notes.NOTES:
@@ -110,12 +108,27 @@ def judge_arrivals(name, data, tasks, slots):
     return Judged(name, text, file.findings, file)
 
 
-def other_kind(data, characters):
-    """What the bytes are where they are no arrivals file at all, or none."""
+def judge_timed(name, data):
+    """An arrivals file with times."""
+    # (a mark at its front belongs to its first field)
+    text = Text(data.decode("utf-8", "surrogateescape"))
+    file = TimedFile(text)
+    other = other_kind(data, file)
+    return Judged(name, text, [other] if other else file.findings, file)
+
+
+def other_kind(data, file):
+    """What the bytes of a file with a fault are where they are no arrivals file at all, or none."""
     encoding = encoding_of(data)
+    if not file.findings:
+        return None
     if encoding:
-        return f"the file is {encoding}, and an arrivals file is ASCII: save it as CSV in UTF-8"
-    if is_task_file(characters):
-        row = "an arrivals file has rows as 0,soft,2"
-        return f"this looks like a task file, and {row}: are the two files swapped?"
-    return None
+        message = f"the file is {encoding}, and an arrivals file is ASCII: save it as CSV in UTF-8"
+    elif is_task_file(file.text.characters):
+        row = f"an arrivals file has rows as {file.example}"
+        message = f"this looks like a task file, and {row}: are the two files swapped?"
+    else:
+        return None
+    # (the fault of its first row is the one that the program tells)
+    first = file.findings[0]
+    return Finding("other kind", first.start, first.end, "", message, first.fault)

@@ -3,8 +3,10 @@
 import os
 import re
 
-from .limits import ARRIVAL_LIMIT, CHART_LIMIT, LOAD_LIMIT, REPLAY_LIMIT
+from .limits import ARRIVAL_LIMIT, CHART_LIMIT, LOAD_LIMIT, NUMBER_LIMIT, OFFER_LIMIT, REPLAY_LIMIT
 from .places import did_you_mean, listed, shown
+from .timed_rows import why_no_time
+from .unit_file import time_of
 
 # What the letters of a usage line are.
 LETTERS = {
@@ -16,6 +18,7 @@ LETTERS = {
     "N": "a number of slots",
     "R": "the number of a row",
     "C": "the slot of the change",
+    "D": "the slots of a deadline",
 }
 
 # Of each program, the forms of its words.
@@ -25,12 +28,21 @@ FORMS = {
         "selfrun N", "migrate B", "verify T A X N", "explain T A N R", "switch T U A N C", "margin T",
     ],
     "slotlive": ["T", "T --record FILE", "--table B", "--table B --record FILE"],
+    "slotplan": ["load T", "who T", "header T", "supply T", "supply T D"],
     "slotunits": ["tasks U", "check U", "check U FROM TO", "arrivals U A", "trace U"],
-    "slotview": ["picture", "jobs T", "jobs --table B", "events", "spans", "waves"],
+    "slotview": [
+        "picture [FROM UNTIL]", "jobs T", "jobs --table B", "events [FROM UNTIL]", "spans [FROM UNTIL]",
+        "waves [FROM UNTIL]", "stairs",
+    ],
 }
 
 # The greatest number that a command takes, where it is another one than that of a replay.
-MOST = {("gantt", "N"): CHART_LIMIT, ("selfrun", "N"): LOAD_LIMIT, ("explain", "R"): ARRIVAL_LIMIT}
+MOST = {
+    ("gantt", "N"): CHART_LIMIT,
+    ("selfrun", "N"): LOAD_LIMIT,
+    ("explain", "R"): ARRIVAL_LIMIT,
+    ("supply", "D"): OFFER_LIMIT,
+}
 
 
 def is_program(word):
@@ -39,8 +51,8 @@ def is_program(word):
 
 class Words:
     """The words of a command with what is wrong in them: `faults` has a pair of the word's number,
-    0 for all of them, and a message. `tasks`, `units` and `arrivals` are the files to judge, and `slots`
-    those of the replay, if it is known."""
+    0 for all of them, and a message. `tasks`, `arrivals`, `units` and `timed`, arrivals with times, are the
+    files to judge, and `slots` those of the replay, if it is known."""
 
     def __init__(self, words):
         self.program = os.path.basename(words[0])
@@ -49,6 +61,7 @@ class Words:
         self.tasks = []
         self.arrivals = []
         self.units = []
+        self.timed = []
         self.slots = None
         if not self.words:
             self.tell(0, f"words are missing behind it: {self.forms()}")
@@ -73,15 +86,16 @@ class Words:
         hint = did_you_mean(self.words[0], known) or f": write {self.forms()}"
         self.tell(1, f"{shown(self.words[0])} is no command{hint}")
 
-    # slotshift
+    # slotshift and slotplan
 
     def check_command(self):
         """Checks the words by the form of the first one."""
-        form = next((it.split() for it in FORMS["slotshift"] if it.split()[0] == self.words[0]), None)
-        if form is None:
+        forms = self.forms_of_command()
+        form = next((it for it in forms if len(it) == len(self.words)), None)
+        if not forms:
             self.tell_command()
-        elif len(form) != len(self.words):
-            self.tell(0, self.why_count(form))
+        elif form is None:
+            self.tell(0, self.why_count(forms[-1]) if len(forms) == 1 else self.why_none(forms))
         else:
             numbers = {}
             for at, (letter, word) in enumerate(zip(form[1:], self.words[1:]), 2):
@@ -90,6 +104,15 @@ class Words:
             if numbers.get("C", 0) >= numbers.get("N", REPLAY_LIMIT + 1):
                 end = f"N = {numbers['N']}, the end"
                 self.tell(6, f"C = {numbers['C']}, the slot of the change, is not below {end}")
+
+    def forms_of_command(self):
+        """The forms that begin with the first word."""
+        forms = [form.split() for form in FORMS[self.program]]
+        return [form for form in forms if form[0] == self.words[0]]
+
+    def why_none(self, forms):
+        """What is wrong with words whose number is that of none of these forms."""
+        return f"the words are none of its forms: {listed(map(' '.join, forms), 'or')}"
 
     def why_count(self, form):
         """What is wrong with how many words there are."""
@@ -106,7 +129,7 @@ class Words:
     def check_word(self, form, letter, at, word, numbers):
         """Checks one word, and keeps what it says."""
         should_be = f"it should be {meaning(form[0], letter)}, as in {' '.join(form)}"
-        if letter in ("N", "R", "C"):
+        if letter in ("N", "R", "C", "D"):
             most = MOST.get((form[0], letter), REPLAY_LIMIT)
             why = why_no_count(letter, word, most)
             if why and (os.path.exists(word) or re.search(r"\.(?:toml|csv|bin)$", word)):
@@ -140,24 +163,44 @@ class Words:
             self.tell(len(self.words), f"{shown(record)} {why}")
 
     def check_units(self):
-        counts = [len(form.split()) for form in FORMS["slotunits"] if form.split()[0] == self.words[0]]
-        if not counts:
+        forms = self.forms_of_command()
+        form = next((it for it in forms if len(it) == len(self.words)), None)
+        if not forms:
             self.tell_command()
-        elif len(self.words) not in counts:
-            self.tell(0, f"the words are none of its forms: {self.forms()}")
+        elif form is None:
+            self.tell(0, self.why_none(forms))
         else:
             self.units = [self.words[1]]
+            self.timed = self.words[2:] if "A" in form else []
+            for at in [at for at, letter in enumerate(form) if letter in ("FROM", "TO")]:
+                if time_of(self.words[at]) is None:
+                    self.tell(at + 1, f"{form[at]} {why_no_time(self.words[at])}")
 
     def check_view(self):
         view, words = self.words[0], self.words[1:]
-        if view not in [form.split()[0] for form in FORMS["slotview"]]:
+        forms = self.forms_of_command()
+        if not forms:
             self.tell_command()
+        elif view == "stairs" and words:
+            self.tell(2, "stairs takes no word: the supply comes on standard input")
+        elif view != "jobs" and len(words) == 2:
+            self.check_part(*words)
         elif view != "jobs" and words:
-            self.tell(2, f"{view} takes no word: the trace comes on standard input")
+            takes = "takes no word, or FROM and UNTIL, two slots"
+            self.tell(2 if len(words) == 1 else 0, f"{view} {takes}: the trace comes on standard input")
         elif view == "jobs" and len(words) == 1 and not words[0].startswith("-"):
             self.tasks = words
         elif view == "jobs" and (len(words) != 2 or words[0] != "--table"):
             self.tell(0, "jobs takes the task file of the trace, or --table and the table")
+
+    def check_part(self, begin, end):
+        """Checks the slots from which and before which a trace is shown."""
+        for at, name, word in ((2, "FROM", begin), (3, "UNTIL", end)):
+            why = why_no_count(name, word, NUMBER_LIMIT, 0)
+            if why:
+                self.tell(at, why)
+        if not self.faults and int(begin) >= int(end):
+            self.tell(2, f"FROM = {begin} is not below UNTIL = {end}, before which the part ends")
 
 
 def meaning(command, letter):
@@ -165,12 +208,12 @@ def meaning(command, letter):
     return "the number of a load" if command == "selfrun" else LETTERS[letter]
 
 
-def why_no_count(name, word, most):
-    """Why a word is no number from 1 to this one, or none."""
-    rule = f"write a whole number, 1 to {most}, in plain digits"
+def why_no_count(name, word, most, least=1):
+    """Why a word is no number from the least to the most, or none."""
+    rule = f"write a whole number, {least} to {most}, in plain digits"
     if re.fullmatch(r"0|[1-9][0-9]*", word):
-        is_in_range = len(word) <= 6 and 1 <= int(word) <= most
-        return None if is_in_range else f"{name} = {word} is out of range, 1 to {most}"
+        is_in_range = len(word) <= 10 and least <= int(word) <= most
+        return None if is_in_range else f"{name} = {word} is out of range, {least} to {most}"
     if re.fullmatch(r"0[0-9]+", word):
         return f"{name} is {shown(word)} and has a leading zero: {rule}"
     unit = re.fullmatch(r"[0-9.]+([A-Za-z\u00b5\u03bc]+)", word)
