@@ -1,5 +1,5 @@
 -- The picture over the tasks of the plan is written, or has its cause.
-use Rattle.std.proofs.Common.{Err, sym, ap, subst, ◌∙◌}
+use Rattle.std.proofs.Common.{Err, refl, sym, ap, subst, ◌∙◌}
 use Rattle.task_rows.specs.Pictures.{ShowsTasks}
 use Rattle.view_run.specs.Shown.{IsTaskPictureRefusal}
 use Rattle.view_run.proofs.Causes.{of_tasks-cause, tasks-unfailed}
@@ -9,7 +9,7 @@ pub put_task_picture-requires : goal.put_task_picture-requires
 put_task_picture-requires g c = (
   c.in-Ok.ensures.formed,
   subst (λ set. ShowsTasks set c.args.lines.now c.in-Ok.document) c.tasks.ensures.tasks c.in-Ok.ensures.shows,
-  c.in-Ok.ensures.short,
+  c.in-Ok.ensures.short refl,
 )
 
 pub returns-in-Err-clause-part : goal.returns-in-Err-clause-part
