@@ -9,7 +9,7 @@ ghost use Rattle.slot_core.specs.declared.jobs.Span.{Span};
 ghost use Rattle.spare_capacity.specs.Recurrence.{last_end};
 ghost use Rattle.interval_row.specs.declared.marks.TheConstants.{PAGE};
 ghost use Rattle.interval_row.specs.Changes.{ends_before};
-ghost use Rattle.interval_row.specs.Tables.{span_at, spans_of_pairs, IsFront, IsTable};
+ghost use Rattle.interval_row.specs.Tables.{IsFront, IsTable};
 ghost use Rattle.sporadic_reserve.specs.Reserves.{demand_limit, Reserved};
 ghost use Rattle.guarantee.specs.Offers.{evidence_at, first_short, need_until};
 ghost use Rattle.guarantee.specs.Places.{IsPlace};
@@ -71,32 +71,30 @@ pub(crate) fn short_or_left<T: SpareTable, L: Ledger>(
     steps: &mut Steps<L>,
 ) -> Result<u64, Evidence>
     requires after { T.time table.now < from }
-    requires within { from ≤ last_end (T.time table.now) (spans_of_pairs (T.pairs table.now)) }
+    requires within { from ≤ last_end (T.time table.now) (T.spans table.now) }
     requires arrivals { arrivals < HORIZON_LIMIT }
-    requires near { last_end (T.time table.now) (spans_of_pairs (T.pairs table.now))
-        < HORIZON_LIMIT }
+    requires near { last_end (T.time table.now) (T.spans table.now) < HORIZON_LIMIT }
     requires some { 1 ≤ slots }
     requires few { slots ≤ OFFER_LIMIT }
-    ensures first { let spans = spans_of_pairs (T.pairs table.now) in
+    ensures first { let spans = T.spans table.now in
         let t = T.time table.now in
         result_err result ≡ option_map (evidence_at spans reserve.now t arrivals slots)
         (first_short spans reserve.now t arrivals slots from) }
-    ensures left { IfOk result (λ left. LeavesFrom (spans_of_pairs (T.pairs table.now))
+    ensures left { IfOk result (λ left. LeavesFrom (T.spans table.now)
         reserve.now (T.time table.now) arrivals slots left from) }
-    ensures greatest { let spans = spans_of_pairs (T.pairs table.now) in
+    ensures greatest { let spans = T.spans table.now in
         let t = T.time table.now in
         IfOk result (λ left. MostFrom spans reserve.now t arrivals slots
         (min told (last_end t spans - t - slots)) left from) }
     ensures small { IfOk result (λ left. left < HORIZON_LIMIT) }
     ensures told { IfOk result (λ left. left
-        ≤ min told (last_end (T.time table.now) (spans_of_pairs (T.pairs table.now))
+        ≤ min told (last_end (T.time table.now) (T.spans table.now)
         - T.time table.now - slots)) }
     ensures steps { steps.old ≤ steps.new }
-    ensures reads_once { steps.new ≤ steps.old + length (T.pairs table.now) }
+    ensures reads_once { steps.new ≤ steps.old + length (T.spans table.now) }
     ensures none_soon { told ≡ 0 → reserve.now.sporadics ≡ [] → OnOk result (steps.new
-        ≤ steps.old + ends_before from (spans_of_pairs (T.pairs table.now)) + 1) }
-    ensures places { ends_before from (spans_of_pairs (T.pairs table.now)) + 1 + T.time table.now
-        ≤ from }
+        ≤ steps.old + ends_before from (T.spans table.now) + 1) }
+    ensures places { ends_before from (T.spans table.now) + 1 + T.time table.now ≤ from }
 {
     let ask = Ask {
         now: table.time(),
@@ -125,32 +123,31 @@ fn short_or_left_on<T: SpareTable, L: Ledger>(
     place: SpanPlace,
     steps: &mut Steps<L>,
 ) -> Result<u64, Evidence>
-    requires table { IsTable (T.time table.now) (T.pairs table.now) (T.limit table.now) }
-    requires place { IsPlace (T.pairs table.now) place }
+    requires table { IsTable (T.time table.now) (T.spans table.now) (T.limit table.now) }
+    requires place { IsPlace (T.spans table.now) place }
     requires early { place.span.start < from }
     requires reached { from ≤ place.span.end }
     requires now { ask.now ≡ T.time table.now }
     requires arrivals { ask.arrivals < HORIZON_LIMIT }
-    requires near { last_end (T.time table.now) (spans_of_pairs (T.pairs table.now))
-        < HORIZON_LIMIT }
+    requires near { last_end (T.time table.now) (T.spans table.now) < HORIZON_LIMIT }
     requires some { 1 ≤ ask.slots }
     requires few { ask.slots ≤ OFFER_LIMIT }
-    ensures first { let spans = spans_of_pairs (T.pairs table.now) in
+    ensures first { let spans = T.spans table.now in
         let t = T.time table.now in
         result_err result ≡ option_map (evidence_at spans reserve.now t ask.arrivals ask.slots)
         (first_short spans reserve.now t ask.arrivals ask.slots from) }
-    ensures left { IfOk result (λ left. LeavesFrom (spans_of_pairs (T.pairs table.now))
+    ensures left { IfOk result (λ left. LeavesFrom (T.spans table.now)
         reserve.now (T.time table.now) ask.arrivals ask.slots left from) }
-    ensures greatest { let spans = spans_of_pairs (T.pairs table.now) in
+    ensures greatest { let spans = T.spans table.now in
         let t = T.time table.now in
         IfOk result (λ left. MostFrom spans reserve.now t ask.arrivals ask.slots
         (min told (last_end t spans - t - ask.slots)) left from) }
     ensures small { IfOk result (λ left. left < HORIZON_LIMIT) }
     ensures told { IfOk result (λ left. left
-        ≤ min told (last_end (T.time table.now) (spans_of_pairs (T.pairs table.now))
+        ≤ min told (last_end (T.time table.now) (T.spans table.now)
         - T.time table.now - ask.slots)) }
     ensures steps { steps.old ≤ steps.new }
-    ensures reads_once { steps.new + place.index + 1 ≤ steps.old + length (T.pairs table.now) }
+    ensures reads_once { steps.new + place.index + 1 ≤ steps.old + length (T.spans table.now) }
     ensures none_soon { told ≡ 0 → reserve.now.sporadics ≡ []
         → OnOk result (steps.new ≡ steps.old) }
 {
@@ -207,22 +204,21 @@ fn onward<T: SpareTable, L: Ledger>(
     left: u64,
     steps: &mut Steps<L>,
 ) -> Option<SpanPlace>
-    requires table { IsTable (T.time table.now) (T.pairs table.now) (T.limit table.now) }
-    requires place { IsPlace (T.pairs table.now) place }
+    requires table { IsTable (T.time table.now) (T.spans table.now) (T.limit table.now) }
+    requires place { IsPlace (T.spans table.now) place }
     requires now { ask.now ≡ T.time table.now }
     requires arrivals { ask.arrivals < HORIZON_LIMIT }
-    requires near { last_end (T.time table.now) (spans_of_pairs (T.pairs table.now))
-        < HORIZON_LIMIT }
+    requires near { last_end (T.time table.now) (T.spans table.now) < HORIZON_LIMIT }
     requires some { 1 ≤ ask.slots }
     requires few { ask.slots ≤ OFFER_LIMIT }
     requires small { left < HORIZON_LIMIT }
     requires demand { demand ≤ demand_limit }
     ensures last { MatchOption result
-        (place.index + 1 ≡ length (T.pairs table.now))
+        (place.index + 1 ≡ length (T.spans table.now))
         (λ later. place.index < later.index) }
-    ensures place { IfSome result (λ later. IsPlace (T.pairs table.now) later) }
+    ensures place { IfSome result (λ later. IsPlace (T.spans table.now) later) }
     ensures left { IfSome result (λ later. LeavesAll
-        (need_until (spans_of_pairs (T.pairs table.now)) reserve.now ask.arrivals)
+        (need_until (T.spans table.now) reserve.now ask.arrivals)
         (T.time table.now)
         ask.slots
         left
@@ -243,9 +239,9 @@ fn onward<T: SpareTable, L: Ledger>(
 /// Whether spans are a page long or longer on average: there `skip` of our tables passes none.
 #[inline(always)]
 fn has_long_spans<T: SpareTable>(table: &T, now: u64) -> bool
-    requires after { now ≤ last_end (T.time table.now) (spans_of_pairs (T.pairs table.now)) }
-    ensures { IsTrue result ↔ (length (T.pairs table.now) * PAGE
-        ≤ last_end (T.time table.now) (spans_of_pairs (T.pairs table.now)) - now) }
+    requires after { now ≤ last_end (T.time table.now) (T.spans table.now) }
+    ensures { IsTrue result ↔ (length (T.spans table.now) * PAGE
+        ≤ last_end (T.time table.now) (T.spans table.now) - now) }
 {
     u64::from(table.count()) * PAGE <= table.last_end() - now
 }
@@ -262,22 +258,21 @@ fn passed_at_once<T: SpareTable>(
     demand: u64,
     left: u64,
 ) -> Front
-    requires table { IsTable (T.time table.now) (T.pairs table.now) (T.limit table.now) }
-    requires place { IsPlace (T.pairs table.now) place }
+    requires table { IsTable (T.time table.now) (T.spans table.now) (T.limit table.now) }
+    requires place { IsPlace (T.spans table.now) place }
     requires now { ask.now ≡ T.time table.now }
     requires arrivals { ask.arrivals < HORIZON_LIMIT }
-    requires near { last_end (T.time table.now) (spans_of_pairs (T.pairs table.now))
-        < HORIZON_LIMIT }
+    requires near { last_end (T.time table.now) (T.spans table.now) < HORIZON_LIMIT }
     requires some { 1 ≤ ask.slots }
     requires few { ask.slots ≤ OFFER_LIMIT }
     requires small { left < HORIZON_LIMIT }
     requires demand { demand ≤ demand_limit }
-    ensures front { IsFront (spans_of_pairs (T.pairs table.now)) result }
+    ensures front { IsFront (T.spans table.now) result }
     ensures later { place.index ≤ result.count }
-    ensures within { result.count < length (T.pairs table.now) }
-    ensures left { (later : Span) → span_at (T.pairs table.now) result.count ≡ Some later
+    ensures within { result.count < length (T.spans table.now) }
+    ensures left { (later : Span) → slice_get (T.spans table.now) result.count ≡ Some later
         → LeavesAll
-        (need_until (spans_of_pairs (T.pairs table.now)) reserve.now ask.arrivals)
+        (need_until (T.spans table.now) reserve.now ask.arrivals)
         (T.time table.now)
         ask.slots
         left
@@ -324,21 +319,20 @@ fn passed_before<T: SpareTable>(
     left: u64,
     far: u64,
 ) -> Front
-    requires table { IsTable (T.time table.now) (T.pairs table.now) (T.limit table.now) }
-    requires place { IsPlace (T.pairs table.now) place }
+    requires table { IsTable (T.time table.now) (T.spans table.now) (T.limit table.now) }
+    requires place { IsPlace (T.spans table.now) place }
     requires now { ask.now ≡ T.time table.now }
     requires arrivals { ask.arrivals < HORIZON_LIMIT }
-    requires near { last_end (T.time table.now) (spans_of_pairs (T.pairs table.now))
-        < HORIZON_LIMIT }
+    requires near { last_end (T.time table.now) (T.spans table.now) < HORIZON_LIMIT }
     requires some { 1 ≤ ask.slots }
     requires few { ask.slots ≤ OFFER_LIMIT }
     requires small { left < HORIZON_LIMIT }
-    ensures front { IsFront (spans_of_pairs (T.pairs table.now)) result }
+    ensures front { IsFront (T.spans table.now) result }
     ensures later { place.index ≤ result.count }
-    ensures within { result.count < length (T.pairs table.now) }
-    ensures left { (later : Span) → span_at (T.pairs table.now) result.count ≡ Some later
+    ensures within { result.count < length (T.spans table.now) }
+    ensures left { (later : Span) → slice_get (T.spans table.now) result.count ≡ Some later
         → LeavesAll
-        (need_until (spans_of_pairs (T.pairs table.now)) reserve.now ask.arrivals)
+        (need_until (T.spans table.now) reserve.now ask.arrivals)
         (T.time table.now)
         ask.slots
         left
@@ -361,22 +355,21 @@ fn first_short_start<T: SpareTable, L: Ledger>(
     place: SpanPlace,
     steps: &mut Steps<L>,
 ) -> Evidence
-    requires table { IsTable (T.time table.now) (T.pairs table.now) (T.limit table.now) }
-    requires place { IsPlace (T.pairs table.now) place }
+    requires table { IsTable (T.time table.now) (T.spans table.now) (T.limit table.now) }
+    requires place { IsPlace (T.spans table.now) place }
     requires now { ask.now ≡ T.time table.now }
-    requires near { last_end (T.time table.now) (spans_of_pairs (T.pairs table.now))
-        < HORIZON_LIMIT }
+    requires near { last_end (T.time table.now) (T.spans table.now) < HORIZON_LIMIT }
     requires some { 1 ≤ ask.slots }
     requires few { ask.slots ≤ OFFER_LIMIT }
     requires uncovered { (pos (place.span.start - ask.now) +ℤ place.span.spare)
         <ℤ pos (ask.slots + place.due) }
-    ensures first { let spans = spans_of_pairs (T.pairs table.now) in
+    ensures first { let spans = T.spans table.now in
         let t = T.time table.now in
         (reserve : Reserved) → NeedsNone reserve ask.arrivals (last_end t spans)
         → Some result ≡ option_map (evidence_at spans reserve t ask.arrivals ask.slots)
         (first_short spans reserve t ask.arrivals ask.slots place.span.end) }
     ensures steps { steps.old ≤ steps.new }
-    ensures reads_once { steps.new + place.index + 1 ≤ steps.old + length (T.pairs table.now) }
+    ensures reads_once { steps.new + place.index + 1 ≤ steps.old + length (T.spans table.now) }
 {
     let front = Front {
         count: place.index,

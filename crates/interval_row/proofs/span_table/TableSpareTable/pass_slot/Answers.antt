@@ -3,7 +3,6 @@ use Rattle.spare_capacity.specs.Recurrence.{filled, first_start, last_end}
 use Rattle.interval_row.specs.Changes.{after_pass}
 use Rattle.interval_row.specs.Marks.{AreMarked}
 use Rattle.interval_row.proofs.Rooms.{marked-start, seen_of, AreKept-after_pass, IsTable-AreKept, AreKept, kept_of, marked_of}
-use Rattle.interval_row.proofs.Spots.{spans_of_pairs-numbered}
 use Rattle.interval_row.proofs.span_table.TableSpareTable.pass_slot.Given.{Over}
 use Rattle.interval_row.proofs.span_table.TableSpareTable.pass_slot.Goals as goal
 use Rattle.interval_row.proofs.span_table.TableSpareTable.pass_slot.Goals.{After-pass_time}
@@ -54,4 +53,4 @@ returns-clause-time g c =
 
 pub returns-clause-spans : goal.returns-clause-spans
 returns-clause-spans g c =
-    spans_of_pairs-numbered 0 (g.S.Store.spans c.pass_time.new.store) ∙ c.pass_time.ensures.spans ∙ c.pass-self-inside.ensures.spans ∙ ap (λ xs. filled (after_pass xs)) (sym (seen_of c.self.view_is (kept_of c.self.invariant)).rows)
+    c.pass_time.ensures.spans ∙ c.pass-self-inside.ensures.spans ∙ ap (λ xs. filled (after_pass xs)) (sym (seen_of c.self.view_is (kept_of c.self.invariant)).rows)
