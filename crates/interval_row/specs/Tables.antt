@@ -15,6 +15,13 @@ pub record IsTable (time : ℕ) (spans : List Span) (limit : ℕ) : Type 0 where
   pub few : length spans ≤ limit
   pub small : limit ≤ 2 ^ 20
 
+-- a table whose spans change is one still, at the same time, with the same room
+pub record Stays {X : Type 0} (time_of : X → ℕ) (spans_of : X → List Span) (limit_of : X → ℕ)
+    (old new : X) : Type 0 where
+  pub table : IsTable (time_of new) (spans_of new) (limit_of new)
+  pub time : time_of new ≡ time_of old
+  pub room : limit_of new ≡ limit_of old
+
 -- the works of spans
 abbrev pub works : List Span → ℕ
 works spans = sum_by (λ (s : Span). s.work) spans

@@ -7,7 +7,7 @@ ghost use Rattle.spare_capacity.specs.Laws.{work_until};
 ghost use Rattle.spare_capacity.specs.PlanSpans.{ArePlanSpans};
 ghost use Rattle.spare_capacity.specs.Recurrence.{filled, last_end};
 ghost use Rattle.interval_row.specs.Changes.{after_pass, appended, apart_from, copies_of, cut, ends_before, span_ending, with_less, with_more};
-ghost use Rattle.interval_row.specs.Tables.{IsFront, IsTable};
+ghost use Rattle.interval_row.specs.Tables.{IsFront, IsTable, Stays};
 
 use slot_core::{Memory, Span, Steps};
 use std::alloc::Global;
@@ -164,10 +164,8 @@ pub trait SpareTable: Drop {
     fn charge<L: Ledger>(&mut self, deadline: u64, slots: u32, steps: &mut Steps<L>)
         requires { IsSomeAnd (span_ending deadline (spans self.old))
             (λ s. s.work + slots ≤ 2 ^ 40) }
-        ensures table { IsTable (time self.new) (spans self.new) (limit self.new) }
-        ensures time { time self.new ≡ time self.old }
+        ensures stays { Stays time spans limit self.old self.new }
         ensures spans { spans self.new ≡ filled (with_more deadline slots (spans self.old)) }
-        ensures room { limit self.new ≡ limit self.old }
         ensures steps { steps.old ≤ steps.new }
         ensures few_steps { IsTrue counted
             → steps.new ≤ steps.old
@@ -178,13 +176,11 @@ pub trait SpareTable: Drop {
     /// where the work is that of the first, or where no capacity changes so far back.
     fn give_back<L: Ledger>(&mut self, deadline: u64, slots: u32, steps: &mut Steps<L>) -> bool
         requires { IsSomeAnd (span_ending deadline (spans self.old)) (λ s. slots ≤ s.work) }
-        ensures table { IsTable (time self.new) (spans self.new) (limit self.new) }
-        ensures time { time self.new ≡ time self.old }
+        ensures stays { Stays time spans limit self.old self.new }
         ensures spans { spans self.new ≡ filled (with_less deadline slots (spans self.old)) }
         ensures others { result ≡ true
             → drop 1 (take SHOWN_LIMIT (spans self.new))
             ≡ drop 1 (take SHOWN_LIMIT (spans self.old)) }
-        ensures room { limit self.new ≡ limit self.old }
         ensures steps { steps.old ≤ steps.new }
         ensures few_steps { IsTrue counted
             → steps.new ≤ steps.old
@@ -197,13 +193,11 @@ pub trait SpareTable: Drop {
         requires after { time self.old < at }
         requires within { at ≤ last_end (time self.old) (spans self.old) }
         requires free { length (spans self.old) < limit self.old }
-        ensures table { IsTable (time self.new) (spans self.new) (limit self.new) }
-        ensures time { time self.new ≡ time self.old }
+        ensures stays { Stays time spans limit self.old self.new }
         ensures spans { spans self.new ≡ filled (cut at (spans self.old)) }
         ensures others { apart_from at (spans self.new) ≡ apart_from at (spans self.old) }
         ensures nothing { IsSome (span_ending at (spans self.old))
             → spans self.new ≡ spans self.old }
-        ensures room { limit self.new ≡ limit self.old }
         ensures steps { steps.old ≤ steps.new }
         ensures few_steps { IsTrue counted
             → steps.new ≤ steps.old + ends_before at (spans self.old) + 5 };
@@ -213,10 +207,8 @@ pub trait SpareTable: Drop {
         requires plan { ArePlanSpans cycle.now }
         requires free { length (spans self.old) + length cycle.now ≤ limit self.old }
         requires near { last_end (time self.old) (spans self.old) + last_end 0 cycle.now ≤ 2 ^ 60 }
-        ensures table { IsTable (time self.new) (spans self.new) (limit self.new) }
-        ensures time { time self.new ≡ time self.old }
+        ensures stays { Stays time spans limit self.old self.new }
         ensures spans { spans self.new ≡ appended cycle.now (spans self.old) }
-        ensures room { limit self.new ≡ limit self.old }
         ensures steps { steps.old ≤ steps.new }
         ensures few_steps { IsTrue counted → steps.new ≤ steps.old + 2 * length cycle.now };
 }

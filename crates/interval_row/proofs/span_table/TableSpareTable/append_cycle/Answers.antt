@@ -53,12 +53,15 @@ invariant_of-self g c =
     let marked = subst (λ n. AreMarked n (g.S.Store.spans c.append.new.store) (g.S.Store.marks c.append.new.store)) (sym c.self.invariant.timed.starts) c.append.ensures.marked in
     rw c.last_end.ensures (marked_of (kept g (goal.at.invariant_of-self g c).After-append) marked)
 
-pub returns-clause-table : goal.returns-clause-table
-returns-clause-table g c = IsTable-AreKept _ _ _ _ (kept g (goal.at.returns-clause-table g c).After-append)
-
-pub returns-clause-time : goal.returns-clause-time
-returns-clause-time g c =
-    sym (kept g (goal.at.returns-clause-time g c).After-append).starts ∙ c.self.invariant.timed.starts ∙ sym (seen_of c.self.view_is (kept_of c.self.invariant)).start
+pub returns-clause-stays : goal.returns-clause-stays
+returns-clause-stays g c =
+    let seen = seen_of c.self.view_is (kept_of c.self.invariant) in
+    let are = kept g (goal.at.returns-clause-stays g c).After-append in
+    record {
+      table = IsTable-AreKept _ _ _ _ are;
+      time = sym are.starts ∙ c.self.invariant.timed.starts ∙ sym seen.start;
+      room = c.append.ensures.room ∙ sym seen.room;
+    }
 
 pub returns-clause-spans : goal.returns-clause-spans
 returns-clause-spans g c =

@@ -37,12 +37,15 @@ pub invariant_of-self : goal.invariant_of-self
 invariant_of-self g c =
     marked_of (kept g (goal.at.invariant_of-self g c).After-split-self-inside) c.split-self-inside.ensures.marked
 
-pub returns-clause-table : goal.returns-clause-table
-returns-clause-table g c = IsTable-AreKept _ _ _ _ (kept g (goal.at.returns-clause-table g c).After-split-self-inside)
-
-pub returns-clause-time : goal.returns-clause-time
-returns-clause-time g c =
-    sym (kept g (goal.at.returns-clause-time g c).After-split-self-inside).starts ∙ c.self.invariant.timed.starts ∙ sym (seen_of c.self.view_is (kept_of c.self.invariant)).start
+pub returns-clause-stays : goal.returns-clause-stays
+returns-clause-stays g c =
+    let seen = seen_of c.self.view_is (kept_of c.self.invariant) in
+    let are = kept g (goal.at.returns-clause-stays g c).After-split-self-inside in
+    record {
+      table = IsTable-AreKept _ _ _ _ are;
+      time = sym are.starts ∙ c.self.invariant.timed.starts ∙ sym seen.start;
+      room = c.split-self-inside.ensures.room ∙ sym seen.room;
+    }
 
 pub returns-clause-spans : goal.returns-clause-spans
 returns-clause-spans g c =
