@@ -1,6 +1,6 @@
 //! The search for the first time that is too short.
 
-ghost use Rattle.std.specs.Prelude.{◌≡◌, ℕ, [], None, Some, ◌+◌, ◌-◌, ◌*◌, ◌≤◌, ◌<◌, ◌^◌, ◌↔◌, pos, ◌+ℤ◌, ◌≤ℤ◌, ◌<ℤ◌, IfOk, IfSome, IsTrue, MatchOption, OnOk, find, length, max, min};
+ghost use Rattle.std.specs.Prelude.{◌≡◌, ℕ, [], None, Some, ◌+◌, ◌-◌, ◌*◌, ◌≤◌, ◌<◌, ◌^◌, ◌↔◌, pos, ◌+ℤ◌, ◌≤ℤ◌, ◌<ℤ◌, IfOk, IfSome, IsTrue, MatchOption, OnOk, find, length, max, min, slice_get};
 ghost use Rattle.std.specs.List.{range_with_len};
 ghost use Rattle.std.specs.Option.{option_map};
 ghost use Rattle.std.specs.Result.{result_err};

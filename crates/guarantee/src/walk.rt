@@ -1,6 +1,6 @@
 //! Places in a table: spans, with the works before them.
 
-ghost use Rattle.std.specs.Prelude.{◌≡◌, ◌+◌, ◌≤◌, ◌<◌, ◌^◌, length, max, IfSome, MatchOption, Some};
+ghost use Rattle.std.specs.Prelude.{◌≡◌, ◌+◌, ◌≤◌, ◌<◌, ◌^◌, length, max, IfSome, MatchOption, Some, slice_get};
 ghost use Rattle.slot_core.specs.declared.jobs.Span.{Span};
 ghost use Rattle.spare_capacity.specs.Recurrence.{last_end};
 ghost use Rattle.interval_row.specs.Tables.{IsFront, IsTable};
