@@ -1,4 +1,4 @@
-use Rattle.std.proofs.Common.{◌≡◌, ◌∙◌, slice_get, ap, arith}
+use Rattle.std.proofs.Common.{◌∙◌, slice_get, ap, arith}
 use Rattle.interval_row.proofs.Rooms.{seen_of, kept_of}
 use Rattle.interval_row.proofs.span_table.TableSpareTable.read.Goals as goal
 
