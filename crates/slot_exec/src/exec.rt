@@ -493,6 +493,7 @@ impl<T: SpareTable> Exec<T> {
             h }
         ensures some { 1 ≤ result.1 }
         ensures few { result.1 ≤ most }
+        ensures within { result.1 ≤ self.now.plan.cycle }
         ensures steps { steps.old ≤ steps.new }
     {
         let room = Remembered {
