@@ -5,12 +5,12 @@ use Rattle.guarantee.proofs.Starts.{LeavesAll-none}
 use Rattle.guarantee.proofs.Tables.{later-more, next-start, past-start, place-end}
 use Rattle.guarantee.proofs.search.onward.Goals as goal
 
-pub returns-then-not-passes-clause-last : goal.returns-then-not-passes-clause-last
-returns-then-not-passes-clause-last g c =
+pub returns-then-place-clause-last : goal.returns-then-place-clause-last
+returns-then-place-clause-last g c =
     later-more c.args.place (length (g.T.SpareTable.spans c.args.table.now)) c.after.result c.after.ensures.last
 
-pub returns-then-not-passes-clause-left : goal.returns-then-not-passes-clause-left
-returns-then-not-passes-clause-left g c =
+pub returns-then-place-clause-left : goal.returns-then-place-clause-left
+returns-then-place-clause-left g c =
     let a = c.args in
     let t = g.T.SpareTable.time a.table.now in
     let spans = g.T.SpareTable.spans a.table.now in

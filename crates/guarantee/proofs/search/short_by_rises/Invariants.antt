@@ -1,10 +1,10 @@
-use Rattle.std.proofs.Common.{◌≡◌, ◌+◌, ◌-◌, ◌≤◌, max}
+use Rattle.std.proofs.Common.{◌≡◌, ◌+◌, ◌-◌, ◌≤◌}
 use Rattle.guarantee.specs.Stretches.{IsLevelFrom, LeavesBetween, MostBetween}
 use Rattle.guarantee.proofs.Segments.{found_from}
-use Rattle.guarantee.proofs.search.short_by_levels.Given as goal
+use Rattle.guarantee.proofs.search.short_by_rises.Given as goal
 
--- what is left to search gives the same, the level holds from here on and after the search, before
--- here and from the end on so much is left, and no greater number is at all those times
+-- what is left to search gives the same, the level holds from here on, before here and from the end
+-- on so much is left, and no greater number is at all those times
 abbrev pub invariant-loop-at : goal.invariant-loop-at
 invariant-loop-at l = record {
   low : l.from ≤ l.at;
@@ -12,7 +12,6 @@ invariant-loop-at l = record {
   rises : l.rises + l.from ≤ l.at;
   same : found_from l.reserve l.ask.now l.ask.arrivals (l.ask.slots + l.due) l.from l.until ≡ found_from l.reserve l.ask.now l.ask.arrivals (l.ask.slots + l.due) l.at l.end;
   here : IsLevelFrom l.reserve l.ask.arrivals l.at l.tried.level;
-  after : IsLevelFrom l.reserve l.ask.arrivals (max l.from l.until) l.tried.level;
   left : LeavesBetween l.reserve l.ask l.due l.tried.left l.from l.at;
   later : LeavesBetween l.reserve l.ask l.due l.tried.left l.end l.until;
   greatest : MostBetween l.reserve l.ask l.due l.initial.tried.left l.tried.left l.from l.until;
