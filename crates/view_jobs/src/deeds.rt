@@ -54,11 +54,7 @@ pub fn first_unknown(tasks: &TaskSet, lines: &[TraceLine]) -> Option<usize>
 }
 
 /// What the lines do, each that names no unknown task.
-pub fn deeds_of(
-    alloc: Global,
-    tasks: &TaskSet,
-    lines: &[TraceLine],
-) -> Result<Vec<Deed>, Memory>
+pub fn deeds_of(alloc: Global, tasks: &TaskSet, lines: &[TraceLine]) -> Result<Vec<Deed>, Memory>
     requires { is_sound tasks.now ≡ true }
     ensures { IfOk result (λ deeds. deeds.items ≡ deeds_of tasks.now lines.now) }
 {
