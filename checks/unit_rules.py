@@ -3,6 +3,7 @@
 import math
 import re
 import tomllib
+from fractions import Fraction
 
 PLACES = {"ns": 0, "us": 3, "ms": 6, "s": 9}
 SLOT_LIMIT = 8192
@@ -153,18 +154,43 @@ def needed(tasks, cycle):
     return planned + sum(s["wcet"] * count for s, count in due)
 
 
-def line_of_length(system, slot, judged):
-    """The rank of a length of a slot, and its line."""
+def work_in(system, time):
+    """The time that jobs and alarms take at most within a time, as the file says it."""
+    planned = sum(up(g["period"], time) * sum(t["wcet"] for t in g["task"]) for g in system.graphs)
+    return planned + sum(up(s["separation"], time) * s["wcet"] for s in system.sporadics)
+
+
+def millionths(whole, part):
+    return part * 1_000_000 // whole
+
+
+def shorter_plan(tasks, slot):
+    """The first separation that makes the cycle too long, as the greatest one that divides the cycle of those before."""
+    cycle = math.lcm(*(graph["period"] for graph in tasks["graph"]))
+    if cycle > SLOT_LIMIT:
+        return ""
+    for number, task in enumerate(tasks.get("sporadic", [])):
+        apart = task["separation"]
+        if math.lcm(cycle, apart) > SLOT_LIMIT:
+            part = max(it for it in range(1, apart + 1) if cycle % it == 0)
+            return f" plan sporadic {number} {time_text(part * slot)}"
+        cycle = math.lcm(cycle, apart)
+    return ""
+
+
+def line_of_length(system, slot, judged, margin):
+    """The share of the cycle that a length of a slot needs, more than all where its set does not fit, and its line."""
     front = f"slot {time_text(slot)}"
     try:
         tasks = system.in_slots(slot)
     except Fault as fault:
-        return 1_000_001, f"{front} units {fault}"
+        return Fraction(2), f"{front} units {fault}"
     told = judged(toml_of(tasks))
     if told.startswith("tasks "):
-        return 1_000_001, f"{front} {told}"
+        return Fraction(2), f"{front} {told}{shorter_plan(tasks, slot) if told.startswith('tasks cycle') else ''}"
     cycle = cycle_of(tasks)
+    need = needed(tasks, cycle)
+    load = f"load {millionths(cycle * slot, work_in(system, cycle * slot))} {millionths(cycle, need)}"
     if told:
-        return 1_000_001, f"{front} cycle {cycle} {told}"
-    load = needed(tasks, cycle)
-    return load * 1_000_000 // cycle, f"{front} cycle {cycle} fits {load}"
+        return Fraction(2), f"{front} cycle {cycle} {load} {told}"
+    return Fraction(need, cycle), f"{front} cycle {cycle} {load} fits {need} margin {margin(tasks)}"

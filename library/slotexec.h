@@ -21,12 +21,14 @@
  * The library is tried on x86-64, and on aarch64 under qemu, with Linux (`make aarch64`) and
  * without a system (`make bare`). Of other processors nothing is said.
  *
- * How long the calls take on a PC, for two controllers of examples/, stands in docs/PERFORMANCE.md
- * (`make -C library test` measures it). Of them the slot that ends a cycle brings in the jobs and
- * spans of another one, `ss_open` makes the plan again, and `ss_close` gives back all it keeps: so
- * each of the three takes longer for a longer cycle. A firm or sporadic arrival, an early end, a
- * withdrawal and a slot go along the jobs that remain and the spans ahead, three cycles of them at
- * most; the others take no longer for a longer cycle.
+ * docs/PERFORMANCE.md has how long the calls take on a PC, for two controllers of examples/, and how
+ * many instructions each takes on aarch64, for four (`make -C library test` and tests/counted
+ * measure it). The slot that ends a cycle brings in the jobs and spans of another one, and
+ * `ss_open` makes the plan again: so both take longer for a longer cycle. A firm or sporadic
+ * arrival, an early end, a withdrawal, a slot and a look ahead go along the jobs that remain and
+ * the spans ahead, three cycles of them at most. `ss_pass` takes as long as its slots and a look
+ * before each, `ss_carry` as long as the offers that it makes, and `ss_change` as long as `ss_open`
+ * and `ss_carry`. The others take no longer for a longer cycle.
  *
  * What the caller owes:
  * - No pointer is null, and each points to what its type says, or to so many bytes as the number
@@ -261,10 +263,10 @@ uint32_t ss_get_job(ss_slots *slots, uint32_t place, ss_job *job);
  * numbers are the first time from the change on by which more slots are needed than there are, the
  * need, and the room. */
 
-/* From one open handle to another. SS_NOT_FRESH where a slot has passed at the second one or
- * something has arrived. The first one stays as it was, with all that it has. After SS_REFUSED the
- * second one has accepted the offers before the one that has no room: close it, and open it
- * anew. */
+/* From one open handle to another. SS_NOT_FRESH where a slot has passed at the second one, or
+ * something has arrived in a row above 0. The first one stays as it was, with all that it has.
+ * After SS_REFUSED the second one has accepted the offers before the one that has no room: close
+ * it, and open it anew. */
 uint32_t ss_carry(ss_slots *from, ss_slots *into, uint32_t first, uint32_t keep, ss_told *told);
 
 /* Opens the plan of a binary table, carries over to it, and leaves it in the handle; the first

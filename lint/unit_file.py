@@ -88,6 +88,7 @@ class UnitFile(TaskFile):
         top = self.top
         self.check_keys(top)
         self.slot = self.read_time(top, "slot")
+        self.need_some_slot()
         self.overhead = self.read_time(top, "overhead", 0)
         self.read_number(top, "soft", 1, SOFT_LIMIT, "soft jobs that may wait", SOFT_DEFAULT)
         graphs = self.read_tables(top, "graph", 1, GRAPH_LIMIT)
@@ -95,6 +96,12 @@ class UnitFile(TaskFile):
         sporadics = self.read_tables(top, "sporadic", 0, SPORADIC_LIMIT)
         sporadics = [self.read_sporadic(index, table) for index, table in sporadics]
         return TaskSet(graphs, sporadics, not self.document.faults)
+
+    def need_some_slot(self):
+        """A slot of no time is out of its range."""
+        if self.slot.is_known and self.slot.value == 0:
+            message = f"slot = {time_text(0)} is no time at all: a slot is longer than 0"
+            self.tell("out of range", self.top, self.slot.entry.value, message, "out of range top slot 0")
 
     def read_graph(self, index, table):
         graph = Graph("graph", self.label("graph", index, table), f"graph {index}", table)

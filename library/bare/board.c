@@ -15,6 +15,7 @@ enum { CONTROL = 0, PRIORITY = 1, ACKNOWLEDGE = 3, FINISHED = 4 }; /* of the cor
 enum { DATA = 0, FLAGS = 0x18 / 4, IS_FULL = 0x20 };               /* of the serial line */
 
 static uint64_t next, length; /* the end of the slot, and its length, in counts */
+static uint64_t device;       /* when the device comes, in counts of its own timer */
 uint32_t board_late;
 
 static uint64_t counts_of(uint32_t microseconds)
@@ -39,13 +40,15 @@ void board_start(uint32_t slot)
     core[CONTROL] = 1;
     length = counts_of(slot);
     next = now() + length;
+    __asm__ volatile("mrs %0, cntpct_el0" : "=r"(device));
     __asm__ volatile("msr cntv_cval_el0, %0" ::"r"(next));
     __asm__ volatile("msr cntv_ctl_el0, %0" ::"r"(UINT64_C(1)));
 }
 
 void board_device_in(uint32_t microseconds)
 {
-    __asm__ volatile("msr cntp_tval_el0, %0" ::"r"(counts_of(microseconds)));
+    device += counts_of(microseconds);
+    __asm__ volatile("msr cntp_cval_el0, %0" ::"r"(device));
     __asm__ volatile("msr cntp_ctl_el0, %0\n isb" ::"r"(UINT64_C(1)));
 }
 

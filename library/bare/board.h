@@ -11,7 +11,8 @@
  * called. */
 void board_start(uint32_t slot);
 
-/* Has board_device called once, this number of microseconds from now: a device's interrupt. */
+/* Has board_device called once, this number of microseconds after the time for which it was asked
+ * before, at first after board_start: a device's interrupt, whose times do not drift. */
 void board_device_in(uint32_t microseconds);
 void board_device(void); /* the application's */
 

@@ -59,6 +59,17 @@ void unit_told(const struct arrival *arrival, uint32_t row, const ss_told *told)
     if (arrival->kind == ARRIVAL_FIRM && told->answer == SS_ACCEPTED) last_request = row;
 }
 
+/* When the device comes next: at some eighth of a slot, and never at its start. So the record does
+ * not hang on how fast the code is. */
+static uint32_t until_next(uint64_t *state)
+{
+    static uint32_t place = 4; /* the eighth of a slot at which it came */
+    uint32_t eighths = 2 + below(state, 96);
+    if ((place + eighths) % 8 == 0) eighths++;
+    place = (place + eighths) % 8;
+    return eighths * SLOT / 8;
+}
+
 /* The interrupt of the device: it brings one arrival, and comes again at some time. */
 void board_device(void)
 {
@@ -77,7 +88,7 @@ void board_device(void)
         arrival.number = last_request;
     }
     if (!inbox_put(&unit.inbox, &arrival)) lost++;
-    board_device_in(SLOT / 4 + below(&state, 12 * SLOT));
+    board_device_in(until_next(&state));
 }
 
 static void put_number(const char *text, uint32_t number)

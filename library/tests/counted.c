@@ -1,7 +1,8 @@
 /* Counts the instructions of each call on bare metal, under qemu with -icount shift=0: there the
  * cycle counter of the core counts them one by one. Arrivals of every kind come, denser than in
- * most units. It prints a row for each call: how often, the mean, and the most. SLOTS is how long
- * it runs at least. */
+ * most units. It prints a row for each call: how often, the mean, and the most. First it runs slot
+ * by slot, for SLOTS slots at least. Then it looks ahead and passes slots, STEPS times, and changes
+ * from the plan to itself. */
 #include "../bare/board.h"
 #include "../slotexec.h"
 #include "../unit/plan.h"
@@ -9,20 +10,28 @@
 #ifndef SLOTS
 #define SLOTS 20000
 #endif
+#ifndef STEPS
+#define STEPS 4800
+#endif
 
 extern const uint8_t plan_table[], plan_table_end[];
 
-enum call { OPEN, SLOT, CYCLE, SOFT, FIRM, SPORADIC, DONE, WITHDRAW, SPAN, TEXT, CALLS };
+enum call { OPEN, CLOSE, SLOT, CYCLE, SOFT, FIRM, SPORADIC, DONE, WITHDRAW, SPAN, TEXT, AHEAD, PASS, JOB,
+    CARRY, CARRY_SOFT, CHANGE, CHANGE_SOFT, CALLS };
 
 static struct {
     const char *name;
     uint64_t count, sum, most;
-} counted[CALLS] = {{"ss_open", 0, 0, 0}, {"ss_slot", 0, 0, 0},
+} counted[CALLS] = {{"ss_open", 0, 0, 0}, {"ss_close", 0, 0, 0}, {"ss_slot", 0, 0, 0},
     {"ss_slot, end of a cycle", 0, 0, 0}, {"ss_soft", 0, 0, 0}, {"ss_firm", 0, 0, 0},
     {"ss_sporadic", 0, 0, 0}, {"ss_done", 0, 0, 0}, {"ss_withdraw", 0, 0, 0},
-    {"ss_get_span", 0, 0, 0}, {"ss_key_text", 0, 0, 0}};
+    {"ss_get_span", 0, 0, 0}, {"ss_key_text", 0, 0, 0}, {"ss_ahead", 0, 0, 0}, {"ss_pass", 0, 0, 0},
+    {"ss_get_job", 0, 0, 0}, {"ss_carry", 0, 0, 0}, {"ss_carry_with_soft", 0, 0, 0},
+    {"ss_change", 0, 0, 0}, {"ss_change_with_soft", 0, 0, 0}};
 
-static ss_slots slots;
+static ss_slots slots, other;
+static ss_told told;
+static uint32_t granted, refused; /* changes of plan */
 static struct plan plan;
 static uint32_t row;
 
@@ -95,7 +104,6 @@ static uint32_t requests[8];
 
 static void arrivals(const ss_key *ran)
 {
-    ss_told told;
     uint32_t place = below(8);
     if (ran->kind != SS_NONE && below(5) == 0) COUNT(DONE, ss_done(&slots, ++row, ran, &told));
     if (below(8) == 0) COUNT(SOFT, ss_soft(&slots, ++row, 1 + below(5), &told));
@@ -124,11 +132,13 @@ static void look(const ss_key *ran)
 static void run(void)
 {
     uint64_t end = (4 + SLOTS / plan.cycle) * (uint64_t)plan.cycle, slot;
-    ss_key ran = {SS_NONE, 0, 0, 0};
+    ss_key ran = {SS_NONE, 0, 0, 0}, next;
+    uint32_t count;
     for (slot = 0; slot < end; slot++) {
         uint64_t from, spent;
         /* every fourth thousand of slots is without arrivals */
         if (slot / 1000 % 4 < 3) arrivals(&ran);
+        if (slot % 4 == 0) COUNT(AHEAD, ss_ahead(&slots, 64, &next, &count));
         from = now();
         want(ss_slot(&slots, &ran));
         spent = now() - from;
@@ -137,14 +147,77 @@ static void run(void)
     }
 }
 
+/* A change may be refused. */
+static void note_change(enum call call, uint64_t instructions, uint32_t status)
+{
+    note(call, instructions);
+    want(status == SS_REFUSED ? SS_OK : status);
+    if (status == SS_REFUSED) refused++;
+    else granted++;
+}
+
+static size_t table_bytes(void)
+{
+    return (size_t)(plan_table_end - plan_table);
+}
+
+/* Carries what is left over to a second executive, which leaves the first one as it is. */
+static void carry(uint32_t keep, bool soft)
+{
+    uint64_t from, spent;
+    uint32_t status;
+    want(ss_open(&other, plan_table, table_bytes(), &told));
+    from = now();
+    status = soft ? ss_carry_with_soft(&slots, &other, row + 1, keep, &told)
+                  : ss_carry(&slots, &other, row + 1, keep, &told);
+    spent = now() - from;
+    note_change(soft ? CARRY_SOFT : CARRY, spent, status);
+    COUNT(CLOSE, ss_close(&other));
+}
+
+static void change(uint32_t keep, bool soft)
+{
+    uint64_t from = now(), spent;
+    uint32_t status = soft
+        ? ss_change_with_soft(&slots, plan_table, table_bytes(), row + 1, keep, &told)
+        : ss_change(&slots, plan_table, table_bytes(), row + 1, keep, &told);
+    spent = now() - from;
+    note_change(soft ? CHANGE_SOFT : CHANGE, spent, status);
+    want(ss_last_row(&slots, &row));
+}
+
+static void run_ahead(void)
+{
+    uint32_t step, count, passed, change_of;
+    ss_key ran = {SS_NONE, 0, 0, 0};
+    ss_job job;
+    for (step = 0; step < STEPS; step++) {
+        /* every fourth hundred of steps is without arrivals */
+        if (step / 100 % 4 < 3) arrivals(&ran);
+        want(ss_job_count(&slots, &count));
+        if (count > 0) COUNT(JOB, ss_get_job(&slots, below(count), &job));
+        change_of = step / 40;
+        if (step % 40 == 39) carry(change_of % 3, change_of / 3 % 2 == 1);
+        change_of = step / 220;
+        if (step % 220 == 219) change(change_of % 3, change_of / 3 % 2 == 1);
+        COUNT(AHEAD, ss_ahead(&slots, 64, &ran, &count));
+        COUNT(PASS, ss_pass(&slots, 8, &passed));
+    }
+}
+
 int main(void)
 {
-    ss_told fault;
     int call;
     start_counter();
-    COUNT(OPEN, ss_open(&slots, plan_table, (size_t)(plan_table_end - plan_table), &fault));
+    COUNT(OPEN, ss_open(&slots, plan_table, table_bytes(), &told));
     want(plan_read(&plan, plan_table) ? SS_OK : SS_BAD_TABLE);
     run();
+    run_ahead();
+    put_text("# granted ");
+    put_number(granted);
+    put_text(" refused ");
+    put_number(refused);
+    put_text("\n");
     for (call = 0; call < CALLS; call++) {
         put_text(counted[call].name);
         put_text(": ");

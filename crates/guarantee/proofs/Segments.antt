@@ -1,5 +1,5 @@
 -- The search in a stretch in which the same work is due.
-use Rattle.std.proofs.Common.{◌≡◌, ℕ, ◌+◌, ◌-◌, ◌<◌, ◌≤◌, pos, ◌+ℤ◌, ◌≤ℤ◌, ◌<ℤ◌, max, true, false, List, length, take, Option, Some, None, refl, sym, ap, ◌∙◌, inl, inr, arith}
+use Rattle.std.proofs.Common.{◌≡◌, ℕ, ◌+◌, ◌-◌, ◌<◌, ◌≤◌, pos, ◌+ℤ◌, ◌≤ℤ◌, ◌<ℤ◌, max, min, true, false, List, length, take, Option, Some, None, refl, sym, ap, ◌∙◌, inl, inr, arith}
 use Rattle.std.specs.Prelude.{find, nat_lt, slice_get, Err, IfOk, MatchOption, Ok, Result}
 use Rattle.std.specs.Option.{option_map, option_or}
 use Rattle.std.specs.List.{range_with_len}
@@ -14,7 +14,7 @@ use Rattle.spare_capacity.specs.Recurrence.{filled, last_end, FollowOn}
 use Rattle.spare_capacity.specs.Laws.{work_until}
 use Rattle.interval_row.specs.Tables.{works}
 use Rattle.interval_row.proofs.ShortTimes.{end-at, work_until-all, work_until-at}
-use Rattle.sporadic_reserve.specs.Reserves.{Reserved}
+use Rattle.sporadic_reserve.specs.Reserves.{most_within, IsGrowth, Reserved}
 use Rattle.guarantee.specs.Offers.{evidence_at, first_short, is_short, need_until}
 use Rattle.guarantee.specs.declared.search.Level.{Level}
 use Rattle.guarantee.specs.declared.search.Ask.{Ask}
@@ -111,6 +111,7 @@ pub IsLevelFrom-later : (reserve : Reserved) (r from later : ℕ) (level : Level
 IsLevelFrom-later reserve r from later level le is =
     record {
       flat = λ x low high. is.flat x (omega arith) high;
+      bound = is.bound;
       small = is.small;
     }
 
@@ -298,6 +299,54 @@ found-before reserve ask due left at first end le all =
     or-None : (o : Option ℕ) → option_or o None ≡ o
     or-None None = refl
     or-None (Some x) = refl
+
+-- so it does up to the end itself
+pub LeavesAll-last : (reserve : Reserved) (ask : Ask) (due left first end most : ℕ) → ((z : ℕ) → z ≤ end - 1 → demand reserve ask.arrivals z ≤ most) → first ≡ min end (ask.now + ask.slots + due + left + most) → LeavesAllBetween reserve ask due left first end
+LeavesAll-last reserve ask due left first end most bound is =
+    record { at = λ x low high. omega (arith, bound x (omega arith)) }
+
+-- where the first time has room for the level and the most by which the demand rises after it, each
+-- time has
+pub LeavesAll-growth : (reserve : Reserved) (ask : Ask) (due left at until : ℕ) (level : Level) → 1 ≤ level.until → IsGrowth reserve ask.growth → IsLevelFrom reserve ask.arrivals at level → ask.now + ask.slots + due + left + (level.demand + most_within ask.growth (until - level.until)) ≤ at → LeavesAllBetween reserve ask due left at until
+LeavesAll-growth reserve ask due left at until level some growth is room =
+    record {
+      at = λ x low high. elim (cases_lt x level.until) [
+        | inl early ↦ omega (arith, is.bound x early, room)
+        | inr late ↦
+            let more = growth.most ask.arrivals (level.until - 1) x (until - level.until) (omega arith) (omega arith) in
+            omega (arith, is.bound (level.until - 1) (omega arith), more, room)
+      ];
+    }
+
+-- what is found in the first part of a stretch is found in it
+pub found-first : (reserve : Reserved) (t r needed from at until : ℕ) (e : Evidence) → from ≤ at → at ≤ until → Some e ≡ option_map (evidence_of reserve t r needed) (found_from reserve t r needed from at) → Some e ≡ option_map (evidence_of reserve t r needed) (found_from reserve t r needed from until)
+found-first reserve t r needed from at until e low high told =
+    let short = exceeds reserve t r needed in
+    sym (ap (option_map (evidence_of reserve t r needed)) (search-parts short from at until low high)
+    ∙ option_map-or (evidence_of reserve t r needed) (found_from reserve t r needed from at) _ e (sym told))
+
+-- where none is, the search goes on from there
+pub found-past : (reserve : Reserved) (t r needed from at until : ℕ) → from ≤ at → at ≤ until → None ≡ option_map (evidence_of reserve t r needed) (found_from reserve t r needed from at) → found_from reserve t r needed from until ≡ found_from reserve t r needed at until
+found-past reserve t r needed from at until low high told =
+    let short = exceeds reserve t r needed in
+    search-parts short from at until low high
+    ∙ ap (λ (o : Option ℕ). option_or o (found_from reserve t r needed at until)) (option_map-None (evidence_of reserve t r needed) (found_from reserve t r needed from at) (sym told))
+
+-- no more is left in a stretch than in a part of it, of which no more than the most is
+pub Most-parts : (reserve : Reserved) (ask : Ask) (due old middle left from at end until : ℕ) → from ≤ at → at ≤ until → end ≤ until → MostBetween reserve ask due old middle from at → MostBetween reserve ask due middle left at end → MostBetween reserve ask due old left from until
+Most-parts reserve ask due old middle left from at end until low high ends first later =
+    λ more few leaves.
+    let need : ℕ → ℕ = λ x. due + demand reserve ask.arrivals x in
+    later more
+    (first more few (Leaves-part need ask.now ask.slots more more from until from at (omega arith) (omega arith) high leaves))
+    (Leaves-part need ask.now ask.slots more more from until at end (omega arith) low ends leaves)
+
+-- nor is one in all those times
+pub found-none : (reserve : Reserved) (ask : Ask) (due left at until : ℕ) → LeavesAllBetween reserve ask due left at until → found_from reserve ask.now ask.arrivals (ask.slots + due) at until ≡ None
+found-none reserve ask due left at until all =
+    find-none (exceeds reserve ask.now ask.arrivals (ask.slots + due)) at until (λ x low high.
+    let most = all.at x low high in
+    le-ltb (x - ask.now) (ask.slots + due + demand reserve ask.arrivals x) (omega (arith, most)))
 
 -- so as many are left in the later times, and fewer too
 pub Leaves-later : (reserve : Reserved) (ask : Ask) (due left less first end until : ℕ) → less ≤ left → LeavesAllBetween reserve ask due left first end → LeavesBetween reserve ask due left end until → LeavesBetween reserve ask due less first until

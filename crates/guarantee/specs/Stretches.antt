@@ -28,10 +28,13 @@ abbrev pub NeedsNone : Reserved → ℕ → ℕ → Type 0
 NeedsNone reserve r last =
     (x : ℕ) → x ≤ last → sporadic_demand reserve.sporadics reserve.nexts r x ≡ 0
 
--- from a time on, and before it ends, a level is the demand of the densest arrivals from r on
+-- from a time on, and before it ends, a level is the demand of the densest arrivals from r on, and
+-- before that no more is needed
 pub record IsLevelFrom (reserve : Reserved) (r from : ℕ) (level : Level) : Type 0 where
   pub flat : (x : ℕ) → from ≤ x → x < level.until
       → sporadic_demand reserve.sporadics reserve.nexts r x ≡ level.demand
+  pub bound : (x : ℕ) → x < level.until
+      → sporadic_demand reserve.sporadics reserve.nexts r x ≤ level.demand
   pub small : level.demand ≤ demand_limit
 
 -- at each time from a to before b by which something is needed, so many slots are left beside that

@@ -10,7 +10,7 @@ ghost use Rattle.slot_core.specs.declared.TheConstants.{HORIZON_LIMIT, OFFER_LIM
 ghost use Rattle.spare_capacity.specs.Laws.{work_until};
 ghost use Rattle.spare_capacity.specs.Recurrence.{first_spare, last_end};
 ghost use Rattle.interval_row.specs.Changes.{ends_before};
-ghost use Rattle.interval_row.specs.Tables.{spans_of_pairs, IsTable};
+ghost use Rattle.interval_row.specs.Tables.{IsTable};
 ghost use Rattle.guarantee.specs.Offers.{answer_to, first_short, lets_run, need_until, soft_fits, IsShortAfter, LeavesFree, LeavesSlots};
 
 mod search;
@@ -60,21 +60,18 @@ pub fn test<T: SpareTable, L: Ledger>(
     c: u32,
     steps: &mut Steps<L>,
 ) -> Answer
-    requires first { pos 0 ≤ℤ first_spare (spans_of_pairs (T.pairs table.now)) }
+    requires first { pos 0 ≤ℤ first_spare (T.spans table.now) }
     requires after { T.time table.now < dl }
-    requires within { dl ≤ last_end (T.time table.now) (spans_of_pairs (T.pairs table.now)) }
-    requires near { last_end (T.time table.now) (spans_of_pairs (T.pairs table.now))
-        < HORIZON_LIMIT }
+    requires within { dl ≤ last_end (T.time table.now) (T.spans table.now) }
+    requires near { last_end (T.time table.now) (T.spans table.now) < HORIZON_LIMIT }
     requires some { 1 ≤ c }
     requires few { c ≤ OFFER_LIMIT }
-    ensures answer { result
-        ≡ answer_to (spans_of_pairs (T.pairs table.now)) reserve.now (T.time table.now) c dl }
+    ensures answer { result ≡ answer_to (T.spans table.now) reserve.now (T.time table.now) c dl }
     ensures steps { steps.old ≤ steps.new }
     ensures accepts_soon { reserve.now.sporadics ≡ [] → result ≡ Answer.Accept
-        → steps.new ≤ steps.old + ends_before dl (spans_of_pairs (T.pairs table.now)) + 1 }
-    ensures places { ends_before dl (spans_of_pairs (T.pairs table.now)) + 1 + T.time table.now
-        ≤ dl }
-    ensures reads_once { steps.new ≤ steps.old + length (T.pairs table.now) }
+        → steps.new ≤ steps.old + ends_before dl (T.spans table.now) + 1 }
+    ensures places { ends_before dl (T.spans table.now) + 1 + T.time table.now ≤ dl }
+    ensures reads_once { steps.new ≤ steps.old + length (T.spans table.now) }
 {
     match short_or_left(table, reserve, table.time(), c, dl, 0, steps) {
         Ok(_left) => Answer::Accept,
@@ -91,15 +88,12 @@ pub fn may_run_soft<T: SpareTable, L: Ledger>(
     reserve: &Reserve,
     steps: &mut Steps<L>,
 ) -> bool
-    requires after { T.time table.now
-        < last_end (T.time table.now) (spans_of_pairs (T.pairs table.now)) }
-    requires near { last_end (T.time table.now) (spans_of_pairs (T.pairs table.now))
-        < HORIZON_LIMIT }
-    ensures answer { result
-        ≡ soft_fits (spans_of_pairs (T.pairs table.now)) reserve.now (T.time table.now) }
+    requires after { T.time table.now < last_end (T.time table.now) (T.spans table.now) }
+    requires near { last_end (T.time table.now) (T.spans table.now) < HORIZON_LIMIT }
+    ensures answer { result ≡ soft_fits (T.spans table.now) reserve.now (T.time table.now) }
     ensures steps { steps.old ≤ steps.new }
     ensures one_step { reserve.now.sporadics ≡ [] → steps.new ≡ steps.old + 1 }
-    ensures reads_once { steps.new ≤ steps.old + length (T.pairs table.now) }
+    ensures reads_once { steps.new ≤ steps.old + length (T.spans table.now) }
 {
     if reserve.is_empty() {
         return has_spare(table, steps);
@@ -121,31 +115,29 @@ pub fn soft_room<T: SpareTable, L: Ledger>(
     reserve: &Reserve,
     steps: &mut Steps<L>,
 ) -> SoftRoom
-    requires after { T.time table.now
-        < last_end (T.time table.now) (spans_of_pairs (T.pairs table.now)) }
-    requires near { last_end (T.time table.now) (spans_of_pairs (T.pairs table.now))
-        < HORIZON_LIMIT }
+    requires after { T.time table.now < last_end (T.time table.now) (T.spans table.now) }
+    requires near { last_end (T.time table.now) (T.spans table.now) < HORIZON_LIMIT }
     ensures answer { lets_run result
-        ≡ soft_fits (spans_of_pairs (T.pairs table.now)) reserve.now (T.time table.now) }
+        ≡ soft_fits (T.spans table.now) reserve.now (T.time table.now) }
     ensures free { (free : ℕ) → result ≡ SoftRoom.Free free
-        → LeavesFree (spans_of_pairs (T.pairs table.now)) reserve.now (T.time table.now) free }
-    ensures greatest { let spans = spans_of_pairs (T.pairs table.now) in
+        → LeavesFree (T.spans table.now) reserve.now (T.time table.now) free }
+    ensures greatest { let spans = T.spans table.now in
         let t = T.time table.now in
         (free more : ℕ) → result ≡ SoftRoom.Free free
         → 1 ≤ need_until spans reserve.now (t + 1) (last_end t spans)
         → LeavesFree spans reserve.now t more → more ≤ free }
-    ensures all_free { let spans = spans_of_pairs (T.pairs table.now) in
+    ensures all_free { let spans = T.spans table.now in
         let t = T.time table.now in
         (free : ℕ) → result ≡ SoftRoom.Free free
         → ((x : ℕ) → t < x → x ≤ last_end t spans → need_until spans reserve.now (t + 1) x ≡ 0)
         → free ≡ last_end t spans - t }
-    ensures short { let spans = spans_of_pairs (T.pairs table.now) in
+    ensures short { let spans = T.spans table.now in
         let t = T.time table.now in
         (until due : ℕ) → result ≡ SoftRoom.Short until due
         → (first_short spans reserve.now t (t + 1) 1 (t + 1) ≡ Some until)
         × (t < until) × (until ≤ last_end t spans) × (due ≡ work_until spans until) }
     ensures steps { steps.old ≤ steps.new }
-    ensures reads_once { steps.new ≤ steps.old + length (T.pairs table.now) }
+    ensures reads_once { steps.new ≤ steps.old + length (T.spans table.now) }
 {
     let next = table.time() + 1;
     match short_or_left(table, reserve, next, 1, next, u64::MAX, steps) {
@@ -169,25 +161,23 @@ pub fn soft_slots<T: SpareTable, L: Ledger>(
     taken: u32,
     steps: &mut Steps<L>,
 ) -> u64
-    requires within { T.time table.now + taken
-        < last_end (T.time table.now) (spans_of_pairs (T.pairs table.now)) }
-    requires near { last_end (T.time table.now) (spans_of_pairs (T.pairs table.now))
-        < HORIZON_LIMIT }
+    requires within { T.time table.now + taken < last_end (T.time table.now) (T.spans table.now) }
+    requires near { last_end (T.time table.now) (T.spans table.now) < HORIZON_LIMIT }
     requires few { taken < OFFER_LIMIT }
     ensures leaves { 1 ≤ result
         → LeavesSlots
-        (spans_of_pairs (T.pairs table.now))
+        (T.spans table.now)
         reserve.now
         (T.time table.now)
         taken
         result }
     ensures short { result ≡ 0 → IsShortAfter
-        (spans_of_pairs (T.pairs table.now))
+        (T.spans table.now)
         reserve.now
         (T.time table.now)
         taken }
     ensures steps { steps.old ≤ steps.new }
-    ensures reads_once { steps.new ≤ steps.old + length (T.pairs table.now) }
+    ensures reads_once { steps.new ≤ steps.old + length (T.spans table.now) }
 {
     let from = table.time() + u64::from(taken) + 1;
     match short_or_left(table, reserve, from, taken + 1, from, u64::MAX, steps) {
@@ -198,9 +188,9 @@ pub fn soft_slots<T: SpareTable, L: Ledger>(
 
 /// Whether the first span has a slot to spare.
 fn has_spare<T: SpareTable, L: Ledger>(table: &T, steps: &mut Steps<L>) -> bool
-    ensures answer { IsTrue result ↔ (pos 1 ≤ℤ first_spare (spans_of_pairs (T.pairs table.now))) }
+    ensures answer { IsTrue result ↔ (pos 1 ≤ℤ first_spare (T.spans table.now)) }
     ensures one_step { steps.new ≡ steps.old + 1 }
-    ensures table { IsTable (T.time table.now) (T.pairs table.now) (T.limit table.now) }
+    ensures table { IsTable (T.time table.now) (T.spans table.now) (T.limit table.now) }
 {
     // (so that the prover knows what every table is)
     let _count = table.count();

@@ -1,16 +1,17 @@
 //! The search for the first time that is too short.
 
-ghost use Rattle.std.specs.Prelude.{◌≡◌, ℕ, [], None, Some, ◌+◌, ◌-◌, ◌*◌, ◌≤◌, ◌<◌, ◌^◌, ◌↔◌, pos, ◌+ℤ◌, ◌≤ℤ◌, ◌<ℤ◌, IfOk, IfSome, IsTrue, MatchOption, OnOk, find, length, max, min};
+ghost use Rattle.std.specs.Prelude.{◌≡◌, ℕ, [], None, Some, ◌+◌, ◌-◌, ◌*◌, ◌≤◌, ◌<◌, ◌^◌, ◌↔◌, pos, ◌+ℤ◌, ◌≤ℤ◌, ◌<ℤ◌, IfOk, IfSome, IsTrue, MatchOption, OnOk, find, length, max, min, slice_get};
 ghost use Rattle.std.specs.List.{range_with_len};
 ghost use Rattle.std.specs.Option.{option_map};
 ghost use Rattle.std.specs.Result.{result_err};
 ghost use Rattle.slot_core.specs.declared.TheConstants.{HORIZON_LIMIT, OFFER_LIMIT};
 ghost use Rattle.slot_core.specs.declared.jobs.Span.{Span};
+ghost use Rattle.slot_core.specs.Feasibility.Sporadics.{sporadic_demand};
 ghost use Rattle.spare_capacity.specs.Recurrence.{last_end};
 ghost use Rattle.interval_row.specs.declared.marks.TheConstants.{PAGE};
 ghost use Rattle.interval_row.specs.Changes.{ends_before};
-ghost use Rattle.interval_row.specs.Tables.{span_at, spans_of_pairs, IsFront, IsTable};
-ghost use Rattle.sporadic_reserve.specs.Reserves.{demand_limit, Reserved};
+ghost use Rattle.interval_row.specs.Tables.{IsFront, IsTable};
+ghost use Rattle.sporadic_reserve.specs.Reserves.{burst_limit, demand_limit, growth_limit, IsGrowth, Reserved};
 ghost use Rattle.guarantee.specs.Offers.{evidence_at, first_short, need_until};
 ghost use Rattle.guarantee.specs.Places.{IsPlace};
 ghost use Rattle.guarantee.specs.Stretches.{exceeds, evidence_of, IsLevelFrom, LeavesAll, LeavesAllBetween, LeavesBetween, LeavesFrom, MostBetween, MostFrom, NeedsNone};
@@ -18,7 +19,7 @@ ghost use Rattle.guarantee.specs.Stretches.{exceeds, evidence_of, IsLevelFrom, L
 use crate::walk::{SpanPlace, after, passed, past, place_of};
 use interval_row::{Front, PAGE, SpareTable};
 use slot_core::{Evidence, Span, Steps};
-use sporadic_reserve::Reserve;
+use sporadic_reserve::{GROWTH_REACH, Growth, Reserve};
 use std::sync::ledger::Ledger;
 
 /// So many rises of the sporadic demand in a span are tried one by one before its later times are
@@ -30,12 +31,13 @@ const FEW_RISES: u64 = 2;
 const FEW_PARTS: u64 = 16;
 
 /// What a search asks: whether there is room for `slots` slots more, counted from `now` on, where
-/// sporadic tasks arrive from `arrivals` on.
+/// sporadic tasks arrive from `arrivals` on and their demand grows so.
 #[derive(Clone, Copy, PartialEq, Eq)]
 struct Ask {
     now: u64,
     arrivals: u64,
     slots: u64,
+    growth: Growth,
 }
 
 /// The sporadic demand from a time up to the next time at which it may be more.
@@ -71,37 +73,36 @@ pub(crate) fn short_or_left<T: SpareTable, L: Ledger>(
     steps: &mut Steps<L>,
 ) -> Result<u64, Evidence>
     requires after { T.time table.now < from }
-    requires within { from ≤ last_end (T.time table.now) (spans_of_pairs (T.pairs table.now)) }
+    requires within { from ≤ last_end (T.time table.now) (T.spans table.now) }
     requires arrivals { arrivals < HORIZON_LIMIT }
-    requires near { last_end (T.time table.now) (spans_of_pairs (T.pairs table.now))
-        < HORIZON_LIMIT }
+    requires near { last_end (T.time table.now) (T.spans table.now) < HORIZON_LIMIT }
     requires some { 1 ≤ slots }
     requires few { slots ≤ OFFER_LIMIT }
-    ensures first { let spans = spans_of_pairs (T.pairs table.now) in
+    ensures first { let spans = T.spans table.now in
         let t = T.time table.now in
         result_err result ≡ option_map (evidence_at spans reserve.now t arrivals slots)
         (first_short spans reserve.now t arrivals slots from) }
-    ensures left { IfOk result (λ left. LeavesFrom (spans_of_pairs (T.pairs table.now))
+    ensures left { IfOk result (λ left. LeavesFrom (T.spans table.now)
         reserve.now (T.time table.now) arrivals slots left from) }
-    ensures greatest { let spans = spans_of_pairs (T.pairs table.now) in
+    ensures greatest { let spans = T.spans table.now in
         let t = T.time table.now in
         IfOk result (λ left. MostFrom spans reserve.now t arrivals slots
         (min told (last_end t spans - t - slots)) left from) }
     ensures small { IfOk result (λ left. left < HORIZON_LIMIT) }
     ensures told { IfOk result (λ left. left
-        ≤ min told (last_end (T.time table.now) (spans_of_pairs (T.pairs table.now))
+        ≤ min told (last_end (T.time table.now) (T.spans table.now)
         - T.time table.now - slots)) }
     ensures steps { steps.old ≤ steps.new }
-    ensures reads_once { steps.new ≤ steps.old + length (T.pairs table.now) }
+    ensures reads_once { steps.new ≤ steps.old + length (T.spans table.now) }
     ensures none_soon { told ≡ 0 → reserve.now.sporadics ≡ [] → OnOk result (steps.new
-        ≤ steps.old + ends_before from (spans_of_pairs (T.pairs table.now)) + 1) }
-    ensures places { ends_before from (spans_of_pairs (T.pairs table.now)) + 1 + T.time table.now
-        ≤ from }
+        ≤ steps.old + ends_before from (T.spans table.now) + 1) }
+    ensures places { ends_before from (T.spans table.now) + 1 + T.time table.now ≤ from }
 {
     let ask = Ask {
         now: table.time(),
         arrivals,
         slots: u64::from(slots),
+        growth: reserve.growth(),
     };
     let place = place_of(table, from, steps);
     short_or_left_on(table, reserve, ask, from, told, place, steps)
@@ -125,32 +126,32 @@ fn short_or_left_on<T: SpareTable, L: Ledger>(
     place: SpanPlace,
     steps: &mut Steps<L>,
 ) -> Result<u64, Evidence>
-    requires table { IsTable (T.time table.now) (T.pairs table.now) (T.limit table.now) }
-    requires place { IsPlace (T.pairs table.now) place }
+    requires table { IsTable (T.time table.now) (T.spans table.now) (T.limit table.now) }
+    requires place { IsPlace (T.spans table.now) place }
     requires early { place.span.start < from }
     requires reached { from ≤ place.span.end }
     requires now { ask.now ≡ T.time table.now }
     requires arrivals { ask.arrivals < HORIZON_LIMIT }
-    requires near { last_end (T.time table.now) (spans_of_pairs (T.pairs table.now))
-        < HORIZON_LIMIT }
+    requires growth { IsGrowth reserve.now ask.growth }
+    requires near { last_end (T.time table.now) (T.spans table.now) < HORIZON_LIMIT }
     requires some { 1 ≤ ask.slots }
     requires few { ask.slots ≤ OFFER_LIMIT }
-    ensures first { let spans = spans_of_pairs (T.pairs table.now) in
+    ensures first { let spans = T.spans table.now in
         let t = T.time table.now in
         result_err result ≡ option_map (evidence_at spans reserve.now t ask.arrivals ask.slots)
         (first_short spans reserve.now t ask.arrivals ask.slots from) }
-    ensures left { IfOk result (λ left. LeavesFrom (spans_of_pairs (T.pairs table.now))
+    ensures left { IfOk result (λ left. LeavesFrom (T.spans table.now)
         reserve.now (T.time table.now) ask.arrivals ask.slots left from) }
-    ensures greatest { let spans = spans_of_pairs (T.pairs table.now) in
+    ensures greatest { let spans = T.spans table.now in
         let t = T.time table.now in
         IfOk result (λ left. MostFrom spans reserve.now t ask.arrivals ask.slots
         (min told (last_end t spans - t - ask.slots)) left from) }
     ensures small { IfOk result (λ left. left < HORIZON_LIMIT) }
     ensures told { IfOk result (λ left. left
-        ≤ min told (last_end (T.time table.now) (spans_of_pairs (T.pairs table.now))
+        ≤ min told (last_end (T.time table.now) (T.spans table.now)
         - T.time table.now - ask.slots)) }
     ensures steps { steps.old ≤ steps.new }
-    ensures reads_once { steps.new + place.index + 1 ≤ steps.old + length (T.pairs table.now) }
+    ensures reads_once { steps.new + place.index + 1 ≤ steps.old + length (T.spans table.now) }
     ensures none_soon { told ≡ 0 → reserve.now.sporadics ≡ []
         → OnOk result (steps.new ≡ steps.old) }
 {
@@ -158,7 +159,6 @@ fn short_or_left_on<T: SpareTable, L: Ledger>(
     let most = reserve.demand(ask.arrivals, last);
     let mut tried = untried(ask, last, told);
     let mut place = place;
-    let mut passes = false;
     loop {
         let first = from.max(place.span.start);
         if let Some(evidence) = short_between(
@@ -178,14 +178,11 @@ fn short_or_left_on<T: SpareTable, L: Ledger>(
         if most == 0 && !covers(place.span, ask.now, due) {
             return Err(first_short_start(table, ask, place, steps));
         }
-        let demand = tried.level.demand;
-        let Some(next) = onward(
-            table, reserve, ask, place, passes, demand, tried.left, steps,
-        ) else {
+        let demand = likely_demand(ask, tried.level, place.span.end);
+        let Some(next) = onward(table, reserve, ask, place, demand, tried.left, steps) else {
             let all = place.due + place.span.work;
             return left_between(reserve, ask, all, from.max(last), last + 1, tried);
         };
-        passes = place.index + 1 < next.index;
         place = next;
     }
 }
@@ -193,36 +190,33 @@ fn short_or_left_on<T: SpareTable, L: Ledger>(
 /// The place from which a search goes on, where `left` slots are left at the times so far: the next
 /// span, or a later one. None exactly after the last.
 ///
-/// Where the span crosses the border of a page, and where the last look has passed some, those after
-/// it are passed whose times leave `left` slots too. `demand` is that of the level tried last, 0
-/// before any. Only steps depend on it and on `passes`.
+/// Where the span crosses the border of a page, those after it are passed whose times leave `left`
+/// slots too. Only steps depend on `demand`, which is about the sporadic demand at its end.
 #[inline(always)]
 fn onward<T: SpareTable, L: Ledger>(
     table: &T,
     reserve: &Reserve,
     ask: Ask,
     place: SpanPlace,
-    passes: bool,
     demand: u64,
     left: u64,
     steps: &mut Steps<L>,
 ) -> Option<SpanPlace>
-    requires table { IsTable (T.time table.now) (T.pairs table.now) (T.limit table.now) }
-    requires place { IsPlace (T.pairs table.now) place }
+    requires table { IsTable (T.time table.now) (T.spans table.now) (T.limit table.now) }
+    requires place { IsPlace (T.spans table.now) place }
     requires now { ask.now ≡ T.time table.now }
     requires arrivals { ask.arrivals < HORIZON_LIMIT }
-    requires near { last_end (T.time table.now) (spans_of_pairs (T.pairs table.now))
-        < HORIZON_LIMIT }
+    requires near { last_end (T.time table.now) (T.spans table.now) < HORIZON_LIMIT }
     requires some { 1 ≤ ask.slots }
     requires few { ask.slots ≤ OFFER_LIMIT }
     requires small { left < HORIZON_LIMIT }
-    requires demand { demand ≤ demand_limit }
+    requires demand { demand ≤ 2 * demand_limit }
     ensures last { MatchOption result
-        (place.index + 1 ≡ length (T.pairs table.now))
+        (place.index + 1 ≡ length (T.spans table.now))
         (λ later. place.index < later.index) }
-    ensures place { IfSome result (λ later. IsPlace (T.pairs table.now) later) }
+    ensures place { IfSome result (λ later. IsPlace (T.spans table.now) later) }
     ensures left { IfSome result (λ later. LeavesAll
-        (need_until (spans_of_pairs (T.pairs table.now)) reserve.now ask.arrivals)
+        (need_until (T.spans table.now) reserve.now ask.arrivals)
         (T.time table.now)
         ask.slots
         left
@@ -232,8 +226,7 @@ fn onward<T: SpareTable, L: Ledger>(
         (steps.new ≡ steps.old)
         (λ later. steps.new ≡ steps.old + 1) }
 {
-    let crosses = place.span.start / PAGE != place.span.end / PAGE;
-    if !(crosses || passes) || has_long_spans(table, ask.now) {
+    if place.span.start / PAGE == place.span.end / PAGE || has_long_spans(table, ask.now) {
         return after(table, place, steps);
     }
     let front = passed_at_once(table, reserve, ask, place, demand, left);
@@ -243,9 +236,9 @@ fn onward<T: SpareTable, L: Ledger>(
 /// Whether spans are a page long or longer on average: there `skip` of our tables passes none.
 #[inline(always)]
 fn has_long_spans<T: SpareTable>(table: &T, now: u64) -> bool
-    requires after { now ≤ last_end (T.time table.now) (spans_of_pairs (T.pairs table.now)) }
-    ensures { IsTrue result ↔ (length (T.pairs table.now) * PAGE
-        ≤ last_end (T.time table.now) (spans_of_pairs (T.pairs table.now)) - now) }
+    requires after { now ≤ last_end (T.time table.now) (T.spans table.now) }
+    ensures { IsTrue result ↔ (length (T.spans table.now) * PAGE
+        ≤ last_end (T.time table.now) (T.spans table.now) - now) }
 {
     u64::from(table.count()) * PAGE <= table.last_end() - now
 }
@@ -262,22 +255,21 @@ fn passed_at_once<T: SpareTable>(
     demand: u64,
     left: u64,
 ) -> Front
-    requires table { IsTable (T.time table.now) (T.pairs table.now) (T.limit table.now) }
-    requires place { IsPlace (T.pairs table.now) place }
+    requires table { IsTable (T.time table.now) (T.spans table.now) (T.limit table.now) }
+    requires place { IsPlace (T.spans table.now) place }
     requires now { ask.now ≡ T.time table.now }
     requires arrivals { ask.arrivals < HORIZON_LIMIT }
-    requires near { last_end (T.time table.now) (spans_of_pairs (T.pairs table.now))
-        < HORIZON_LIMIT }
+    requires near { last_end (T.time table.now) (T.spans table.now) < HORIZON_LIMIT }
     requires some { 1 ≤ ask.slots }
     requires few { ask.slots ≤ OFFER_LIMIT }
     requires small { left < HORIZON_LIMIT }
-    requires demand { demand ≤ demand_limit }
-    ensures front { IsFront (spans_of_pairs (T.pairs table.now)) result }
+    requires demand { demand ≤ 2 * demand_limit }
+    ensures front { IsFront (T.spans table.now) result }
     ensures later { place.index ≤ result.count }
-    ensures within { result.count < length (T.pairs table.now) }
-    ensures left { (later : Span) → span_at (T.pairs table.now) result.count ≡ Some later
+    ensures within { result.count < length (T.spans table.now) }
+    ensures left { (later : Span) → slice_get (T.spans table.now) result.count ≡ Some later
         → LeavesAll
-        (need_until (spans_of_pairs (T.pairs table.now)) reserve.now ask.arrivals)
+        (need_until (T.spans table.now) reserve.now ask.arrivals)
         (T.time table.now)
         ask.slots
         left
@@ -304,7 +296,7 @@ fn far_end(ask: Ask, place: SpanPlace, demand: u64, left: u64) -> u64
     requires due { place.due ≤ 2 ^ 60 }
     requires work { place.span.work ≤ 2 ^ 40 }
     requires small { left < HORIZON_LIMIT }
-    requires demand { demand ≤ demand_limit }
+    requires demand { demand ≤ 2 * demand_limit }
     ensures after { place.span.end + PAGE ≤ result }
 {
     let so_far = place.span.end - ask.now;
@@ -324,21 +316,20 @@ fn passed_before<T: SpareTable>(
     left: u64,
     far: u64,
 ) -> Front
-    requires table { IsTable (T.time table.now) (T.pairs table.now) (T.limit table.now) }
-    requires place { IsPlace (T.pairs table.now) place }
+    requires table { IsTable (T.time table.now) (T.spans table.now) (T.limit table.now) }
+    requires place { IsPlace (T.spans table.now) place }
     requires now { ask.now ≡ T.time table.now }
     requires arrivals { ask.arrivals < HORIZON_LIMIT }
-    requires near { last_end (T.time table.now) (spans_of_pairs (T.pairs table.now))
-        < HORIZON_LIMIT }
+    requires near { last_end (T.time table.now) (T.spans table.now) < HORIZON_LIMIT }
     requires some { 1 ≤ ask.slots }
     requires few { ask.slots ≤ OFFER_LIMIT }
     requires small { left < HORIZON_LIMIT }
-    ensures front { IsFront (spans_of_pairs (T.pairs table.now)) result }
+    ensures front { IsFront (T.spans table.now) result }
     ensures later { place.index ≤ result.count }
-    ensures within { result.count < length (T.pairs table.now) }
-    ensures left { (later : Span) → span_at (T.pairs table.now) result.count ≡ Some later
+    ensures within { result.count < length (T.spans table.now) }
+    ensures left { (later : Span) → slice_get (T.spans table.now) result.count ≡ Some later
         → LeavesAll
-        (need_until (spans_of_pairs (T.pairs table.now)) reserve.now ask.arrivals)
+        (need_until (T.spans table.now) reserve.now ask.arrivals)
         (T.time table.now)
         ask.slots
         left
@@ -348,6 +339,22 @@ fn passed_before<T: SpareTable>(
     let until = table.last_end().min(far);
     let most = reserve.demand(ask.arrivals, until);
     passed(table, place, until, ask.now + ask.slots + left + most)
+}
+
+/// About how many slots sporadic tasks need by a time: those of a level before it, and what the
+/// demand grows by at the mean.
+#[inline(always)]
+fn likely_demand(ask: Ask, level: Level, at: u64) -> u64
+    requires demand { level.demand ≤ demand_limit }
+    requires scaled { ask.growth.scaled ≤ growth_limit }
+    requires burst { ask.growth.burst ≤ burst_limit }
+    ensures { result ≤ 2 * demand_limit }
+{
+    let slots = at.saturating_sub(level.until);
+    if GROWTH_REACH <= slots {
+        return level.demand;
+    }
+    level.demand + ask.growth.most_within(slots) - ask.growth.burst
 }
 
 /// The first time from the end of a span on that is too short, where no sporadic task may need
@@ -361,22 +368,21 @@ fn first_short_start<T: SpareTable, L: Ledger>(
     place: SpanPlace,
     steps: &mut Steps<L>,
 ) -> Evidence
-    requires table { IsTable (T.time table.now) (T.pairs table.now) (T.limit table.now) }
-    requires place { IsPlace (T.pairs table.now) place }
+    requires table { IsTable (T.time table.now) (T.spans table.now) (T.limit table.now) }
+    requires place { IsPlace (T.spans table.now) place }
     requires now { ask.now ≡ T.time table.now }
-    requires near { last_end (T.time table.now) (spans_of_pairs (T.pairs table.now))
-        < HORIZON_LIMIT }
+    requires near { last_end (T.time table.now) (T.spans table.now) < HORIZON_LIMIT }
     requires some { 1 ≤ ask.slots }
     requires few { ask.slots ≤ OFFER_LIMIT }
     requires uncovered { (pos (place.span.start - ask.now) +ℤ place.span.spare)
         <ℤ pos (ask.slots + place.due) }
-    ensures first { let spans = spans_of_pairs (T.pairs table.now) in
+    ensures first { let spans = T.spans table.now in
         let t = T.time table.now in
         (reserve : Reserved) → NeedsNone reserve ask.arrivals (last_end t spans)
         → Some result ≡ option_map (evidence_at spans reserve t ask.arrivals ask.slots)
         (first_short spans reserve t ask.arrivals ask.slots place.span.end) }
     ensures steps { steps.old ≤ steps.new }
-    ensures reads_once { steps.new + place.index + 1 ≤ steps.old + length (T.pairs table.now) }
+    ensures reads_once { steps.new + place.index + 1 ≤ steps.old + length (T.spans table.now) }
 {
     let front = Front {
         count: place.index,
@@ -435,6 +441,7 @@ fn left_between(
 ) -> Result<u64, Evidence>
     requires from { ask.now ≤ from }
     requires arrivals { ask.arrivals < HORIZON_LIMIT }
+    requires growth { IsGrowth reserve.now ask.growth }
     requires near { until ≤ HORIZON_LIMIT }
     requires few { ask.slots + due < 2 ^ 62 }
     requires small { tried.left < HORIZON_LIMIT }
@@ -469,6 +476,7 @@ fn short_between(
 ) -> Option<Evidence>
     requires from { ask.now ≤ from }
     requires arrivals { ask.arrivals < HORIZON_LIMIT }
+    requires growth { IsGrowth reserve.now ask.growth }
     requires near { until ≤ HORIZON_LIMIT }
     requires few { ask.slots + due < 2 ^ 62 }
     requires small { tried.old.left < HORIZON_LIMIT }
@@ -483,19 +491,112 @@ fn short_between(
         reserve.now ask due tried.old.left tried.new.left from until }
     ensures least { tried.new.left ≤ tried.old.left }
 {
-    if until <= from {
-        return None;
-    }
-    if until <= tried.level.until {
-        return short_at(ask, due, from, tried);
+    if until <= from.max(tried.level.until) {
+        return short_before(ask, due, from, until, tried);
     }
     short_by_levels(reserve, ask, due, from, until, tried)
 }
 
-/// The same, tried at `from` and at each rise of the sporadic demand. After some rises the later
-/// times are looked at from the last one on, and those that leave as much are not tried.
+/// The same, where the level ends before `until`. What is due by the last time leaves as much at each
+/// time before it that has room for as much, so only the times before these are tried.
 #[inline(always)]
 fn short_by_levels(
+    reserve: &Reserve,
+    ask: Ask,
+    due: u64,
+    from: u64,
+    until: u64,
+    tried: &mut Tried,
+) -> Option<Evidence>
+    requires from { ask.now ≤ from }
+    requires some { from < until }
+    requires ends { tried.old.level.until < until }
+    requires arrivals { ask.arrivals < HORIZON_LIMIT }
+    requires growth { IsGrowth reserve.now ask.growth }
+    requires near { until ≤ HORIZON_LIMIT }
+    requires few { ask.slots + due < 2 ^ 62 }
+    requires small { tried.old.left < HORIZON_LIMIT }
+    requires level { IsLevelFrom reserve.now ask.arrivals from tried.old.level }
+    ensures short { result
+        ≡ option_map (evidence_of reserve.now ask.now ask.arrivals (ask.slots + due))
+        (find (exceeds reserve.now ask.now ask.arrivals (ask.slots + due))
+        (range_with_len from (until - from))) }
+    ensures level { IsLevelFrom reserve.now ask.arrivals (max from until) tried.new.level }
+    ensures left { result ≡ None → LeavesBetween reserve.now ask due tried.new.left from until }
+    ensures greatest { result ≡ None → MostBetween
+        reserve.now ask due tried.old.left tried.new.left from until }
+    ensures least { tried.new.left ≤ tried.old.left }
+{
+    let at = from.max(tried.level.until);
+    if let Some(evidence) = short_before(ask, due, from, at, tried) {
+        return Some(evidence);
+    }
+    if leaves_by_growth(ask, due, at, until, *tried) {
+        return None;
+    }
+    let last = risen(reserve, ask.arrivals, until - 1);
+    let end = until.min(ask.now + ask.slots + due + tried.left + last.demand);
+    let short = short_by_rises(reserve, ask, due, at, end, tried);
+    tried.level = last;
+    short
+}
+
+/// Whether the level, and the most that the demand may rise after it, tell that the times from `at`
+/// to before `until` leave as much as is left so far.
+#[inline(always)]
+fn leaves_by_growth(ask: Ask, due: u64, at: u64, until: u64, tried: Tried) -> bool
+    requires now { ask.now ≤ at }
+    requires before { at ≤ until }
+    requires ends { tried.level.until ≤ until }
+    requires near { until ≤ HORIZON_LIMIT }
+    requires few { ask.slots + due < 2 ^ 62 }
+    requires small { tried.left < HORIZON_LIMIT }
+    requires demand { tried.level.demand ≤ demand_limit }
+    requires scaled { ask.growth.scaled ≤ growth_limit }
+    requires burst { ask.growth.burst ≤ burst_limit }
+    ensures leaves { (reserve : Reserved) → IsTrue result → IsGrowth reserve ask.growth
+        → IsLevelFrom reserve ask.arrivals at tried.level
+        → LeavesAllBetween reserve ask due tried.left at until }
+{
+    let level = tried.level;
+    let slots = until - level.until;
+    if level.until == 0 || GROWTH_REACH <= slots {
+        return false;
+    }
+    let most = level.demand + ask.growth.most_within(slots);
+    ask.now + ask.slots + due + tried.left + most <= at
+}
+
+/// The same, where the level holds before `until`.
+#[inline(always)]
+fn short_before(ask: Ask, due: u64, from: u64, until: u64, tried: &mut Tried) -> Option<Evidence>
+    requires from { ask.now ≤ from }
+    requires few { ask.slots + due < 2 ^ 62 }
+    requires small { tried.old.level.demand ≤ demand_limit }
+    requires holds { until ≤ max from tried.old.level.until }
+    ensures short { (reserve : Reserved) → IsLevelFrom reserve ask.arrivals from tried.old.level
+        → result ≡ option_map (evidence_of reserve ask.now ask.arrivals (ask.slots + due))
+        (find (exceeds reserve ask.now ask.arrivals (ask.slots + due))
+        (range_with_len from (until - from))) }
+    ensures level { tried.new.level ≡ tried.old.level }
+    ensures left { (reserve : Reserved) → IsLevelFrom reserve ask.arrivals from tried.old.level
+        → result ≡ None → LeavesBetween reserve ask due tried.new.left from until }
+    ensures greatest { (reserve : Reserved)
+        → IsLevelFrom reserve ask.arrivals from tried.old.level → result ≡ None
+        → MostBetween reserve ask due tried.old.left tried.new.left from until }
+    ensures least { tried.new.left ≤ tried.old.left }
+{
+    if until <= from {
+        return None;
+    }
+    short_at(ask, due, from, tried)
+}
+
+/// The same, tried at `from` and at each rise of the sporadic demand. After some rises the later
+/// times are looked at from the last one on, and those that leave as much are not tried. The level
+/// is that of the last time that was tried.
+#[inline(always)]
+fn short_by_rises(
     reserve: &Reserve,
     ask: Ask,
     due: u64,
@@ -513,7 +614,6 @@ fn short_by_levels(
         ≡ option_map (evidence_of reserve.now ask.now ask.arrivals (ask.slots + due))
         (find (exceeds reserve.now ask.now ask.arrivals (ask.slots + due))
         (range_with_len from (until - from))) }
-    ensures level { IsLevelFrom reserve.now ask.arrivals (max from until) tried.new.level }
     ensures left { result ≡ None → LeavesBetween reserve.now ask due tried.new.left from until }
     ensures greatest { result ≡ None → MostBetween
         reserve.now ask due tried.old.left tried.new.left from until }
@@ -530,9 +630,6 @@ fn short_by_levels(
         at = tried.level.until;
         rises += 1;
         end = end_after(reserve, ask, due, at, end, tried.left, rises);
-    }
-    if at < until {
-        tried.level = risen(reserve, ask.arrivals, until - 1);
     }
     None
 }
@@ -643,6 +740,8 @@ fn risen(reserve: &Reserve, arrivals: u64, at: u64) -> Level
     requires arrivals { arrivals < HORIZON_LIMIT }
     requires near { at < HORIZON_LIMIT }
     ensures level { IsLevelFrom reserve.now arrivals at result }
+    ensures most { (z : ℕ) → z ≤ at
+        → sporadic_demand reserve.now.sporadics reserve.now.nexts arrivals z ≤ result.demand }
     ensures after { at < result.until }
 {
     let (demand, rise) = reserve.demand_and_rise(arrivals, at);

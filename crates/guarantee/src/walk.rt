@@ -1,9 +1,9 @@
 //! Places in a table: spans, with the works before them.
 
-ghost use Rattle.std.specs.Prelude.{◌≡◌, ◌+◌, ◌≤◌, ◌<◌, ◌^◌, length, max, IfSome, MatchOption, Some};
+ghost use Rattle.std.specs.Prelude.{◌≡◌, ◌+◌, ◌≤◌, ◌<◌, ◌^◌, length, max, IfSome, MatchOption, Some, slice_get};
 ghost use Rattle.slot_core.specs.declared.jobs.Span.{Span};
 ghost use Rattle.spare_capacity.specs.Recurrence.{last_end};
-ghost use Rattle.interval_row.specs.Tables.{span_at, spans_of_pairs, IsFront, IsTable};
+ghost use Rattle.interval_row.specs.Tables.{IsFront, IsTable};
 ghost use Rattle.guarantee.specs.Places.{IsPlace, MayPass};
 
 use interval_row::{Front, SpareTable, Spot};
@@ -32,9 +32,9 @@ pub(crate) fn place_of<T: SpareTable, L: Ledger>(
     steps: &mut Steps<L>,
 ) -> SpanPlace
     requires after { T.time table.now < time }
-    requires within { time ≤ last_end (T.time table.now) (spans_of_pairs (T.pairs table.now)) }
-    ensures table { IsTable (T.time table.now) (T.pairs table.now) (T.limit table.now) }
-    ensures place { IsPlace (T.pairs table.now) result }
+    requires within { time ≤ last_end (T.time table.now) (T.spans table.now) }
+    ensures table { IsTable (T.time table.now) (T.spans table.now) (T.limit table.now) }
+    ensures place { IsPlace (T.spans table.now) result }
     ensures early { result.span.start < time }
     ensures reached { time ≤ result.span.end }
     ensures steps { steps.old ≤ steps.new }
@@ -62,9 +62,9 @@ pub(crate) fn place_of<T: SpareTable, L: Ledger>(
 /// The place after some of the first spans. One read.
 #[inline(always)]
 fn place_at<T: SpareTable, L: Ledger>(table: &T, front: Front, steps: &mut Steps<L>) -> SpanPlace
-    requires front { IsFront (spans_of_pairs (T.pairs table.now)) front }
-    requires within { front.count < length (T.pairs table.now) }
-    ensures place { IsPlace (T.pairs table.now) result }
+    requires front { IsFront (T.spans table.now) front }
+    requires within { front.count < length (T.spans table.now) }
+    ensures place { IsPlace (T.spans table.now) result }
     ensures index { result.index ≡ front.count }
     ensures one_step { steps.new ≡ steps.old + 1 }
 {
@@ -82,16 +82,16 @@ fn place_at<T: SpareTable, L: Ledger>(table: &T, front: Front, steps: &mut Steps
 /// the place. No span is read.
 #[inline(always)]
 pub(crate) fn passed<T: SpareTable>(table: &T, place: SpanPlace, until: u64, asked: u64) -> Front
-    requires table { IsTable (T.time table.now) (T.pairs table.now) (T.limit table.now) }
-    requires place { IsPlace (T.pairs table.now) place }
-    requires until { until ≤ last_end (T.time table.now) (spans_of_pairs (T.pairs table.now)) }
+    requires table { IsTable (T.time table.now) (T.spans table.now) (T.limit table.now) }
+    requires place { IsPlace (T.spans table.now) place }
+    requires until { until ≤ last_end (T.time table.now) (T.spans table.now) }
     requires some { 1 ≤ asked }
     requires few { asked ≤ 2 ^ 62 }
-    ensures front { IsFront (spans_of_pairs (T.pairs table.now)) result }
+    ensures front { IsFront (T.spans table.now) result }
     ensures later { place.index ≤ result.count }
-    ensures within { result.count < length (T.pairs table.now) }
-    ensures passed { (later : Span) → span_at (T.pairs table.now) result.count ≡ Some later
-        → MayPass (spans_of_pairs (T.pairs table.now)) asked until place.span.end later.start }
+    ensures within { result.count < length (T.spans table.now) }
+    ensures passed { (later : Span) → slice_get (T.spans table.now) result.count ≡ Some later
+        → MayPass (T.spans table.now) asked until place.span.end later.start }
 {
     let front = Front {
         count: place.index,
@@ -109,14 +109,14 @@ pub(crate) fn past<T: SpareTable, L: Ledger>(
     passed: Front,
     steps: &mut Steps<L>,
 ) -> Option<SpanPlace>
-    requires place { IsPlace (T.pairs table.now) place }
-    requires front { IsFront (spans_of_pairs (T.pairs table.now)) passed }
+    requires place { IsPlace (T.spans table.now) place }
+    requires front { IsFront (T.spans table.now) passed }
     requires later { place.index ≤ passed.count }
-    requires within { passed.count < length (T.pairs table.now) }
+    requires within { passed.count < length (T.spans table.now) }
     ensures last { MatchOption result
-        (place.index + 1 ≡ length (T.pairs table.now))
+        (place.index + 1 ≡ length (T.spans table.now))
         (λ later. place.index < later.index) }
-    ensures place { IfSome result (λ later. IsPlace (T.pairs table.now) later) }
+    ensures place { IfSome result (λ later. IsPlace (T.spans table.now) later) }
     ensures index { IfSome result (λ later. later.index ≡ max (place.index + 1) passed.count) }
     ensures steps { MatchOption result
         (steps.new ≡ steps.old)
@@ -135,11 +135,11 @@ pub(crate) fn after<T: SpareTable, L: Ledger>(
     place: SpanPlace,
     steps: &mut Steps<L>,
 ) -> Option<SpanPlace>
-    requires place { IsPlace (T.pairs table.now) place }
+    requires place { IsPlace (T.spans table.now) place }
     ensures last { MatchOption result
-        (place.index + 1 ≡ length (T.pairs table.now))
+        (place.index + 1 ≡ length (T.spans table.now))
         (λ later. later.index ≡ place.index + 1) }
-    ensures place { IfSome result (λ later. IsPlace (T.pairs table.now) later) }
+    ensures place { IfSome result (λ later. IsPlace (T.spans table.now) later) }
     ensures steps { MatchOption result
         (steps.new ≡ steps.old)
         (λ later. steps.new ≡ steps.old + 1) }

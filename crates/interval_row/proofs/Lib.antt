@@ -15,7 +15,6 @@ pub mod RunWalks
 pub mod Searching
 pub mod ShortTimes
 pub mod Skips
-pub mod Spots
 pub mod Stores
 pub mod WalkBack
 pub mod WalkPages

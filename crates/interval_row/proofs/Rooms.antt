@@ -9,7 +9,7 @@ use Rattle.interval_row.specs.Spans.{place_of, with_work_at, AreFilled}
 use Rattle.node_chain.specs.declared.marks.Mark.{Mark}
 use Rattle.interval_row.specs.Marks.{AreMarked}
 use Rattle.interval_row.specs.Stores.{AreKeptMarked, Stored}
-use Rattle.interval_row.specs.Tables.{numbered, spans_of_pairs, IsTable}
+use Rattle.interval_row.specs.Tables.{IsTable}
 use Rattle.interval_row.specs.declared.spans.Change.{Change}
 use Rattle.interval_row.specs.Works.{changed_by, MayChangeBy}
 use Rattle.interval_row.proofs.Cuts.{first_start-cut, length-cut}
@@ -19,7 +19,6 @@ use Rattle.interval_row.proofs.Fillings.{first_start-filled, last_end-filled, le
 use Rattle.interval_row.proofs.Kept.{AreBare, AreFilled-AreBare, AreFilled-AreCopies, AreFilled-appended, AreBare-after_pass, AreBare-cut, AreBare-with_work_at, first_start-after_pass, first_start-FollowOn, length-after_pass}
 use Rattle.interval_row.proofs.Places.{work-le, IsDueAt-span_ending}
 use Rattle.interval_row.proofs.Works.{changed_by-le, first_start-with_work_at, length-with_work_at}
-use Rattle.interval_row.proofs.Spots.{length-numbered, spans_of_pairs-numbered, IsTable-AreFilled}
 
 -- the spans of a table in a room of at most 2 ^ 20 without their marks: rows, with their first start
 -- and their last end of at most 2 ^ 60
@@ -31,26 +30,33 @@ pub record AreKept (spans : List Span) (room time end : ℕ) : Type 0 where
   pub ends : end ≡ last_end 0 spans
   pub near : end ≤ 2 ^ 60
 
-pub IsTable-AreKept : (rows : List Span) (room time end : ℕ) → AreKept rows room time end → IsTable (first_start rows) (numbered 0 rows) room
-IsTable-AreKept rows room time end h = IsTable-AreFilled rows room h.filled h.few h.small
+pub IsTable-AreKept : (rows : List Span) (room time end : ℕ) → AreKept rows room time end → IsTable (first_start rows) rows room
+IsTable-AreKept rows room time end h =
+    record {
+      some = h.filled.some;
+      consecutive = h.filled.consecutive;
+      proper = h.filled.proper;
+      filled = h.filled.filled;
+      few = h.few;
+      small = h.small;
+    }
 
 -- what contracts see of kept rows
 pub record Seen (kept : List Span) (places last : ℕ) (seen : Stored) : Type 0 where
-  pub rows : spans_of_pairs (numbered 0 seen.spans) ≡ kept
-  pub count : length (numbered 0 seen.spans) ≡ length kept
+  pub rows : seen.spans ≡ kept
+  pub count : length seen.spans ≡ length kept
   pub start : first_start seen.spans ≡ first_start kept
-  pub end : last_end (first_start seen.spans) (spans_of_pairs (numbered 0 seen.spans)) ≡ last
+  pub end : last_end (first_start seen.spans) seen.spans ≡ last
   pub room : seen.room ≡ places
 
 pub seen_of : {rows : List Span} {room time end : ℕ} {seen : Stored} → record { spans = rows; room = room } ≡ seen → AreKept rows room time end → Seen rows room end seen
 seen_of {rows = rows} {seen = seen} e h =
     let spans : seen.spans ≡ rows = sym (ap (λ (v : Stored). v.spans) e) in
-    let all : spans_of_pairs (numbered 0 seen.spans) ≡ rows = spans_of_pairs-numbered 0 seen.spans ∙ spans in
     record {
-      rows = all;
-      count = length-numbered 0 seen.spans ∙ ap length spans;
+      rows = spans;
+      count = ap length spans;
       start = ap first_start spans;
-      end = ap (last_end (first_start seen.spans)) all ∙ last_end-some (first_start seen.spans) 0 rows h.filled.some ∙ sym h.ends;
+      end = ap (last_end (first_start seen.spans)) spans ∙ last_end-some (first_start seen.spans) 0 rows h.filled.some ∙ sym h.ends;
       room = sym (ap (λ (v : Stored). v.room) e);
     }
 

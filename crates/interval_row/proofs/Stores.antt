@@ -1,10 +1,14 @@
--- The spans of a chain after a change of its pairs.
+-- What stays of a store, and the spans of a chain after a change of its pairs.
 use Rattle.std.proofs.Common.{◌≡◌, ℕ, zero, suc, ◌-◌, List, [], ◌∷◌, ◌++◌, set, insert, map, take, drop, refl, sym, ap, ◌∙◌}
 use Rattle.std.proofs.lemmas.List.{drop-map, map-append, map-set, take-map}
 use Rattle.slot_core.specs.declared.jobs.Span.{Span}
 use Rattle.node_chain.specs.declared.chain.NodeId.{NodeId}
 use Rattle.node_chain.specs.Raises.{map_between}
-use Rattle.interval_row.specs.Stores.{chain_spans}
+use Rattle.interval_row.specs.Stores.{chain_spans, Keeps}
+
+-- what stays through one change and then another stays through both
+pub Keeps-both : {X N : Type 0} {room_of : X → ℕ} {numbers_of : X → N} {old next new : X} → Keeps room_of numbers_of old next → Keeps room_of numbers_of next new → Keeps room_of numbers_of old new
+Keeps-both first second = record { room = second.room ∙ first.room; numbers = second.numbers ∙ first.numbers }
 
 -- a pair that is set
 pub chain_spans-set : (ps : List (NodeId × Span)) (i : ℕ) (p : NodeId × Span) → chain_spans (set ps i p) ≡ set (chain_spans ps) i p.1

@@ -1,5 +1,5 @@
 -- What a table keeps its spans in.
-use Rattle.std.specs.Prelude.{ℕ, ◌≤◌, ◌^◌, List, length}
+use Rattle.std.specs.Prelude.{◌≡◌, ℕ, ◌≤◌, ◌^◌, List, length}
 use Rattle.slot_core.specs.declared.jobs.Span.{Span}
 use Rattle.node_chain.specs.declared.marks.Mark.{Mark}
 use Rattle.node_chain.specs.Laps.{Laps}
@@ -23,6 +23,18 @@ pub record StoreParts : Type 0 where
   pub spans : List Span
   pub room : ℕ
   pub marks : List Mark
+
+-- a change of spans leaves how many there is room for, and the numbers beside them: the marks of a
+-- store, the laps of a shelf
+pub record Keeps {X N : Type 0} (room_of : X → ℕ) (numbers_of : X → N) (old new : X) : Type 0 where
+  pub room : room_of new ≡ room_of old
+  pub numbers : numbers_of new ≡ numbers_of old
+
+-- a change of the numbers leaves the spans, and how many there is room for
+pub record KeepsSpans {X : Type 0} (spans_of : X → List Span) (room_of : X → ℕ) (old new : X) :
+    Type 0 where
+  pub spans : spans_of new ≡ spans_of old
+  pub room : room_of new ≡ room_of old
 
 -- no more spans than there is room for, at most 2 ^ 20, with a place reserved for each
 pub record FitRoom (order : OrderParts Span) (room : ℕ) : Type 0 where

@@ -7,6 +7,7 @@ ghost use Rattle.spare_capacity.specs.Recurrence.{filled, first_start, last_end}
 ghost use Rattle.interval_row.specs.Changes.{after_pass, appended, cut, ends_before, span_ending, with_work};
 ghost use Rattle.interval_row.specs.Marks.{AreMarked, AreTimed};
 ghost use Rattle.interval_row.specs.Spans.{place_of, AreFilled, HoldsInside};
+ghost use Rattle.interval_row.specs.Stores.{Keeps};
 ghost use Rattle.interval_row.specs.Works.{changed_by, MayChangeBy};
 
 use crate::marks;
@@ -119,8 +120,7 @@ fn halve<S: Store, L: Ledger>(store: &mut S, place: FoundSpan, at: u64, steps: &
     requires span { slice_get (S.spans store.old) place.index ≡ Some place.span }
     requires inside { HoldsInside at place.index (S.spans store.old) }
     ensures spans { S.spans store.new ≡ filled (cut at (S.spans store.old)) }
-    ensures marks { S.marks store.new ≡ S.marks store.old }
-    ensures room { S.room store.new ≡ S.room store.old }
+    ensures kept { Keeps S.room S.marks store.old store.new }
     ensures steps { steps.new ≡ steps.old + 4 }
 {
     let span = place.span;

@@ -9,6 +9,7 @@ ghost use Rattle.interval_row.specs.Changes.{ends_before};
 ghost use Rattle.interval_row.specs.Lifts.{lifted, lifted_by, lowered_by, AreCovered};
 ghost use Rattle.interval_row.specs.Marks.{mark_index, page_of};
 ghost use Rattle.interval_row.specs.Spans.{AreFilled};
+ghost use Rattle.interval_row.specs.Stores.{Keeps, KeepsSpans};
 ghost use Rattle.interval_row.specs.Walks.{after_walk, others_between, AreInPages, HaveAtMost};
 
 use crate::marks::{PAGE, index_of_page, mark_index};
@@ -180,8 +181,7 @@ fn pass_run<S: Shelf>(shelf: &mut S, low: u64, from: PageWalk) -> PageWalk
         → ends_before ((result.page - 1) * PAGE) (S.spans shelf.new) < result.walk.index }
     ensures front { take result.walk.index (lifted (S.laps shelf.new).lifts (S.spans shelf.new))
         ≡ take result.walk.index (lifted (S.laps shelf.old).lifts (S.spans shelf.old)) }
-    ensures kept { S.spans shelf.new ≡ S.spans shelf.old }
-    ensures room { S.room shelf.new ≡ S.room shelf.old }
+    ensures kept { KeepsSpans S.spans S.room shelf.old shelf.new }
     ensures marks { (S.laps shelf.new).marks ≡ (S.laps shelf.old).marks }
 {
     let more = from.walk.more;
@@ -241,8 +241,7 @@ fn follow_run<S: Shelf, L: Ledger>(
     ensures front { take result.walk.index (S.spans shelf.new)
         ≡ take result.walk.index (S.spans shelf.old) }
     ensures rest { drop from.index (S.spans shelf.new) ≡ drop from.index (S.spans shelf.old) }
-    ensures laps { S.laps shelf.new ≡ S.laps shelf.old }
-    ensures room { S.room shelf.new ≡ S.room shelf.old }
+    ensures kept { Keeps S.room S.laps shelf.old shelf.new }
     ensures two_steps { steps.new + 2 * result.walk.index ≡ steps.old + 2 * from.index }
 {
     let raise = Raise {
@@ -295,8 +294,7 @@ fn follow_back<S: Shelf, L: Ledger>(
     ensures front { take result.walk.index (S.spans shelf.new)
         ≡ take result.walk.index (S.spans shelf.old) }
     ensures rest { drop from.index (S.spans shelf.new) ≡ drop from.index (S.spans shelf.old) }
-    ensures laps { S.laps shelf.new ≡ S.laps shelf.old }
-    ensures room { S.room shelf.new ≡ S.room shelf.old }
+    ensures kept { Keeps S.room S.laps shelf.old shelf.new }
     ensures two_steps { steps.new + 2 * result.walk.index ≡ steps.old + 2 * from.index }
 {
     let mut last = Followed {
@@ -341,8 +339,7 @@ fn cover<S: Shelf>(shelf: &mut S, span: Span) -> Lift
       lifts = slice_set (S.laps shelf.old).lifts (mark_index span.end)
           (record result { high = int_max result.high span.spare });
     } }
-    ensures spans { S.spans shelf.new ≡ S.spans shelf.old }
-    ensures room { S.room shelf.new ≡ S.room shelf.old }
+    ensures kept { KeepsSpans S.spans S.room shelf.old shelf.new }
 {
     let index = mark_index(span.end);
     let lift = shelf.lift(index);

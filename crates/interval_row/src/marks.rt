@@ -4,6 +4,7 @@ ghost use Rattle.std.specs.Prelude.{◌≡◌, ◌+◌, ◌%◌, ◌≤◌, ◌<
 ghost use Rattle.slot_core.specs.declared.jobs.Span.{Span};
 ghost use Rattle.node_chain.specs.declared.marks.TheConstants.{LAP};
 ghost use Rattle.interval_row.specs.Marks.{mark_index, passed, with_change, with_cut, with_end, without_end, AreMarked};
+ghost use Rattle.interval_row.specs.Stores.{KeepsSpans};
 
 use crate::spans::Change;
 use crate::store::Store;
@@ -39,8 +40,7 @@ pub(crate) fn mark_at<S: Store>(store: &S, page: u64) -> Mark
 pub(crate) fn put_first_marks<S: Store>(store: &mut S)
     requires marks { length (S.marks store.old) ≡ LAP }
     ensures marked { AreMarked 0 [] (S.marks store.new) }
-    ensures spans { S.spans store.new ≡ S.spans store.old }
-    ensures room { S.room store.new ≡ S.room store.old }
+    ensures kept { KeepsSpans S.spans S.room store.old store.new }
 {
     for index in 0..LAP {
         let mark = Mark {
@@ -63,8 +63,7 @@ pub(crate) fn add_span<S: Store>(store: &mut S, span: Span)
     ensures marks { IfSome (slice_get (S.marks store.old) (mark_index span.end)) (λ m.
         S.marks store.new ≡ slice_set (S.marks store.old) (mark_index span.end)
         (with_end span.end span.work m)) }
-    ensures spans { S.spans store.new ≡ S.spans store.old }
-    ensures room { S.room store.new ≡ S.room store.old }
+    ensures kept { KeepsSpans S.spans S.room store.old store.new }
 {
     let index = mark_index(span.end);
     let mark = store.mark(index);
@@ -83,8 +82,7 @@ pub(crate) fn drop_span<S: Store>(store: &mut S, span: Span)
     ensures marks { IfSome (slice_get (S.marks store.old) (mark_index span.end)) (λ m.
         S.marks store.new ≡ slice_set (S.marks store.old) (mark_index span.end)
         (without_end span.work m)) }
-    ensures spans { S.spans store.new ≡ S.spans store.old }
-    ensures room { S.room store.new ≡ S.room store.old }
+    ensures kept { KeepsSpans S.spans S.room store.old store.new }
 {
     let index = mark_index(span.end);
     let mark = store.mark(index);
@@ -103,8 +101,7 @@ pub(crate) fn cut_span<S: Store>(store: &mut S, at: u64)
         (λ m. m.count ≤ 2 ^ 20) }
     ensures marks { IfSome (slice_get (S.marks store.old) (mark_index at)) (λ m.
         S.marks store.new ≡ slice_set (S.marks store.old) (mark_index at) (with_cut m)) }
-    ensures spans { S.spans store.new ≡ S.spans store.old }
-    ensures room { S.room store.new ≡ S.room store.old }
+    ensures kept { KeepsSpans S.spans S.room store.old store.new }
 {
     let index = mark_index(at);
     let mark = store.mark(index);
@@ -122,8 +119,7 @@ pub(crate) fn change_span<S: Store>(store: &mut S, end: u64, change: Change)
         (λ m. m.works ≤ 2 ^ 60) }
     ensures marks { IfSome (slice_get (S.marks store.old) (mark_index end)) (λ m.
         S.marks store.new ≡ slice_set (S.marks store.old) (mark_index end) (with_change change m)) }
-    ensures spans { S.spans store.new ≡ S.spans store.old }
-    ensures room { S.room store.new ≡ S.room store.old }
+    ensures kept { KeepsSpans S.spans S.room store.old store.new }
 {
     let index = mark_index(end);
     let after = changed(store.mark(index), change);
@@ -154,8 +150,7 @@ pub(crate) fn pass_time<S: Store>(store: &mut S, time: u64)
     requires near { time ≤ 2 ^ 60 }
     ensures marked { (spans : List Span) → AreMarked time spans (S.marks store.old)
         → AreMarked (time + 1) spans (S.marks store.new) }
-    ensures spans { S.spans store.new ≡ S.spans store.old }
-    ensures room { S.room store.new ≡ S.room store.old }
+    ensures kept { KeepsSpans S.spans S.room store.old store.new }
 {
     if (time + 1) % PAGE == 0 {
         leave_page(store, time);
@@ -169,8 +164,7 @@ fn leave_page<S: Store>(store: &mut S, time: u64)
     requires near { time ≤ 2 ^ 60 }
     ensures marks { IfSome (slice_get (S.marks store.old) (mark_index time)) (λ m.
         S.marks store.new ≡ slice_set (S.marks store.old) (mark_index time) (passed time m)) }
-    ensures spans { S.spans store.new ≡ S.spans store.old }
-    ensures room { S.room store.new ≡ S.room store.old }
+    ensures kept { KeepsSpans S.spans S.room store.old store.new }
 {
     let index = mark_index(time);
     let mark = store.mark(index);

@@ -9,6 +9,7 @@ ghost use Rattle.node_chain.specs.declared.marks.Mark.{Mark};
 ghost use Rattle.node_chain.specs.Passes.{lifts_passed, spans_ending};
 ghost use Rattle.node_chain.specs.Searches.{works_of_first};
 ghost use Rattle.node_chain.specs.Raises.{lifted_by, map_between, passes_on, spare_after, spare_under};
+ghost use Rattle.interval_row.specs.Stores.{Keeps, KeepsSpans};
 
 use node_chain::{Chain, Found, Lift, Mark, Pass, Passed, Raise, Raised, Search};
 use slot_core::{Memory, Span, Steps};
@@ -81,8 +82,7 @@ pub trait Shelf: Drop {
     fn set<L: Ledger>(&mut self, index: u32, span: Span, steps: &mut Steps<L>)
         requires { index < length (spans self.old) }
         ensures spans { spans self.new ≡ slice_set (spans self.old) index span }
-        ensures room { room self.new ≡ room self.old }
-        ensures laps { laps self.new ≡ laps self.old }
+        ensures kept { Keeps room laps self.old self.new }
         ensures one_step { steps.new ≡ steps.old + 1 };
 
     /// Gives the spans before an index, the last first, so much more capacity each, up to the first
@@ -101,8 +101,7 @@ pub trait Shelf: Drop {
             (λ s. passes_on raise s ≡ false) }
         ensures high { (i : ℕ) → (s : Span) → 1 ≤ i → result.index ≤ i → i < from
             → slice_get (spans self.old) i ≡ Some s → spare_after raise s ≤ℤ result.high }
-        ensures room { room self.new ≡ room self.old }
-        ensures laps { laps self.new ≡ laps self.old }
+        ensures kept { Keeps room laps self.old self.new }
         ensures two_steps { steps.new ≡ steps.old + 2 * (from - result.index) };
 
     /// Puts a span in before the one there. Three steps.
@@ -110,16 +109,14 @@ pub trait Shelf: Drop {
         requires within { index < length (spans self.old) }
         requires free { length (spans self.old) < room self.old }
         ensures spans { spans self.new ≡ insert (spans self.old) index span }
-        ensures room { room self.new ≡ room self.old }
-        ensures laps { laps self.new ≡ laps self.old }
+        ensures kept { Keeps room laps self.old self.new }
         ensures three_steps { steps.new ≡ steps.old + 3 };
 
     /// Appends a span. Two steps.
     fn push<L: Ledger>(&mut self, span: Span, steps: &mut Steps<L>)
         requires { length (spans self.old) < room self.old }
         ensures spans { spans self.new ≡ spans self.old ++ span ∷ [] }
-        ensures room { room self.new ≡ room self.old }
-        ensures laps { laps self.new ≡ laps self.old }
+        ensures kept { Keeps room laps self.old self.new }
         ensures two_steps { steps.new ≡ steps.old + 2 };
 
     /// Takes the first span out. Two steps.
@@ -127,8 +124,7 @@ pub trait Shelf: Drop {
         requires { 0 < length (spans self.old) }
         ensures first { slice_get (spans self.old) 0 ≡ Some result }
         ensures rest { spans self.new ≡ drop 1 (spans self.old) }
-        ensures room { room self.new ≡ room self.old }
-        ensures laps { laps self.new ≡ laps self.old }
+        ensures kept { Keeps room laps self.old self.new }
         ensures two_steps { steps.new ≡ steps.old + 2 };
 
     /// The mark at an index.
@@ -139,8 +135,7 @@ pub trait Shelf: Drop {
     /// Puts another mark at an index.
     fn set_mark(&mut self, index: u32, mark: Mark)
         requires { index < LAP }
-        ensures spans { spans self.new ≡ spans self.old }
-        ensures room { room self.new ≡ room self.old }
+        ensures kept { KeepsSpans spans room self.old self.new }
         ensures laps { laps self.new
             ≡ record (laps self.old) { marks = slice_set (laps self.old).marks index mark } };
 
@@ -175,14 +170,12 @@ pub trait Shelf: Drop {
             (λ lift. pass.limit <ℤ lift.high) }
         ensures count { result.count
             ≡ spans_ending (laps self.old).marks result.index (end - result.index) }
-        ensures spans { spans self.new ≡ spans self.old }
-        ensures room { room self.new ≡ room self.old };
+        ensures kept { KeepsSpans spans room self.old self.new };
 
     /// Puts another lift at an index.
     fn set_lift(&mut self, index: u32, lift: Lift)
         requires { index < LAP }
-        ensures spans { spans self.new ≡ spans self.old }
-        ensures room { room self.new ≡ room self.old }
+        ensures kept { KeepsSpans spans room self.old self.new }
         ensures laps { laps self.new
             ≡ record (laps self.old) { lifts = slice_set (laps self.old).lifts index lift } };
 }

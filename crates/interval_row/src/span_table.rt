@@ -5,7 +5,7 @@ ghost use Rattle.slot_core.specs.declared.TheConstants.{SHOWN_LIMIT};
 ghost use Rattle.spare_capacity.specs.PlanSpans.{ArePlanSpans};
 ghost use Rattle.spare_capacity.specs.Recurrence.{filled, first_start};
 ghost use Rattle.interval_row.specs.Changes.{copies_of, ends_before, span_ending, with_work};
-ghost use Rattle.interval_row.specs.Tables.{numbered, spans_of_pairs, IsTable};
+ghost use Rattle.interval_row.specs.Tables.{IsTable};
 ghost use Rattle.interval_row.specs.Works.{changed_by, MayChangeBy};
 
 use crate::lifted::Lifted;
@@ -70,8 +70,7 @@ impl<S: Store> Table<S> {
     ) -> bool
         requires { IsSomeAnd (span_ending deadline self.old.spans)
             (λ s. MayChangeBy change s.work) }
-        ensures table { IsTable
-            (first_start self.new.spans) (numbered 0 self.new.spans) self.new.room }
+        ensures table { IsTable (first_start self.new.spans) self.new.spans self.new.room }
         ensures time { first_start self.new.spans ≡ first_start self.old.spans }
         ensures spans { self.new.spans
             ≡ filled (with_work (changed_by change) deadline self.old.spans) }
@@ -79,8 +78,7 @@ impl<S: Store> Table<S> {
             ≡ drop 1 (take SHOWN_LIMIT self.old.spans) }
         ensures room { self.new.room ≡ self.old.room }
         ensures steps { steps.old ≤ steps.new }
-        ensures few_steps { steps.new ≤ steps.old
-            + 3 * ends_before deadline self.old.spans + 3 }
+        ensures few_steps { steps.new ≤ steps.old + 3 * ends_before deadline self.old.spans + 3 }
     {
         let changed = changes::change_work(
             &mut self.chain,
@@ -96,19 +94,18 @@ impl<S: Store> Table<S> {
 }
 
 impl<S: Store> SpareTable for Table<S> {
-    ghost use Rattle.interval_row.specs.Tables.{numbered};
     ghost use Rattle.spare_capacity.specs.Recurrence.{first_start};
 
     ghost time = { λ t. first_start t.spans };
 
-    ghost pairs = { λ t. numbered 0 t.spans };
+    ghost spans = { λ t. t.spans };
 
     ghost limit = { λ t. t.room };
 
     ghost counted = { S.counted };
 
-    fn with_room(alloc: Global, spans: &[Span], copies: u32, room: u32) -> Result<Self, Memory> {
-        filled_table::<S, Brand>(alloc, spans, copies, room, Blank::new(1))
+    fn with_room(alloc: Global, cycle: &[Span], copies: u32, room: u32) -> Result<Self, Memory> {
+        filled_table::<S, Brand>(alloc, cycle, copies, room, Blank::new(1))
     }
 
     fn count(&self) -> u32 {
@@ -184,9 +181,9 @@ impl<S: Store> SpareTable for Table<S> {
         self.hint = changes::split(&mut self.chain, self.times, at, steps);
     }
 
-    fn append_cycle<L: Ledger>(&mut self, spans: &[Span], steps: &mut Steps<L>) {
-        changes::append(&mut self.chain, spans, self.times.end, steps);
-        self.times.end += spans::last_end(spans);
+    fn append_cycle<L: Ledger>(&mut self, cycle: &[Span], steps: &mut Steps<L>) {
+        changes::append(&mut self.chain, cycle, self.times.end, steps);
+        self.times.end += spans::last_end(cycle);
     }
 }
 
@@ -205,11 +202,9 @@ fn filled_table<S: Store, L: Ledger>(
     requires some { 1 ≤ copies }
     requires fits { copies * length spans.now ≤ room }
     requires few { room ≤ 2 ^ 20 }
-    ensures table { IfOk result (λ made. IsTable
-        (first_start made.spans) (numbered 0 made.spans) made.room) }
+    ensures table { IfOk result (λ made. IsTable (first_start made.spans) made.spans made.room) }
     ensures time { IfOk result (λ made. first_start made.spans ≡ 0) }
-    ensures spans { IfOk result (λ made.
-        spans_of_pairs (numbered 0 made.spans) ≡ copies_of spans.now copies) }
+    ensures spans { IfOk result (λ made. made.spans ≡ copies_of spans.now copies) }
     ensures room { IfOk result (λ made. made.room ≡ room) }
 {
     let mut steps: Steps<L> = Steps::new(blank);

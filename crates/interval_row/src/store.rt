@@ -12,6 +12,7 @@ ghost use Rattle.interval_row.specs.Changes.{ends_before};
 ghost use Rattle.interval_row.specs.Lifts.{AreAtMost};
 ghost use Rattle.interval_row.specs.Marks.{page_of};
 ghost use Rattle.interval_row.specs.Spans.{AreFilled};
+ghost use Rattle.interval_row.specs.Stores.{Keeps, KeepsSpans};
 ghost use Rattle.interval_row.specs.Walks.{after_walk, others_between, AreInPages, HaveAtMost};
 
 use crate::walk_back::{Followed, PageWalk, Walk};
@@ -87,8 +88,7 @@ pub trait Store: Drop {
     fn set<L: Ledger>(&mut self, index: u32, span: Span, steps: &mut Steps<L>)
         requires { index < length (spans self.old) }
         ensures spans { spans self.new ≡ slice_set (spans self.old) index span }
-        ensures room { room self.new ≡ room self.old }
-        ensures marks { marks self.new ≡ marks self.old }
+        ensures kept { Keeps room marks self.old self.new }
         ensures one_step { steps.new ≡ steps.old + 1 };
 
     /// The last spans that are yet to follow in a walk back do: those that end in the page, as long
@@ -110,8 +110,7 @@ pub trait Store: Drop {
             (λ s. s.start ≡ result.start) }
         ensures high { HaveAtMost result.high
             (others_between result.walk.index from.index (spans self.new)) }
-        ensures room { room self.new ≡ room self.old }
-        ensures marks { marks self.new ≡ marks self.old }
+        ensures kept { Keeps room marks self.old self.new }
         ensures two_steps { steps.new + 2 * result.walk.index ≡ steps.old + 2 * from.index };
 
     /// Puts a span in before the one that stands there. Three steps.
@@ -119,16 +118,14 @@ pub trait Store: Drop {
         requires there { slice_get (spans self.old) index ≡ Some there }
         requires free { length (spans self.old) < room self.old }
         ensures spans { spans self.new ≡ insert (spans self.old) index span }
-        ensures room { room self.new ≡ room self.old }
-        ensures marks { marks self.new ≡ marks self.old }
+        ensures kept { Keeps room marks self.old self.new }
         ensures three_steps { steps.new ≡ steps.old + 3 };
 
     /// Appends a span. Two steps.
     fn push<L: Ledger>(&mut self, span: Span, steps: &mut Steps<L>)
         requires { length (spans self.old) < room self.old }
         ensures spans { spans self.new ≡ spans self.old ++ span ∷ [] }
-        ensures room { room self.new ≡ room self.old }
-        ensures marks { marks self.new ≡ marks self.old }
+        ensures kept { Keeps room marks self.old self.new }
         ensures two_steps { steps.new ≡ steps.old + 2 };
 
     /// Takes the first span out. Two steps.
@@ -136,8 +133,7 @@ pub trait Store: Drop {
         requires { 0 < length (spans self.old) }
         ensures first { slice_get (spans self.old) 0 ≡ Some result }
         ensures rest { spans self.new ≡ drop 1 (spans self.old) }
-        ensures room { room self.new ≡ room self.old }
-        ensures marks { marks self.new ≡ marks self.old }
+        ensures kept { Keeps room marks self.old self.new }
         ensures two_steps { steps.new ≡ steps.old + 2 };
 
     /// The mark at an index.
@@ -148,8 +144,7 @@ pub trait Store: Drop {
     /// Puts another mark at an index.
     fn set_mark(&mut self, index: u32, mark: Mark)
         requires { index < LAP }
-        ensures spans { spans self.new ≡ spans self.old }
-        ensures room { room self.new ≡ room self.old }
+        ensures kept { KeepsSpans spans room self.old self.new }
         ensures marks { marks self.new ≡ slice_set (marks self.old) index mark };
 
     /// It is told that no capacity of the spans that end in the pages of this mark is above this
@@ -158,8 +153,7 @@ pub trait Store: Drop {
         requires index { index < LAP }
         requires below { AreAtMost index high (drop 1 (spans self.old)) }
         ensures spans { spans self.new ≡ spans self.old }
-        ensures room { room self.new ≡ room self.old }
-        ensures marks { marks self.new ≡ marks self.old };
+        ensures kept { Keeps room marks self.old self.new };
 
     /// Pages follow in a walk back, the last first, without a step: those in which no span ends,
     /// and such of which the spans, but for the first of all, are known to have no capacity, before
@@ -182,6 +176,5 @@ pub trait Store: Drop {
             → ends_before ((result.page - 1) * PAGE) (spans self.new) < result.walk.index }
         ensures front { take result.walk.index (spans self.new)
             ≡ take result.walk.index (spans self.old) }
-        ensures room { room self.new ≡ room self.old }
-        ensures marks { marks self.new ≡ marks self.old };
+        ensures kept { Keeps room marks self.old self.new };
 }

@@ -5,6 +5,7 @@ ghost use Rattle.spare_capacity.specs.Recurrence.{filled, first_spare, with_spar
 ghost use Rattle.interval_row.specs.Changes.{span_ending};
 ghost use Rattle.interval_row.specs.Marks.{AreTimed};
 ghost use Rattle.interval_row.specs.Spans.{place_of, with_work_at, AreFilled};
+ghost use Rattle.interval_row.specs.Stores.{Keeps};
 ghost use Rattle.interval_row.specs.Walks.{after_walk};
 
 use crate::marks::PAGE;
@@ -92,8 +93,7 @@ fn set_span<S: Store, L: Ledger>(
     ensures front { take place.index (S.spans store.new) ≡ take place.index (S.spans store.old) }
     ensures index { result.index ≡ place.index }
     ensures placed { slice_get (S.spans store.new) place.index ≡ Some span }
-    ensures room { S.room store.new ≡ S.room store.old }
-    ensures marks { S.marks store.new ≡ S.marks store.old }
+    ensures kept { Keeps S.room S.marks store.old store.new }
     ensures one_step { steps.new ≡ steps.old + 1 }
 {
     store.set(place.index, span, steps);
@@ -123,8 +123,7 @@ pub(crate) fn set_work<S: Store, L: Ledger>(
     ensures spans { S.spans store.new
         ≡ filled (with_work_at place.index span.work (S.spans store.old)) }
     ensures front { take result (S.spans store.new) ≡ take result (S.spans store.old) }
-    ensures room { S.room store.new ≡ S.room store.old }
-    ensures marks { S.marks store.new ≡ S.marks store.old }
+    ensures kept { Keeps S.room S.marks store.old store.new }
     ensures steps { steps.old ≤ steps.new }
     ensures few_steps { steps.new ≤ steps.old + 2 * place.index + 1 }
 {

@@ -6,6 +6,7 @@ ghost use Rattle.spare_capacity.specs.Recurrence.{first_start, last_end};
 ghost use Rattle.interval_row.specs.Changes.{ends_before};
 ghost use Rattle.interval_row.specs.Marks.{page_of};
 ghost use Rattle.interval_row.specs.Spans.{AreFilled};
+ghost use Rattle.interval_row.specs.Stores.{Keeps};
 ghost use Rattle.interval_row.specs.Walks.{after_walk, AreInPages, IsPageOf};
 
 use crate::marks::{self, PAGE};
@@ -53,8 +54,7 @@ pub(crate) fn follow_all<S: Store, L: Ledger>(
     ensures spans { S.spans store.new ≡ after_walk from (S.spans store.old) }
     ensures front { take result (S.spans store.new) ≡ take result (S.spans store.old) }
     ensures before { result ≤ from.index }
-    ensures room { S.room store.new ≡ S.room store.old }
-    ensures marks { S.marks store.new ≡ S.marks store.old }
+    ensures kept { Keeps S.room S.marks store.old store.new }
     ensures steps { steps.old ≤ steps.new }
     ensures few_steps { steps.new ≤ steps.old + 2 * from.index }
 {
@@ -86,8 +86,7 @@ pub(crate) fn follow_rest<S: Store, L: Ledger>(
         → result.index ≡ ends_before (page * PAGE) (S.spans store.new) }
     ensures front { take result.index (S.spans store.new) ≡ take result.index (S.spans store.old) }
     ensures before { result.index ≤ from.index }
-    ensures room { S.room store.new ≡ S.room store.old }
-    ensures marks { S.marks store.new ≡ S.marks store.old }
+    ensures kept { Keeps S.room S.marks store.old store.new }
     ensures steps { steps.old ≤ steps.new }
     ensures few_steps { steps.new + 2 * result.index ≤ steps.old + 2 * from.index }
 {
@@ -117,8 +116,7 @@ fn follow_page<S: Store, L: Ledger>(
         → result.index ≡ ends_before (page * PAGE) (S.spans store.new) }
     ensures front { take result.index (S.spans store.new) ≡ take result.index (S.spans store.old) }
     ensures before { result.index ≤ from.index }
-    ensures room { S.room store.new ≡ S.room store.old }
-    ensures marks { S.marks store.new ≡ S.marks store.old }
+    ensures kept { Keeps S.room S.marks store.old store.new }
     ensures steps { steps.old ≤ steps.new }
     ensures few_steps { steps.new + 2 * result.index ≤ steps.old + 2 * from.index }
 {
@@ -152,8 +150,7 @@ fn follow_some<S: Store, L: Ledger>(
     ensures front { take result.walk.index (S.spans store.new)
         ≡ take result.walk.index (S.spans store.old) }
     ensures passed { result.walk.index ≤ from.walk.index }
-    ensures room { S.room store.new ≡ S.room store.old }
-    ensures marks { S.marks store.new ≡ S.marks store.old }
+    ensures kept { Keeps S.room S.marks store.old store.new }
     ensures steps { steps.old ≤ steps.new }
     ensures few_steps { steps.new + 2 * result.walk.index ≤ steps.old + 2 * from.walk.index }
 {
@@ -184,8 +181,7 @@ pub(crate) fn follow_pages<S: Store, L: Ledger>(
     ensures spans { S.spans store.new ≡ after_walk from.walk (S.spans store.old) }
     ensures front { take result (S.spans store.new) ≡ take result (S.spans store.old) }
     ensures before { result ≤ from.walk.index }
-    ensures room { S.room store.new ≡ S.room store.old }
-    ensures marks { S.marks store.new ≡ S.marks store.old }
+    ensures kept { Keeps S.room S.marks store.old store.new }
     ensures steps { steps.old ≤ steps.new }
     ensures few_steps { steps.new ≤ steps.old + 2 * from.walk.index }
 {

@@ -1,8 +1,7 @@
 //! Calls that a generator draws, each time against a plain list with capacities from nothing, on
 //! spans of several pages of time.
 
-ghost use Rattle.std.specs.Prelude.{◌≡◌, ◌<◌};
-ghost use Rattle.interval_row.specs.Tables.{IsLive};
+ghost use Rattle.std.specs.Prelude.{◌≡◌, ◌<◌, length};
 
 use crate::fronts::expect_fronts;
 use interval_row::{ChainTable, RowTable, SpareTable, Spot};
@@ -241,7 +240,7 @@ fn append(list: &mut Vec<Span>, by: u64) -> Result<(), Memory> {
 
 /// The spot of the span at this place, or of the last one.
 fn spot_near<T: SpareTable>(table: &T, place: u32) -> Spot
-    ensures { IsLive (T.pairs table.now) result }
+    ensures { result.0 < length (T.spans table.now) }
 {
     let mut spot = table.first();
     for _place in 0..place {

@@ -1,7 +1,7 @@
 //! Spots and fronts of a table, against what a plain list says.
 
 ghost use Rattle.std.specs.Prelude.{◌≡◌, ◌<◌};
-ghost use Rattle.interval_row.specs.Tables.{spans_of_pairs, IsFront};
+ghost use Rattle.interval_row.specs.Tables.{IsFront};
 
 use crate::span_tables::span;
 use interval_row::{ChainTable, Front, SpareTable};
@@ -122,8 +122,8 @@ fn expect_skip<R: Abort, T: SpareTable, L: Ledger>(
     list: &[Span],
     steps: &mut Steps<L>,
 ) -> Front
-    requires { IsFront (spans_of_pairs (T.pairs table.now)) front }
-    ensures { IsFront (spans_of_pairs (T.pairs table.now)) result }
+    requires { IsFront (T.spans table.now) front }
+    ensures { IsFront (T.spans table.now) result }
 {
     let until = table
         .time()

@@ -2,7 +2,6 @@
 
 ghost use Rattle.std.specs.Prelude.{◌≡◌, ◌<◌, ◌≤◌, pos, ◌≤ℤ◌};
 ghost use Rattle.spare_capacity.specs.Recurrence.{first_spare};
-ghost use Rattle.interval_row.specs.Tables.{spans_of_pairs};
 
 use guarantee::{Answer, SoftRoom, may_run_soft, soft_room, test};
 use interval_row::{RowTable, SpareTable};
@@ -128,7 +127,7 @@ fn expect_offers<R: Abort, T: SpareTable, L: Ledger>(
     offers: &[(u64, u32, Answer)],
     steps: &mut Steps<L>,
 )
-    requires { pos 0 ≤ℤ first_spare (spans_of_pairs (T.pairs table.now)) }
+    requires { pos 0 ≤ℤ first_spare (T.spans table.now) }
 {
     for (dl, c, answer) in offers {
         assert!(rt;
@@ -146,7 +145,7 @@ fn answer_of<T: SpareTable, L: Ledger>(
     c: u32,
     steps: &mut Steps<L>,
 ) -> Option<Answer>
-    requires { pos 0 ≤ℤ first_spare (spans_of_pairs (T.pairs table.now)) }
+    requires { pos 0 ≤ℤ first_spare (T.spans table.now) }
 {
     let end = table.last_end();
     if dl <= table.time() || end < dl || HORIZON_LIMIT <= end || c < 1 || OFFER_LIMIT < c {

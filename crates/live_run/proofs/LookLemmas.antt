@@ -48,17 +48,18 @@ was-exact exec ran h stands first (inr (inl none)) = inr (inl none)
 was-exact exec ran h stands first (inr (inr (row, is))) =
     inr (inr (row, ran-told ran (Soft row) (first ∙ is)))
 
-pub TellsLook-told : (exec : Executive) (most count : ℕ) (ran : Ran) (h : History) → StandsFor exec h → 1 ≤ count → count ≤ most
+pub TellsLook-told : (exec : Executive) (most count : ℕ) (ran : Ran) (h : History) → StandsFor exec h → 1 ≤ count → count ≤ most → count ≤ exec.plan.cycle
     → TellsAhead exec.plan.tasks exec.plan.cycle (told_of_slot ran) count h
     → ((exec.scene.soft ≡ []) ⊎ (exec.plan.tasks.sporadics ≡ []) ⊎ ((row : ℕ) × (ran ≡ RanKey (Soft row))) → count < most → count < exec.plan.cycle → TellsOtherAfter exec.plan.tasks exec.plan.cycle (told_of_slot ran) count h)
     → TellsLook exec.plan.tasks exec.plan.cycle h most (look_line exec.plan.tasks (told_of_slot ran) count)
-TellsLook-told exec most count ran h stands some few ahead longest =
+TellsLook-told exec most count ran h stands some few within ahead longest =
     let p = exec.plan in
     let first = tells-first p.tasks p.cycle (told_of_slot ran) count h some ahead in (
       count,
       record {
         some = some;
         few = few;
+        within = within;
         same = subst (λ w. TellsAhead p.tasks p.cycle w count h) first ahead;
         longest = λ exact less short.
             subst (λ w. TellsOtherAfter p.tasks p.cycle w count h) first (longest (was-exact exec ran h stands first exact) less short);

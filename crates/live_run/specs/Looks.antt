@@ -18,12 +18,14 @@ IsExact set cycle h =
     ((scene_of set cycle h).soft ≡ []) ⊎ (set.sporadics ≡ [])
     ⊎ ((row : ℕ) × (told_of set cycle h slot ≡ Run (Soft row)))
 
--- so many slots are told ahead of a history, at least one and at most `most`: of each of them the
--- same is told as of the next one, where nothing arrives; and of the one after them something else,
--- where the number is to be the greatest one, below `most` and below a cycle
+-- this number of slots is told ahead of a history, at least one, at most `most`, and at most a
+-- cycle: of each of them the same is told as of the next one, where nothing arrives; and of the one
+-- after them something else, where the number is to be the greatest one, below `most` and below a
+-- cycle
 pub record IsLook (set : TaskSet) (cycle : ℕ) (h : History) (most count : ℕ) : Type 0 where
   pub some : 1 ≤ count
   pub few : count ≤ most
+  pub within : count ≤ cycle
   pub same : TellsAhead set cycle (told_of set cycle h slot) count h
   pub longest :
       IsExact set cycle h → count < most → count < cycle

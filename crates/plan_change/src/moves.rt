@@ -47,7 +47,8 @@ pub struct Refusal {
     pub evidence: Evidence,
 }
 
-/// Whether no slot has passed and nothing has arrived.
+/// Whether no slot has passed, and no arrival has had a row above 0. An early end or a withdrawal
+/// in row 0 finds no job that has started or was offered, and changes nothing.
 pub fn is_fresh<T: SpareTable>(exec: &Exec<T>) -> bool
     ensures fresh { (result ≡ true) ↔ StandsFor exec.now started }
     ensures test { result ≡ (exec.now.scene.time == 0 && exec.now.last_row == 0) }

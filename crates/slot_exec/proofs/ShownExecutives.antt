@@ -22,20 +22,15 @@ use Rattle.slot_core.specs.Runs.ShownSpans.{ShownSpans}
 use Rattle.slot_facts.proofs.Lists.Members.{Has-from_slice_get}
 use Rattle.slot_facts.proofs.Plans.FirstSpans.{shown-first}
 use Rattle.slot_facts.proofs.Replays.Named.{remaining-named}
-use Rattle.interval_row.specs.declared.table.Spot.{Spot}
-use Rattle.interval_row.specs.Tables.{spans_of_pairs}
-use Rattle.guarantee.proofs.Tables.{length-spans_of_pairs}
 use Rattle.scene_steps.proofs.Same.Events.{Shows-from_scene}
 use Rattle.slot_exec.specs.declared.rooms.Remembered.{Remembered}
 use Rattle.slot_exec.specs.Parts.{IsExecutive}
 
 -- the first spans of its table are those that are shown at each history for which it stands
-pub Shows-parts : (exec : Executive) (pairs : List (Spot × Span)) (reserved : List Sporadic) (limit capacity most : ℕ) (shown : ShownSpans) {known : Remembered} → IsExecutive exec (spans_of_pairs pairs) reserved limit capacity most known → shown ≡ record { spans = take SHOWN_LIMIT (spans_of_pairs pairs); more = length pairs - SHOWN_LIMIT } → Shows exec shown
-Shows-parts exec pairs reserved limit capacity most shown parts is =
+pub Shows-parts : (exec : Executive) (spans : List Span) (reserved : List Sporadic) (limit capacity most : ℕ) (shown : ShownSpans) {known : Remembered} → IsExecutive exec spans reserved limit capacity most known → shown ≡ record { spans = take SHOWN_LIMIT spans; more = length spans - SHOWN_LIMIT } → Shows exec shown
+Shows-parts exec spans reserved limit capacity most shown parts is =
     let scene = exec.scene in
-    let more = ap (λ n. n - SHOWN_LIMIT) (sym (length-spans_of_pairs pairs)) in
-    let first = is ∙ ap (λ n. record { spans = take SHOWN_LIMIT (spans_of_pairs pairs); more = n }) more in
-    let all = shown-first scene.jobs (horizon exec.plan.cycle scene.time) scene.time scene.points shown (spans_of_pairs pairs) first parts.spans in
+    let all = shown-first scene.jobs (horizon exec.plan.cycle scene.time) scene.time scene.points shown spans is parts.spans in
     subst (Shows exec) (sym all) (Shows-from_scene exec parts.plan parts.stands)
 
 -- at most three cycles of jobs remain

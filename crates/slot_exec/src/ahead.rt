@@ -5,7 +5,6 @@ ghost use Rattle.std.specs.Option.{option_copied};
 ghost use Rattle.slot_core.specs.declared.TheConstants.{HORIZON_LIMIT, OFFER_LIMIT};
 ghost use Rattle.slot_core.specs.Feasibility.Sporadics.{sporadic_demand};
 ghost use Rattle.spare_capacity.specs.Recurrence.{last_end};
-ghost use Rattle.interval_row.specs.Tables.{spans_of_pairs};
 ghost use Rattle.guarantee.specs.Offers.{soft_fits, IsShortAfter};
 ghost use Rattle.slot_exec.specs.Ahead.{first_left, slots_to_start, AreFree, IsTightFor, JobStays, MayTell, SoftStays, Stays};
 
@@ -32,13 +31,11 @@ pub(crate) fn slots_of<T: SpareTable, L: Ledger>(
 ) -> u32
     requires some { 1 ≤ most }
     requires few { most ≤ OFFER_LIMIT }
-    requires within { T.time table.now + most
-        < last_end (T.time table.now) (spans_of_pairs (T.pairs table.now)) }
-    requires near { last_end (T.time table.now) (spans_of_pairs (T.pairs table.now))
-        < HORIZON_LIMIT }
+    requires within { T.time table.now + most < last_end (T.time table.now) (T.spans table.now) }
+    requires near { last_end (T.time table.now) (T.spans table.now) < HORIZON_LIMIT }
     requires chosen { MayTell
         chosen
-        (spans_of_pairs (T.pairs table.now))
+        (T.spans table.now)
         reserve.now
         (T.time table.now)
         soft.now.items
@@ -47,7 +44,7 @@ pub(crate) fn slots_of<T: SpareTable, L: Ledger>(
     ensures few { result ≤ most }
     ensures stays { Stays
         chosen
-        (spans_of_pairs (T.pairs table.now))
+        (T.spans table.now)
         reserve.now
         (T.time table.now)
         queue.now.jobs
@@ -97,17 +94,14 @@ fn slots_of_soft<T: SpareTable, L: Ledger>(
 ) -> u32
     requires some { 1 ≤ most }
     requires few { most ≤ OFFER_LIMIT }
-    requires within { T.time table.now + most
-        < last_end (T.time table.now) (spans_of_pairs (T.pairs table.now)) }
-    requires near { last_end (T.time table.now) (spans_of_pairs (T.pairs table.now))
-        < HORIZON_LIMIT }
+    requires within { T.time table.now + most < last_end (T.time table.now) (T.spans table.now) }
+    requires near { last_end (T.time table.now) (T.spans table.now) < HORIZON_LIMIT }
     requires left { 1 ≤ first_left soft.now.items }
-    requires fits { soft_fits (spans_of_pairs (T.pairs table.now)) reserve.now (T.time table.now)
-        ≡ true }
+    requires fits { soft_fits (T.spans table.now) reserve.now (T.time table.now) ≡ true }
     ensures some { 1 ≤ result }
     ensures few { result ≤ most }
     ensures stays { SoftStays
-        (spans_of_pairs (T.pairs table.now))
+        (T.spans table.now)
         reserve.now
         (T.time table.now)
         most
@@ -138,21 +132,14 @@ fn slots_free<T: SpareTable, L: Ledger>(
 ) -> u32
     requires some { 1 ≤ most }
     requires few { most ≤ OFFER_LIMIT }
-    requires within { T.time table.now + most
-        < last_end (T.time table.now) (spans_of_pairs (T.pairs table.now)) }
-    requires near { last_end (T.time table.now) (spans_of_pairs (T.pairs table.now))
-        < HORIZON_LIMIT }
-    requires fits { soft_fits (spans_of_pairs (T.pairs table.now)) reserve.now (T.time table.now)
-        ≡ true }
+    requires within { T.time table.now + most < last_end (T.time table.now) (T.spans table.now) }
+    requires near { last_end (T.time table.now) (T.spans table.now) < HORIZON_LIMIT }
+    requires fits { soft_fits (T.spans table.now) reserve.now (T.time table.now) ≡ true }
     ensures some { 1 ≤ result }
     ensures few { result ≤ most }
-    ensures free { AreFree
-        (spans_of_pairs (T.pairs table.now))
-        reserve.now
-        (T.time table.now)
-        result }
+    ensures free { AreFree (T.spans table.now) reserve.now (T.time table.now) result }
     ensures short { result < most → IsShortAfter
-        (spans_of_pairs (T.pairs table.now))
+        (T.spans table.now)
         reserve.now
         (T.time table.now)
         result }
@@ -182,14 +169,12 @@ fn slots_of_job<T: SpareTable, L: Ledger>(
     steps: &mut Steps<L>,
 ) -> u32
     requires some { 1 ≤ most }
-    requires within { T.time table.now + most
-        < last_end (T.time table.now) (spans_of_pairs (T.pairs table.now)) }
-    requires near { last_end (T.time table.now) (spans_of_pairs (T.pairs table.now))
-        < HORIZON_LIMIT }
+    requires within { T.time table.now + most < last_end (T.time table.now) (T.spans table.now) }
+    requires near { last_end (T.time table.now) (T.spans table.now) < HORIZON_LIMIT }
     requires left { 1 ≤ job.now.left }
     requires tight { soft.now.items ≢ [] → reserve.now.sporadics ≢ []
         → IsTightFor
-        (spans_of_pairs (T.pairs table.now))
+        (T.spans table.now)
         reserve.now
         (T.time table.now)
         1
@@ -197,7 +182,7 @@ fn slots_of_job<T: SpareTable, L: Ledger>(
     ensures some { 1 ≤ result }
     ensures few { result ≤ most }
     ensures stays { JobStays
-        (spans_of_pairs (T.pairs table.now))
+        (T.spans table.now)
         reserve.now
         (T.time table.now)
         most
@@ -219,24 +204,12 @@ fn slots_of_job<T: SpareTable, L: Ledger>(
 /// numbers that are left.
 fn slots_tight<T: SpareTable>(table: &T, reserve: &Reserve, room: Remembered, most: u32) -> u32
     requires some { 1 ≤ most }
-    requires within { T.time table.now + most
-        < last_end (T.time table.now) (spans_of_pairs (T.pairs table.now)) }
-    requires near { last_end (T.time table.now) (spans_of_pairs (T.pairs table.now))
-        < HORIZON_LIMIT }
-    requires tight { IsTightFor
-        (spans_of_pairs (T.pairs table.now))
-        reserve.now
-        (T.time table.now)
-        1
-        room }
+    requires within { T.time table.now + most < last_end (T.time table.now) (T.spans table.now) }
+    requires near { last_end (T.time table.now) (T.spans table.now) < HORIZON_LIMIT }
+    requires tight { IsTightFor (T.spans table.now) reserve.now (T.time table.now) 1 room }
     ensures some { 1 ≤ result }
     ensures few { result ≤ most }
-    ensures tight { IsTightFor
-        (spans_of_pairs (T.pairs table.now))
-        reserve.now
-        (T.time table.now)
-        result
-        room }
+    ensures tight { IsTightFor (T.spans table.now) reserve.now (T.time table.now) result room }
 {
     let now = table.time();
     let mut low = 1;

@@ -6,7 +6,6 @@ ghost use Rattle.slot_core.specs.Keeping.Kept.{AreApart};
 ghost use Rattle.slot_core.specs.Runs.Matches.{HaveSameItems};
 ghost use Rattle.slot_core.specs.Runs.Scenes.{horizon};
 ghost use Rattle.spare_capacity.specs.Recurrence.{last_end};
-ghost use Rattle.interval_row.specs.Tables.{spans_of_pairs};
 ghost use Rattle.slot_exec.specs.Changes.{jobs_at, jobs_in_cycle, spans_at, HasPlaces};
 ghost use Rattle.slot_exec.specs.Parts.{job_room};
 
@@ -55,22 +54,21 @@ pub(crate) fn pass<T: SpareTable, L: Ledger>(
     queue: &mut JobQueue,
     steps: &mut Steps<L>,
 ) -> bool
-    requires goes_on { T.time table.old + 1
-        < last_end (T.time table.old) (spans_of_pairs (T.pairs table.old)) }
-    requires horizon { last_end (T.time table.old) (spans_of_pairs (T.pairs table.old))
+    requires goes_on { T.time table.old + 1 < last_end (T.time table.old) (T.spans table.old) }
+    requires horizon { last_end (T.time table.old) (T.spans table.old)
         ≡ horizon plan.now.cycle (T.time table.old) }
     requires early { T.time table.old < TIME_LIMIT }
     requires places { (T.time table.old + 1) % plan.now.cycle ≡ 0
         → HasPlaces
         plan.now
         ((T.time table.old + 1) / plan.now.cycle + 2)
-        (spans_of_pairs (T.pairs table.old))
+        (T.spans table.old)
         queue.old.jobs
         (T.limit table.old)
         queue.old.capacity }
     ensures turned { result ≡ ((T.time table.old + 1) % plan.now.cycle == 0) }
-    ensures spans { spans_of_pairs (T.pairs table.new)
-        ≡ spans_at plan.now (T.time table.old + 1) (spans_of_pairs (T.pairs table.old)) }
+    ensures spans { T.spans table.new
+        ≡ spans_at plan.now (T.time table.old + 1) (T.spans table.old) }
     ensures time { T.time table.new ≡ T.time table.old + 1 }
     ensures places { T.limit table.new ≡ T.limit table.old }
     ensures jobs { HaveSameItems

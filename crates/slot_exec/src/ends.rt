@@ -4,7 +4,6 @@ ghost use Rattle.std.specs.Prelude.{◌≡◌, ◌≤◌, false, true, if◌then
 ghost use Rattle.std.specs.Option.{option_map_or};
 ghost use Rattle.slot_core.specs.Offline.Keys.{is_soft};
 ghost use Rattle.slot_core.specs.Runs.Matches.{HaveSameItems};
-ghost use Rattle.interval_row.specs.Tables.{spans_of_pairs};
 ghost use Rattle.scene_steps.specs.Ends.{ending_job, ending_soft, freed, jobs_left, soft_left, spans_left, AreDueInSpans};
 ghost use Rattle.slot_exec.specs.Rooms.{due_left};
 
@@ -26,15 +25,15 @@ pub(crate) fn end_early<T: SpareTable, L: Ledger>(
     due: &mut u64,
     steps: &mut Steps<L>,
 ) -> Done
-    requires { AreDueInSpans queue.old.jobs (spans_of_pairs (T.pairs table.old)) }
+    requires { AreDueInSpans queue.old.jobs (T.spans table.old) }
     ensures freed { result ≡ freed (T.time table.old) key queue.old.jobs soft.old.items }
-    ensures spans { spans_of_pairs (T.pairs table.new)
-        ≡ (if is_soft key then spans_of_pairs (T.pairs table.old)
+    ensures spans { T.spans table.new
+        ≡ (if is_soft key then T.spans table.old
         else spans_left
         (T.time table.old)
         key
         queue.old.jobs
-        (spans_of_pairs (T.pairs table.old))) }
+        (T.spans table.old)) }
     ensures time { T.time table.new ≡ T.time table.old }
     ensures places { T.limit table.new ≡ T.limit table.old }
     ensures jobs { HaveSameItems

@@ -78,7 +78,6 @@ pub struct Exec<T: SpareTable> {
 
 impl<T: SpareTable> Model for Exec<T> {
     ghost use Rattle.slot_core.specs.Keeping.Executives.{Executive};
-    ghost use Rattle.interval_row.specs.Tables.{spans_of_pairs};
     ghost use Rattle.slot_exec.specs.Parts.{executive, IsExecutive};
 
     ghost Value = { Executive };
@@ -86,7 +85,7 @@ impl<T: SpareTable> Model for Exec<T> {
     ghost view = { λ e. executive
         e.plan
         (T.time e.table)
-        (spans_of_pairs (T.pairs e.table))
+        (T.spans e.table)
         e.queue.jobs
         e.reserve.nexts
         e.soft.items
@@ -96,12 +95,12 @@ impl<T: SpareTable> Model for Exec<T> {
         (executive
         e.plan
         (T.time e.table)
-        (spans_of_pairs (T.pairs e.table))
+        (T.spans e.table)
         e.queue.jobs
         e.reserve.nexts
         e.soft.items
         e.last_row)
-        (spans_of_pairs (T.pairs e.table))
+        (T.spans e.table)
         e.reserve.sporadics
         (T.limit e.table)
         e.queue.capacity
@@ -210,8 +209,7 @@ impl<T: SpareTable> Exec<T> {
     /// The next legal arrival of each sporadic task, and what they may still ask for.
     pub fn reserve(&self) -> &Reserve
         ensures nexts { result.now.nexts ≡ self.now.scene.nexts }
-        ensures sporadics { result.now.sporadics
-            ≡ map without_name self.now.plan.tasks.sporadics }
+        ensures sporadics { result.now.sporadics ≡ map without_name self.now.plan.tasks.sporadics }
     {
         &self.reserve
     }
@@ -495,6 +493,7 @@ impl<T: SpareTable> Exec<T> {
             h }
         ensures some { 1 ≤ result.1 }
         ensures few { result.1 ≤ most }
+        ensures within { result.1 ≤ self.now.plan.cycle }
         ensures steps { steps.old ≤ steps.new }
     {
         let room = Remembered {

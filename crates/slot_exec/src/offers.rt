@@ -6,7 +6,6 @@ ghost use Rattle.slot_core.specs.Runs.Histories.{offered_job};
 ghost use Rattle.slot_core.specs.Runs.Matches.{HaveSameItems};
 ghost use Rattle.spare_capacity.specs.Recurrence.{first_spare, last_end};
 ghost use Rattle.interval_row.specs.Changes.{ends_before};
-ghost use Rattle.interval_row.specs.Tables.{spans_of_pairs};
 ghost use Rattle.scene_steps.specs.Joins.{spans_with_job, HavePlace};
 ghost use Rattle.slot_exec.specs.Offers.{offer_answer};
 
@@ -26,16 +25,14 @@ pub(crate) fn answer_offer<T: SpareTable, L: Ledger>(
     d: u32,
     steps: &mut Steps<L>,
 ) -> Firm
-    requires first { pos 0 ≤ℤ first_spare (spans_of_pairs (T.pairs table.now)) }
-    requires reach { T.time table.now + cycle
-        ≤ last_end (T.time table.now) (spans_of_pairs (T.pairs table.now)) }
-    requires near { last_end (T.time table.now) (spans_of_pairs (T.pairs table.now))
-        < HORIZON_LIMIT }
+    requires first { pos 0 ≤ℤ first_spare (T.spans table.now) }
+    requires reach { T.time table.now + cycle ≤ last_end (T.time table.now) (T.spans table.now) }
+    requires near { last_end (T.time table.now) (T.spans table.now) < HORIZON_LIMIT }
     requires some { 1 ≤ c }
     requires few { c ≤ OFFER_LIMIT }
     ensures answer { result
         ≡ offer_answer
-        (spans_of_pairs (T.pairs table.now))
+        (T.spans table.now)
         reserve.now
         (T.time table.now)
         cycle
@@ -46,7 +43,7 @@ pub(crate) fn answer_offer<T: SpareTable, L: Ledger>(
     ensures accepts_soon { reserve.now.sporadics ≡ [] → result ≡ Firm.Accepted
         → steps.new
         ≤ steps.old
-        + ends_before (T.time table.now + d) (spans_of_pairs (T.pairs table.now))
+        + ends_before (T.time table.now + d) (T.spans table.now)
         + 1 }
 {
     if d == 0 {
@@ -85,12 +82,11 @@ pub(crate) fn admit<T: SpareTable, L: Ledger>(
     requires { HavePlace
         job
         (T.time table.old)
-        (spans_of_pairs (T.pairs table.old))
+        (T.spans table.old)
         (T.limit table.old)
         queue.old.jobs
         queue.old.capacity }
-    ensures spans { spans_of_pairs (T.pairs table.new)
-        ≡ spans_with_job job (spans_of_pairs (T.pairs table.old)) }
+    ensures spans { T.spans table.new ≡ spans_with_job job (T.spans table.old) }
     ensures time { T.time table.new ≡ T.time table.old }
     ensures places { T.limit table.new ≡ T.limit table.old }
     ensures jobs { HaveSameItems queue.new.jobs (queue.old.jobs ++ job ∷ []) }
@@ -98,7 +94,7 @@ pub(crate) fn admit<T: SpareTable, L: Ledger>(
     ensures steps { steps.old ≤ steps.new }
     ensures few_steps { IsTrue T.counted
         → steps.new
-        ≤ steps.old + 4 * ends_before job.dl (spans_of_pairs (T.pairs table.old)) + 9 }
+        ≤ steps.old + 4 * ends_before job.dl (T.spans table.old) + 9 }
 {
     table.split(job.dl, steps);
     table.charge(job.dl, job.left, steps);

@@ -1,7 +1,6 @@
 //! What an executive remembers of the room for soft work, so that few slots search for it.
 
 ghost use Rattle.std.specs.Prelude.{◌≡◌, ◌≢◌, ℕ, [], false, ◌≤◌, ◌<◌, ◌^◌, IsTrue};
-ghost use Rattle.interval_row.specs.Tables.{spans_of_pairs};
 ghost use Rattle.guarantee.specs.Offers.{soft_fits};
 ghost use Rattle.slot_exec.specs.Ahead.{IsTightFor};
 ghost use Rattle.slot_exec.specs.Rooms.{due_told, due_with, due_without, free_beside, room_after, MaySearch, RemembersSpans};
@@ -32,20 +31,11 @@ pub(crate) fn may_run<T: SpareTable, L: Ledger>(
     room: Remembered,
     steps: &mut Steps<L>,
 ) -> (bool, Remembered)
-    requires { MaySearch
-        (spans_of_pairs (T.pairs table.now))
-        reserve.now
-        (T.time table.now)
-        room }
-    ensures answer { result.0
-        ≡ soft_fits (spans_of_pairs (T.pairs table.now)) reserve.now (T.time table.now) }
-    ensures room { RemembersSpans
-        (spans_of_pairs (T.pairs table.now))
-        reserve.now
-        (T.time table.now)
-        result.1 }
+    requires { MaySearch (T.spans table.now) reserve.now (T.time table.now) room }
+    ensures answer { result.0 ≡ soft_fits (T.spans table.now) reserve.now (T.time table.now) }
+    ensures room { RemembersSpans (T.spans table.now) reserve.now (T.time table.now) result.1 }
     ensures tight { result.0 ≡ false → reserve.now.sporadics ≢ [] → IsTightFor
-        (spans_of_pairs (T.pairs table.now))
+        (T.spans table.now)
         reserve.now
         (T.time table.now)
         1
@@ -66,15 +56,11 @@ pub(crate) fn may_run<T: SpareTable, L: Ledger>(
 
 /// Whether up to the time that was short there is still no room for a slot more.
 fn is_short<T: SpareTable>(table: &T, reserve: &Reserve, room: Remembered) -> bool
-    requires { MaySearch
-        (spans_of_pairs (T.pairs table.now))
-        reserve.now
-        (T.time table.now)
-        room }
+    requires { MaySearch (T.spans table.now) reserve.now (T.time table.now) room }
     ensures short { IsTrue result
-        → soft_fits (spans_of_pairs (T.pairs table.now)) reserve.now (T.time table.now) ≡ false }
+        → soft_fits (T.spans table.now) reserve.now (T.time table.now) ≡ false }
     ensures tight { IsTrue result → IsTightFor
-        (spans_of_pairs (T.pairs table.now))
+        (T.spans table.now)
         reserve.now
         (T.time table.now)
         1
@@ -94,20 +80,11 @@ fn search<T: SpareTable, L: Ledger>(
     room: Remembered,
     steps: &mut Steps<L>,
 ) -> (bool, Remembered)
-    requires { MaySearch
-        (spans_of_pairs (T.pairs table.now))
-        reserve.now
-        (T.time table.now)
-        room }
-    ensures answer { result.0
-        ≡ soft_fits (spans_of_pairs (T.pairs table.now)) reserve.now (T.time table.now) }
-    ensures room { RemembersSpans
-        (spans_of_pairs (T.pairs table.now))
-        reserve.now
-        (T.time table.now)
-        result.1 }
+    requires { MaySearch (T.spans table.now) reserve.now (T.time table.now) room }
+    ensures answer { result.0 ≡ soft_fits (T.spans table.now) reserve.now (T.time table.now) }
+    ensures room { RemembersSpans (T.spans table.now) reserve.now (T.time table.now) result.1 }
     ensures tight { result.0 ≡ false → IsTightFor
-        (spans_of_pairs (T.pairs table.now))
+        (T.spans table.now)
         reserve.now
         (T.time table.now)
         1

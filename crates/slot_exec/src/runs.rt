@@ -5,7 +5,6 @@ ghost use Rattle.slot_core.specs.declared.TheConstants.{SHOWN_LIMIT};
 ghost use Rattle.slot_core.specs.Runs.Choice.{earliest, ready};
 ghost use Rattle.slot_core.specs.Runs.Matches.{HaveSameItems};
 ghost use Rattle.slot_core.specs.Runs.Traces.{told_of_slot};
-ghost use Rattle.interval_row.specs.Tables.{spans_of_pairs};
 ghost use Rattle.guarantee.specs.Offers.{soft_fits};
 ghost use Rattle.slot_exec.specs.Ahead.{IsTightFor};
 ghost use Rattle.slot_exec.specs.Rooms.{MaySearch, RemembersSpans};
@@ -64,25 +63,17 @@ pub(crate) fn choose<T: SpareTable, L: Ledger>(
     room: Remembered,
     steps: &mut Steps<L>,
 ) -> (Chosen, Remembered)
-    requires { MaySearch
-        (spans_of_pairs (T.pairs table.now))
-        reserve.now
-        (T.time table.now)
-        room }
+    requires { MaySearch (T.spans table.now) reserve.now (T.time table.now) room }
     ensures chosen { result.0
         ≡ chosen_of
         soft.now.items
-        (soft_fits (spans_of_pairs (T.pairs table.now)) reserve.now (T.time table.now))
+        (soft_fits (T.spans table.now) reserve.now (T.time table.now))
         (earliest (ready (T.time table.now) queue.now.jobs)) }
-    ensures room { RemembersSpans
-        (spans_of_pairs (T.pairs table.now))
-        reserve.now
-        (T.time table.now)
-        result.1 }
+    ensures room { RemembersSpans (T.spans table.now) reserve.now (T.time table.now) result.1 }
     ensures tight { soft.now.items ≢ [] → reserve.now.sporadics ≢ []
-        → soft_fits (spans_of_pairs (T.pairs table.now)) reserve.now (T.time table.now) ≡ false
+        → soft_fits (T.spans table.now) reserve.now (T.time table.now) ≡ false
         → IsTightFor
-        (spans_of_pairs (T.pairs table.now))
+        (T.spans table.now)
         reserve.now
         (T.time table.now)
         1
@@ -119,12 +110,11 @@ pub(crate) fn run<T: SpareTable, L: Ledger>(
     soft: &mut HeapCircularBuffer<SoftJob>,
     steps: &mut Steps<L>,
 ) -> bool
-    requires { MayRun chosen (spans_of_pairs (T.pairs table.old)) queue.old.jobs soft.old.items }
-    ensures spans { spans_of_pairs (T.pairs table.new)
-        ≡ spans_after chosen (spans_of_pairs (T.pairs table.old)) }
+    requires { MayRun chosen (T.spans table.old) queue.old.jobs soft.old.items }
+    ensures spans { T.spans table.new ≡ spans_after chosen (T.spans table.old) }
     ensures others { result ≡ true
-        → drop 1 (take SHOWN_LIMIT (spans_of_pairs (T.pairs table.new)))
-        ≡ drop 1 (take SHOWN_LIMIT (spans_of_pairs (T.pairs table.old))) }
+        → drop 1 (take SHOWN_LIMIT (T.spans table.new))
+        ≡ drop 1 (take SHOWN_LIMIT (T.spans table.old)) }
     ensures time { T.time table.new ≡ T.time table.old }
     ensures places { T.limit table.new ≡ T.limit table.old }
     ensures jobs { HaveSameItems queue.new.jobs (jobs_after chosen queue.old.jobs) }

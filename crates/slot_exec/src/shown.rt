@@ -2,7 +2,6 @@
 
 ghost use Rattle.std.specs.Prelude.{◌≡◌, ◌+◌, ◌-◌, ◌≤◌, length, take};
 ghost use Rattle.slot_core.specs.declared.TheConstants.{SHOWN_LIMIT};
-ghost use Rattle.interval_row.specs.Tables.{spans_of_pairs};
 
 use interval_row::SpareTable;
 use slot_core::{SHOWN_LIMIT, Shown, Steps};
@@ -12,8 +11,8 @@ use std::sync::ledger::Ledger;
 pub(crate) fn first_spans<T: SpareTable, L: Ledger>(table: &T, steps: &mut Steps<L>) -> Shown
     ensures shown { result
         ≡ record {
-          spans = take SHOWN_LIMIT (spans_of_pairs (T.pairs table.now));
-          more = length (T.pairs table.now) - SHOWN_LIMIT;
+          spans = take SHOWN_LIMIT (T.spans table.now);
+          more = length (T.spans table.now) - SHOWN_LIMIT;
         } }
     ensures steps { steps.old ≤ steps.new }
     ensures few_steps { steps.new ≤ steps.old + SHOWN_LIMIT }

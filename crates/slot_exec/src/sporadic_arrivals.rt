@@ -4,7 +4,6 @@ ghost use Rattle.std.specs.Prelude.{◌≡◌, ℕ, ◌≤◌, ◌<◌, false, l
 ghost use Rattle.slot_core.specs.declared.TheConstants.{HORIZON_LIMIT, TIME_LIMIT};
 ghost use Rattle.slot_core.specs.Runs.Histories.{sporadic_job};
 ghost use Rattle.slot_core.specs.Runs.Matches.{HaveSameItems};
-ghost use Rattle.interval_row.specs.Tables.{spans_of_pairs};
 ghost use Rattle.scene_steps.specs.Joins.{HavePlace};
 ghost use Rattle.scene_steps.specs.SporadicArrivals.{arrival_answer, is_too_soon, jobs_after_arrival, nexts_after, spans_after_arrival};
 
@@ -47,17 +46,17 @@ pub(crate) fn take_arrival<T: SpareTable, L: Ledger>(
         → HavePlace
         job
         (T.time table.old)
-        (spans_of_pairs (T.pairs table.old))
+        (T.spans table.old)
         (T.limit table.old)
         queue.old.jobs
         queue.old.capacity }
     ensures answer { result
         ≡ arrival_answer reserve.old.sporadics reserve.old.nexts (T.time table.old) index }
-    ensures spans { spans_of_pairs (T.pairs table.new)
+    ensures spans { T.spans table.new
         ≡ spans_after_arrival
         (is_too_soon reserve.old.nexts (T.time table.old) index)
         job
-        (spans_of_pairs (T.pairs table.old)) }
+        (T.spans table.old) }
     ensures time { T.time table.new ≡ T.time table.old }
     ensures places { T.limit table.new ≡ T.limit table.old }
     ensures nexts { reserve.new.nexts

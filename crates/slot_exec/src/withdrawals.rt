@@ -4,7 +4,6 @@ ghost use Rattle.std.specs.Prelude.{◌≡◌, ◌+◌, ◌*◌, ◌≤◌, leng
 ghost use Rattle.slot_core.specs.declared.jobs.Job.{Job};
 ghost use Rattle.slot_core.specs.Runs.Matches.{HaveSameItems};
 ghost use Rattle.interval_row.specs.Changes.{ends_before};
-ghost use Rattle.interval_row.specs.Tables.{spans_of_pairs};
 ghost use Rattle.scene_steps.specs.Ends.{AreDueInSpans};
 ghost use Rattle.scene_steps.specs.Withdrawals.{jobs_without, spans_without, withdrawn, withdrawn_job};
 ghost use Rattle.slot_exec.specs.Rooms.{due_left};
@@ -25,12 +24,11 @@ pub(crate) fn take_back<T: SpareTable, L: Ledger>(
     due: &mut u64,
     steps: &mut Steps<L>,
 ) -> Gone
-    requires due { AreDueInSpans queue.old.jobs (spans_of_pairs (T.pairs table.old)) }
+    requires due { AreDueInSpans queue.old.jobs (T.spans table.old) }
     requires come { (job : Job) → withdrawn_job firm queue.old.jobs ≡ Some job
         → job.est ≤ T.time table.old }
     ensures gone { result ≡ withdrawn firm queue.old.jobs }
-    ensures spans { spans_of_pairs (T.pairs table.new)
-        ≡ spans_without firm queue.old.jobs (spans_of_pairs (T.pairs table.old)) }
+    ensures spans { T.spans table.new ≡ spans_without firm queue.old.jobs (T.spans table.old) }
     ensures time { T.time table.new ≡ T.time table.old }
     ensures places { T.limit table.new ≡ T.limit table.old }
     ensures jobs { HaveSameItems queue.new.jobs (jobs_without firm queue.old.jobs) }
@@ -42,7 +40,7 @@ pub(crate) fn take_back<T: SpareTable, L: Ledger>(
         → withdrawn_job firm queue.old.jobs ≡ Some job
         → steps.new
         ≤ steps.old + length queue.old.jobs
-        + 3 * ends_before job.dl (spans_of_pairs (T.pairs table.old))
+        + 3 * ends_before job.dl (T.spans table.old)
         + 3 }
     ensures no_job_steps { result ≡ Gone.NoJob → steps.new ≤ steps.old + length queue.old.jobs }
 {

@@ -1,6 +1,6 @@
 //! Files that are read whole up to a limit.
 
-ghost use Rattle.std.specs.Prelude.{◌≡◌, ◌≢◌, ℕ, ◌+◌, ◌≤◌, List, Option, Some, IfSome, IfOk, vec_len};
+ghost use Rattle.std.specs.Prelude.{◌≡◌, ◌≢◌, ℕ, ◌+◌, ◌≤◌, List, Option, Some, IfSome, IfOk, OnErr, vec_len};
 ghost use Rattle.slot_core.specs.Calls.Counts.{Rose};
 ghost use Rattle.slot_io.specs.Files.{Held, first_bytes};
 ghost use Rattle.slot_io.specs.declared.files.ReadFault.TheVariants.{Memory as MemoryFault};
@@ -58,7 +58,7 @@ pub trait Files {
     ghost given: { Self → Option (List ℕ × ℕ) };
 
     /// The first bytes of a file: at most one more than `limit`, so that a caller sees whether the
-    /// file is longer.
+    /// file is longer. After a fault the last read that gave bytes is the one before.
     fn read(&mut self, alloc: Global, name: &str, limit: usize) -> Result<Vec<u8>, ReadFault>
         requires { limit ≤ READ_LIMIT }
         ensures short { IfOk result (λ bytes. vec_len bytes ≤ limit + 1) }
@@ -70,5 +70,6 @@ pub trait Files {
         ensures named { result ≡ Err ReadFault.Failed → blamed self.new ≡ Some name.now }
         ensures no_fault { result ≢ Err ReadFault.Failed → faults self.new ≡ faults self.old }
         ensures no_blame { result ≢ Err ReadFault.Failed → blamed self.new ≡ blamed self.old }
-        ensures gives { IfOk result (λ bytes. given self.new ≡ Some (name.now, vec_len bytes)) };
+        ensures gives { IfOk result (λ bytes. given self.new ≡ Some (name.now, vec_len bytes)) }
+        ensures gives_none { OnErr result (given self.new ≡ given self.old) };
 }

@@ -186,6 +186,7 @@ impl Files for MemoryFiles {
         ensures no_fault { result ≢ Err ReadFault.Failed → self.new.faults ≡ self.old.faults }
         ensures no_blame { result ≢ Err ReadFault.Failed → self.new.blamed ≡ self.old.blamed }
         ensures gives { IfOk result (λ bytes. self.new.given ≡ Some (name.now, vec_len bytes)) }
+        ensures gives_none { OnErr result (self.new.given ≡ self.old.given) }
         ensures cause { result ≡ Err ReadFault.Failed → IsTrue (read_fails self.old name.now) }
         ensures refused { IsTrue (read_fails self.old name.now) → IsErr result }
         ensures one_fault { result ≡ Err ReadFault.Failed

@@ -1,2 +1,6 @@
+mod Least
 mod Listed
 mod Loops
+mod Orders
+mod Parts
+mod Works

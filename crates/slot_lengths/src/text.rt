@@ -16,7 +16,8 @@ use slot_core::{List, Memory};
 use std::alloc::Global;
 
 /// A line for each length of a slot from `from` to `to` nanoseconds that divides all periods: first
-/// those whose set fits, by the load of the cycle. The set stays as it is.
+/// those whose set fits, by the share of the cycle that is needed, and then the others. Of those with
+/// one share, and of the others, the longest comes first. The set stays as it is.
 pub fn lengths_text(
     alloc: Global,
     set: &mut PhysicalSet,
@@ -41,7 +42,7 @@ fn ordered_rows(
     ensures all { IfOk result (λ rows.
         IsPermutation (map (row_of set.old) (slot_lengths from to set.old.graphs)) rows.items) }
     ensures ordered { IfOk result (λ rows.
-        IsNonDecreasingBy (λ (row : LengthRow). row.rank) rows.items) }
+        IsNonDecreasingBy (λ (row : LengthRow). row.place) rows.items) }
 {
     let rows = rows_between(alloc, set, from, to)?;
     sorted(rows)
@@ -62,14 +63,14 @@ fn rows_between(
     rows_of(alloc, set, lengths.items())
 }
 
-/// The rows by their rank. Those of one rank keep their order.
+/// The rows by their places.
 fn sorted(rows: Vec<LengthRow>) -> Result<Vec<LengthRow>, Memory>
     ensures all { IfOk result (λ sorted. IsPermutation rows.items sorted.items) }
     ensures ordered { IfOk result (λ sorted.
-        IsNonDecreasingBy (λ (row : LengthRow). row.rank) sorted.items) }
+        IsNonDecreasingBy (λ (row : LengthRow). row.place) sorted.items) }
 {
     let mut rows = rows;
-    rows.sort_by_key(|row: &LengthRow| row.rank)?;
+    rows.sort_by_key(|row: &LengthRow| row.place)?;
     Ok(rows)
 }
 

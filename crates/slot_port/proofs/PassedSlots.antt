@@ -45,9 +45,9 @@ HasPassed-more before now after ran n was is does =
     }
 
 -- what is told ahead of what runs in the next slot
-pub StaysAhead-told : (exec : Executive) (most count : ℕ) (ran : Ran) → ran ≡ ran_in exec → 1 ≤ count → count ≤ most → ((h : History) → StandsFor exec h → TellsAhead exec.plan.tasks exec.plan.cycle (told_of_slot ran) count h) → ((h : History) → StandsFor exec h → (exec.scene.soft ≡ []) ⊎ (exec.plan.tasks.sporadics ≡ []) ⊎ ((row : ℕ) × (ran ≡ RanKey (SoftKey row))) → count < most → count < exec.plan.cycle → TellsOtherAfter exec.plan.tasks exec.plan.cycle (told_of_slot ran) count h) → StaysAhead exec most count
-StaysAhead-told exec most count ran is some few =
+pub StaysAhead-told : (exec : Executive) (most count : ℕ) (ran : Ran) → ran ≡ ran_in exec → 1 ≤ count → count ≤ most → count ≤ exec.plan.cycle → ((h : History) → StandsFor exec h → TellsAhead exec.plan.tasks exec.plan.cycle (told_of_slot ran) count h) → ((h : History) → StandsFor exec h → (exec.scene.soft ≡ []) ⊎ (exec.plan.tasks.sporadics ≡ []) ⊎ ((row : ℕ) × (ran ≡ RanKey (SoftKey row))) → count < most → count < exec.plan.cycle → TellsOtherAfter exec.plan.tasks exec.plan.cycle (told_of_slot ran) count h) → StaysAhead exec most count
+StaysAhead-told exec most count ran is some few within =
     subst
     (λ r. ((h : History) → StandsFor exec h → TellsAhead exec.plan.tasks exec.plan.cycle (told_of_slot r) count h) → ((h : History) → StandsFor exec h → (exec.scene.soft ≡ []) ⊎ (exec.plan.tasks.sporadics ≡ []) ⊎ ((row : ℕ) × (r ≡ RanKey (SoftKey row))) → count < most → count < exec.plan.cycle → TellsOtherAfter exec.plan.tasks exec.plan.cycle (told_of_slot r) count h) → StaysAhead exec most count)
     (sym is)
-    (λ same longest. record { some = some; few = few; same = same; longest = longest })
+    (λ same longest. record { some = some; few = few; within = within; same = same; longest = longest })

@@ -36,12 +36,14 @@ pub record Passes (before after : Executive) : Type 0 where
   pub does : Does before after slot (told_of_slot (ran_in before))
   pub row : after.last_row ≡ before.last_row
 
--- where nothing arrives, what runs in the next slot runs in so many slots, at most `most`; and where
--- no soft work waits, where the set has no sporadic task, and where soft work runs, something else
--- in the slot after them, if they are fewer than `most` and than a cycle
+-- where nothing arrives, what runs in the next slot runs in this number of slots, at most `most`
+-- and at most a cycle; and where no soft work waits, where the set has no sporadic task, and where
+-- soft work runs, something else in the slot after them, if they are fewer than `most` and than a
+-- cycle
 pub record StaysAhead (exec : Executive) (most count : ℕ) : Type 0 where
   pub some : 1 ≤ count
   pub few : count ≤ most
+  pub within : count ≤ exec.plan.cycle
   pub same :
       (h : History) → StandsFor exec h
       → TellsAhead exec.plan.tasks exec.plan.cycle (told_of_slot (ran_in exec)) count h

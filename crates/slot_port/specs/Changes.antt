@@ -52,7 +52,7 @@ abbrev pub asked_status : Executive → ℕ → Option Keep → ℕ
 asked_status from first None = BAD_NUMBER
 asked_status from first (Some keep) = if first_fits from first keep then OK else BAD_ROW
 
--- no slot has passed, and nothing has arrived
+-- no slot has passed, and no arrival has had a row above 0
 abbrev pub is_at_start : Executive → Bool
 is_at_start exec = exec.scene.time == 0 && exec.last_row == 0
 

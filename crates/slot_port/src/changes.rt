@@ -56,11 +56,11 @@ pub fn job<T: SpareTable>(exec: &Exec<T>, place: u32, job: &mut JobNumbers) -> S
 }
 
 /// Carries what an executive has left over to a second one, before its first slot, as
-/// `plan_change::carry` does. `NOT_FRESH` where that has seen a slot or an arrival; else
-/// `BAD_NUMBER` where `keep` is no number of `DROP`, `STARTED` and `GRAPHS`; else `BAD_ROW` where
-/// offline jobs may go on and `first` is not above the last row of the first executive, or fewer
-/// rows follow it than a cycle has slots. Else it is made, or `REFUSED`: then the second executive
-/// has accepted some of the offers, and is to be opened anew.
+/// `plan_change::carry` does. `NOT_FRESH` where that has seen a slot, or an arrival in a row above
+/// 0; else `BAD_NUMBER` where `keep` is no number of `DROP`, `STARTED` and `GRAPHS`; else `BAD_ROW`
+/// where offline jobs may go on and `first` is not above the last row of the first executive, or
+/// fewer rows follow it than a cycle has slots. Else it is made, or `REFUSED`: then the second
+/// executive has accepted some of the offers, and is to be opened anew.
 pub fn carry<T: SpareTable>(
     from: &Exec<T>,
     into: &mut Exec<T>,

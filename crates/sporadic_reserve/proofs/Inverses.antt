@@ -7,7 +7,7 @@ use Rattle.slot_core.specs.declared.TheConstants.{SLOT_LIMIT}
 use Rattle.sporadic_reserve.specs.declared.rates.TheConstants.{INVERSE_REACH, INVERSE_SCALE}
 
 -- with an inverse that is not too small the product reaches the quotient
-product_reaches : (scale inverse s n q : ℕ) → scale ≤ inverse * s → q * s ≤ n → q * scale ≤ n * inverse
+pub product_reaches : (scale inverse s n q : ℕ) → scale ≤ inverse * s → q * s ≤ n → q * scale ≤ n * inverse
 product_reaches scale inverse s n q enough whole =
     let scaled : q * scale ≤ q * (inverse * s) = mul-le-mul_left q enough in
     let same : q * (inverse * s) ≡ q * s * inverse = ap (λ z. q * z) (mul_comm inverse s) ∙ sym (mul_assoc q s inverse) in

@@ -9,4 +9,5 @@
 mod rates;
 pub mod reserve;
 
+pub use rates::{GROWTH_REACH, Growth};
 pub use reserve::Reserve;

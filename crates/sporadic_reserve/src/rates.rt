@@ -1,11 +1,11 @@
 //! The demand of sporadic tasks, each given by its rate.
 
-ghost use Rattle.std.specs.Prelude.{◌≡◌, ℕ, ◌+◌, ◌*◌, ◌/◌, ◌≤◌, ◌<◌, [], length, max, min, slice_set, MatchOption};
+ghost use Rattle.std.specs.Prelude.{◌≡◌, ℕ, ◌+◌, ◌*◌, ◌/◌, ◌≤◌, ◌<◌, ◌^◌, [], length, max, min, slice_set, MatchOption};
 ghost use Rattle.std.specs.Int.{div_ceil};
 ghost use Rattle.slot_core.specs.declared.TheConstants.{HORIZON_LIMIT, SPORADIC_LIMIT};
 ghost use Rattle.slot_core.specs.Feasibility.Sporadics.{arrivals_due, sporadic_demand};
-ghost use Rattle.sporadic_reserve.specs.declared.rates.TheConstants.{INVERSE_SCALE};
-ghost use Rattle.sporadic_reserve.specs.Reserves.{demand_limit, IsNextRise};
+ghost use Rattle.sporadic_reserve.specs.declared.rates.TheConstants.{GROWTH_REACH, INVERSE_SCALE};
+ghost use Rattle.sporadic_reserve.specs.Reserves.{burst_limit, demand_limit, growth_limit, most_within, IsGrowth, IsNextRise};
 ghost use Rattle.sporadic_reserve.specs.Rates.{reserved, task_of, AreSporadicRates, IsRate};
 
 /// By how much the inverse of a separation is scaled.
@@ -13,6 +13,9 @@ pub const INVERSE_SCALE: u64 = 1 << 32;
 
 /// Below this a number of slots is divided by the inverse of a separation.
 pub const INVERSE_REACH: u64 = 1 << 18;
+
+/// Within fewer slots than these the growth of a demand is told.
+pub const GROWTH_REACH: u64 = 1 << 14;
 
 /// How often a sporadic task may come and what it takes then, and its next legal arrival.
 #[derive(Clone, Copy, PartialEq, Eq, Default)]
@@ -23,6 +26,44 @@ pub struct Rate {
     /// `INVERSE_SCALE` by the separation, rounded up.
     pub inverse: u64,
     pub next: u64,
+}
+
+/// How fast a demand grows: by so much a slot, scaled by `INVERSE_SCALE`, and by so much at once.
+#[derive(Clone, Copy, PartialEq, Eq)]
+pub struct Growth {
+    pub scaled: u64,
+    pub burst: u64,
+}
+
+impl Growth {
+    /// The most by which such a demand rises within so many slots.
+    pub fn most_within(self, slots: u64) -> u64
+        requires few { slots < GROWTH_REACH }
+        requires scaled { self.scaled ≤ growth_limit }
+        requires burst { self.burst ≤ burst_limit }
+        ensures most { result ≡ most_within self slots }
+        ensures small { result ≤ 2 ^ 40 }
+    {
+        slots * self.scaled / INVERSE_SCALE + self.burst
+    }
+}
+
+/// How fast the demand of rates grows.
+pub(crate) fn growth_of(rates: &[Rate]) -> Growth
+    requires rates { AreSporadicRates rates.now }
+    requires few { length rates.now ≤ SPORADIC_LIMIT }
+    ensures { IsGrowth (reserved rates.now) result }
+{
+    let mut growth = Growth {
+        scaled: 0,
+        burst: 0,
+    };
+    for rate in rates {
+        let wcet = u64::from(rate.wcet);
+        growth.scaled += wcet * rate.inverse;
+        growth.burst += wcet;
+    }
+    growth
 }
 
 /// How many whole separations there are in this many slots. A multiplication serves where there are
@@ -129,6 +170,8 @@ pub(crate) fn demand_and_rise(rates: &[Rate], r: u64, x: u64) -> (u64, Option<u6
     ensures demand { let reserve = reserved rates.now in
         result.0 ≡ sporadic_demand reserve.sporadics reserve.nexts r x }
     ensures small { result.0 ≤ demand_limit }
+    ensures most { let reserve = reserved rates.now in
+        (z : ℕ) → z ≤ x → sporadic_demand reserve.sporadics reserve.nexts r z ≤ result.0 }
     ensures rise { let reserve = reserved rates.now in
         MatchOption result.1
         (rates.now ≡ [])

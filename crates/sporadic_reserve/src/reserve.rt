@@ -6,10 +6,12 @@ ghost use Rattle.slot_core.specs.declared.TheConstants.{HORIZON_LIMIT, SPORADIC_
 ghost use Rattle.slot_core.specs.declared.tasks.Sporadic.{Sporadic};
 ghost use Rattle.slot_core.specs.Sets.Ranges.{sporadic_in_range};
 ghost use Rattle.slot_core.specs.Feasibility.Sporadics.{sporadic_demand};
-ghost use Rattle.sporadic_reserve.specs.Reserves.{demand_limit, without_name, IsNextRise};
+ghost use Rattle.sporadic_reserve.specs.Reserves.{demand_limit, without_name, IsGrowth, IsNextRise};
 ghost use Rattle.sporadic_reserve.specs.Rates.{first_rate};
 
-use crate::rates::{Rate, demand_and_rise, demand_of, inverse_of, move_next, next_rise};
+use crate::rates::{
+    Growth, Rate, demand_and_rise, demand_of, growth_of, inverse_of, move_next, next_rise,
+};
 use arrayvec::ArrayVec;
 use slot_core::{SPORADIC_LIMIT, Sporadic};
 use std::marker::Model;
@@ -125,11 +127,20 @@ impl Reserve {
         requires soon { x < HORIZON_LIMIT }
         ensures demand { result.0 ≡ sporadic_demand self.now.sporadics self.now.nexts r x }
         ensures small { result.0 ≤ demand_limit }
+        ensures most { (z : ℕ) → z ≤ x
+            → sporadic_demand self.now.sporadics self.now.nexts r z ≤ result.0 }
         ensures rise { MatchOption result.1
             (self.now.sporadics ≡ [])
             (λ y. IsNextRise (λ z. sporadic_demand self.now.sporadics self.now.nexts r z) x y) }
     {
         demand_and_rise(&self.rates, r, x)
+    }
+
+    /// How fast that demand grows, from whatever time on tasks may arrive.
+    pub fn growth(&self) -> Growth
+        ensures { IsGrowth self.now result }
+    {
+        growth_of(&self.rates)
     }
 }
 

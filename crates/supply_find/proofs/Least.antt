@@ -85,3 +85,29 @@ find-is p a (suc n) k low high fails passes =
           let here : p a ≡ true = subst (λ i. p i ≡ true) same passes in
           rw here (ap Some (sym same))
     ]
+
+-- no value of a range is more than the greatest
+pub greatest-at : (f : ℕ → ℕ) (m a n k : ℕ) → a ≤ k → k < a + n → f k ≤ fold max m (map f (range_with_len a n))
+greatest-at f m a zero k low high = absurd (omega (arith, low, high))
+greatest-at f m a (suc n) k low high =
+    let longer : n + 1 ≡ suc n = omega arith in
+    let more : fold max m (map f (range_with_len a (suc n))) ≡ max (fold max m (map f (range_with_len a n))) (f (a + n)) = subst (λ i. fold max m (map f (range_with_len a i)) ≡ max (fold max m (map f (range_with_len a n))) (f (a + n))) longer (greatest-more f m a n) in
+    elim (cases_lt k (a + n)) [
+      | inl before ↦ omega (arith, more, greatest-at f m a n k low before)
+      | inr last ↦
+          let same : k ≡ a + n = omega (arith, last, high) in
+          omega (arith, more, ap f same)
+    ]
+
+-- one of the values up to a place is the greatest
+pub greatest-reached : (f : ℕ → ℕ) (n : ℕ) → (k : ℕ) × (k ≤ n) × (f k ≡ fold max 0 (map f (range_with_len 0 (n + 1))))
+greatest-reached f zero = (0, omega arith, omega arith)
+greatest-reached f (suc n) =
+    let (k, low, is) = greatest-reached f n in
+    let longer : n + 1 + 1 ≡ suc n + 1 = omega arith in
+    let last : 0 + (n + 1) ≡ suc n = omega arith in
+    let more : fold max 0 (map f (range_with_len 0 (suc n + 1))) ≡ max (fold max 0 (map f (range_with_len 0 (n + 1)))) (f (suc n)) = subst (λ i. fold max 0 (map f (range_with_len 0 (suc n + 1))) ≡ max (fold max 0 (map f (range_with_len 0 (n + 1)))) (f i)) last (subst (λ i. fold max 0 (map f (range_with_len 0 i)) ≡ max (fold max 0 (map f (range_with_len 0 (n + 1)))) (f (0 + (n + 1)))) longer (greatest-more f 0 0 (n + 1))) in
+    elim (cases_lt (f k) (f (suc n))) [
+      | inl greater ↦ (suc n, omega arith, omega (arith, more, is, greater))
+      | inr less ↦ (k, omega (arith, low), omega (arith, more, is, less))
+    ]

@@ -3,4 +3,6 @@ mod Found
 mod Least
 mod OfPlan
 mod ReadBetween
+mod SpareFound
+mod SpareTables
 mod Tables

@@ -231,7 +231,7 @@ keyed-step jobs cycle before from front n old new due later step within len coun
     greatest-step (window_key jobs cycle n) from cycle old new low (subst (λ a. IsGreatest (window_key jobs cycle n) a cycle old) step h) (kept ∙ ap (λ w. max old (key_of cycle w from)) read)
 
 -- every number of a table is small where those in it are
-small-all : (xs : List ℕ) (m : ℕ) → ((b : ℕ) → b < length xs → slice_index xs b ≤ m) → (b : ℕ) → slice_index xs b ≤ m
+pub small-all : (xs : List ℕ) (m : ℕ) → ((b : ℕ) → b < length xs → slice_index xs b ≤ m) → (b : ℕ) → slice_index xs b ≤ m
 small-all [] m small b = omega arith
 small-all (x ∷ xs) m small zero = small 0 (omega arith)
 small-all (x ∷ xs) m small (suc b) = small-all xs m (λ k low. small (suc k) (omega (arith, low))) b

@@ -1,4 +1,5 @@
 pub mod Due
 pub mod Found
 pub mod Keys
+pub mod Spare
 pub mod Stairs

@@ -72,7 +72,7 @@ abbrev pub row_text : ℕ → Kind → SlotEvent → List ℕ → List ℕ
 row_text at kind event fields =
     decimal at ++ codes "," ++ kind_word kind ++ codes "," ++ event_text event fields ++ codes "\n"
 
--- the row in slots, at the next boundary after it comes
+-- the row in slots, handed over at the boundary at which it comes, or else at the next one
 abbrev pub row_in_slots : ℕ → ℕ → ℕ → List ℕ → Timed (List ℕ)
 row_in_slots slot worth row line = do
   head ← head_of row line

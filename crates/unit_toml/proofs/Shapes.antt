@@ -14,7 +14,7 @@ use Rattle.clock_units.specs.declared.sets.PhysicalSet.{PhysicalSet}
 use Rattle.clock_units.specs.Derived.{task_is_shaped, graph_is_shaped, is_shaped}
 use Rattle.unit_toml.specs.declared.keys.UnitKey.{UnitKey}
 use Rattle.unit_toml.specs.declared.keys.UnitKey.TheVariants.{Slot, Overhead, Soft, Graph as GraphKey, Sporadic, Name, Period, Offset, Deadline, Task as TaskKey, Wcet, After, Separation, Plan, Arrives}
-use Rattle.unit_toml.specs.UnitFields.{Read, Answers, known_keys, at_key, number_at, time_at, time_within, boundaries_at}
+use Rattle.unit_toml.specs.UnitFields.{Read, Answers, known_keys, at_key, number_at, some_time_at, time_at, time_within, boundaries_at}
 use Rattle.unit_toml.specs.Reading.{NamedTask, place_at, each, task_of, with_indexes, graph_of, sporadic_of, graphs_at, sporadics_at, shaped_set}
 use Rattle.unit_toml.proofs.FieldShapes.{name_at-Ok, texts_at-Ok, tables_at-Ok, some_tables_at-Ok}
 
@@ -114,7 +114,7 @@ is_shaped-read : (m : Members) (set : PhysicalSet) → shaped_set m ≡ Ok set �
 is_shaped-read m set h =
     let at = λ (key : UnitKey). place_at Top key in
     step (any (known_keys Top m)) h (λ known _ h.
-    step (any (time_at (at Slot) None (at_key Slot known))) h (λ slot _ h.
+    step (any (some_time_at (at Slot) (at_key Slot known))) h (λ slot _ h.
     step (any (time_at (at Overhead) (Some 0) (at_key Overhead known))) h (λ overhead _ h.
     step (any (number_at (at Soft) 1 SOFT_LIMIT SOFT_DEFAULT (at_key Soft known))) h (λ soft _ h.
     step (graphs_at-Ok known) h (λ graphs graphs_fit h.

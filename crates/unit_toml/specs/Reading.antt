@@ -17,7 +17,7 @@ use Rattle.unit_toml.specs.declared.keys.UnitKey.{UnitKey}
 use Rattle.unit_toml.specs.declared.keys.UnitKey.TheVariants.{Slot, Overhead, Soft, Graph as GraphKey, Sporadic, Name, Period, Offset, Deadline, Task as TaskKey, Wcet, After, Separation, Plan, Arrives}
 use Rattle.unit_toml.specs.declared.keys.UnitPlace.{UnitPlace}
 use Rattle.unit_toml.specs.declared.faults.UnitsFault.TheVariants.{NotToml, Missing, WrongKind, TooMany}
-use Rattle.unit_toml.specs.UnitFields.{Read, or_fault, known_keys, at_key, number_at, time_at, time_within, name_at, boundaries_at}
+use Rattle.unit_toml.specs.UnitFields.{Read, or_fault, known_keys, at_key, number_at, some_time_at, time_at, time_within, name_at, boundaries_at}
 
 -- a place
 abbrev pub place_at : Part → UnitKey → UnitPlace
@@ -152,7 +152,7 @@ sporadics_at members = do
 abbrev pub shaped_set : Members → Read PhysicalSet
 shaped_set members = do
   known ← known_keys Top members
-  slot ← time_at (place_at Top Slot) None (at_key Slot known)
+  slot ← some_time_at (place_at Top Slot) (at_key Slot known)
   overhead ← time_at (place_at Top Overhead) (Some 0) (at_key Overhead known)
   soft ← number_at (place_at Top Soft) 1 SOFT_LIMIT SOFT_DEFAULT (at_key Soft known)
   graphs ← graphs_at known

@@ -1,5 +1,5 @@
 -- What stands at a key of a table of a file of units, or the fault there.
-use Rattle.std.specs.Prelude.{◌≡◌, ◌≢◌, MatchResult, ℕ, ◌&&◌, ◌||◌, Bool, true, false, pos, nat_abs, int_le, nat_lt, List, codes, if◌then◌else◌, Option, Some, None, Result, Ok, Err}
+use Rattle.std.specs.Prelude.{◌≡◌, ◌≢◌, MatchResult, ℕ, ◌==◌, ◌&&◌, ◌||◌, Bool, true, false, pos, nat_abs, int_le, nat_lt, List, codes, if◌then◌else◌, Option, Some, None, Result, Ok, Err}
 use Rattle.std.specs.Str.{bytes_eq}
 use Rattle.toml.specs.Data.{Data, string, integer, Members, no_members, member, get_member}
 use Rattle.slot_core.specs.declared.faults.Part.{Part}
@@ -83,6 +83,12 @@ abbrev pub time_at : UnitPlace → Option ℕ → Option Data → Read ℕ
 time_at place absent None = or_fault (Missing place) absent
 time_at place absent (Some (string text)) = or_fault (BadTime place) (time_of_text text)
 time_at place absent (Some _) = Err (WrongKind place)
+
+-- a time above 0
+abbrev pub some_time_at : UnitPlace → Option Data → Read ℕ
+some_time_at place found = do
+  time ← time_at place None found
+  if time == 0 then Err (OutOfRange place (pos 0)) else Ok time
 
 -- a time that is no longer than another, which it is where the key is not there
 abbrev pub time_within : UnitPlace → ℕ → Option Data → Read ℕ

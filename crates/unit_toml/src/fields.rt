@@ -3,7 +3,7 @@
 ghost use Rattle.std.specs.Prelude.{◌≡◌, ◌&&◌, pos, nat_abs, int_le, Ok, Err, option_map};
 ghost use Rattle.std.specs.Prelude.{if◌then◌else◌, MatchResult};
 ghost use Rattle.unit_toml.specs.FaultTexts.{key_word};
-ghost use Rattle.unit_toml.specs.UnitFields.{at_key, boundaries_at, boundaries_of, known_keys, knows_key, name_at, number_at, time_at, time_within};
+ghost use Rattle.unit_toml.specs.UnitFields.{at_key, boundaries_at, boundaries_of, known_keys, knows_key, name_at, number_at, some_time_at, time_at, time_within};
 ghost use Rattle.toml.specs.View.{table_view, view};
 
 use crate::faults::UnitsFault;
@@ -103,6 +103,18 @@ pub(crate) fn time_at(
         Some(Value::String(text)) => time_of(text.as_bytes()).ok_or(UnitsFault::BadTime(place)),
         Some(_) => Err(UnitsFault::WrongKind(place)),
     }
+}
+
+/// The time at the key, which is above 0.
+pub(crate) fn some_time_at(table: &Table, part: Part, key: UnitKey) -> Result<u64, UnitsFault>
+    ensures { result ≡ some_time_at (record { part = part; key = key })
+        (at_key key (table_view table.now)) }
+{
+    let time = time_at(table, part, key, None)?;
+    if time == 0 {
+        return Err(UnitsFault::OutOfRange(UnitPlace { part, key }, 0));
+    }
+    Ok(time)
 }
 
 /// The time at the key, which is no longer than `most`, or that where the key is not there.

@@ -15,7 +15,7 @@ mod tables;
 
 use clock_units::{PhysicalGraphs, PhysicalSet, PhysicalSporadics};
 pub use faults::UnitsFault;
-use fields::{check_keys, number_at, time_at};
+use fields::{check_keys, number_at, some_time_at, time_at};
 use graphs::{read_graphs, read_sporadics};
 pub use keys::{UnitKey, UnitPlace};
 use slot_core::{GRAPH_LIMIT, Part, SOFT_DEFAULT, SOFT_LIMIT, SPORADIC_LIMIT};
@@ -52,7 +52,7 @@ fn read_set(alloc: Global, table: &Table) -> Result<PhysicalSet, UnitsFault>
 {
     let part = Part::Top;
     check_keys(table, part)?;
-    let slot = time_at(table, part, UnitKey::Slot, None)?;
+    let slot = some_time_at(table, part, UnitKey::Slot)?;
     let overhead = time_at(table, part, UnitKey::Overhead, Some(0))?;
     let soft_limit = number_at(table, part, UnitKey::Soft, 1, SOFT_LIMIT, SOFT_DEFAULT)?;
     let graphs = graphs_at(alloc, table)?;

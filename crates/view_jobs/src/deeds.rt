@@ -46,7 +46,7 @@ pub struct Deed {
 }
 
 /// The place of the first line that names a task which the set does not have.
-pub(crate) fn first_unknown(tasks: &TaskSet, lines: &[TraceLine]) -> Option<usize>
+pub fn first_unknown(tasks: &TaskSet, lines: &[TraceLine]) -> Option<usize>
     requires { is_sound tasks.now ≡ true }
     ensures { result ≡ first_unknown tasks.now lines.now }
 {
@@ -54,11 +54,7 @@ pub(crate) fn first_unknown(tasks: &TaskSet, lines: &[TraceLine]) -> Option<usiz
 }
 
 /// What the lines do, each that names no unknown task.
-pub(crate) fn deeds_of(
-    alloc: Global,
-    tasks: &TaskSet,
-    lines: &[TraceLine],
-) -> Result<Vec<Deed>, Memory>
+pub fn deeds_of(alloc: Global, tasks: &TaskSet, lines: &[TraceLine]) -> Result<Vec<Deed>, Memory>
     requires { is_sound tasks.now ≡ true }
     ensures { IfOk result (λ deeds. deeds.items ≡ deeds_of tasks.now lines.now) }
 {
@@ -72,7 +68,7 @@ pub(crate) fn deeds_of(
 }
 
 /// What the line does, or None where it names a task that the set does not have.
-pub(crate) fn deed_of(tasks: &TaskSet, line: &TraceLine) -> Option<Deed>
+pub fn deed_of(tasks: &TaskSet, line: &TraceLine) -> Option<Deed>
     requires { is_sound tasks.now ≡ true }
     ensures { result ≡ deed_of tasks.now line.now }
 {

@@ -28,7 +28,7 @@ pub struct Listed {
 
 /// The offline jobs that are released in the first `slots` slots, cycle by cycle, and then the
 /// jobs that arrive.
-pub(crate) fn listed_jobs(
+pub fn listed_jobs(
     alloc: Global,
     plan: &Plan,
     slots: u32,

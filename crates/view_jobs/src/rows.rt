@@ -91,7 +91,7 @@ fn less(a: Option<u64>, b: Option<u64>) -> Cell<'static>
 }
 
 /// When the job has ended: where it ended early, then, else after its last slot.
-fn end_of(job: &Listed, tally: Tally) -> Option<u64>
+pub fn end_of(job: &Listed, tally: Tally) -> Option<u64>
     ensures { result ≡ end_of job.now tally }
 {
     match tally.ended {
@@ -164,7 +164,7 @@ fn task_of(tasks: &TaskSet, key: Key) -> &[u8]
 }
 
 /// The name of a graph of the set.
-fn graph_name(tasks: &TaskSet, graph: u16) -> &[u8]
+pub fn graph_name(tasks: &TaskSet, graph: u16) -> &[u8]
     ensures name { result.now ≡ graph_name tasks.now graph }
     ensures short { length result.now ≤ NAME_LIMIT }
 {
@@ -175,7 +175,7 @@ fn graph_name(tasks: &TaskSet, graph: u16) -> &[u8]
 }
 
 /// The name of a task of the set.
-fn task_name(tasks: &TaskSet, graph: u16, task: u16) -> &[u8]
+pub fn task_name(tasks: &TaskSet, graph: u16, task: u16) -> &[u8]
     ensures name { result.now ≡ task_name tasks.now graph task }
     ensures short { length result.now ≤ NAME_LIMIT }
 {
@@ -198,7 +198,7 @@ fn task_name_in(graph: &Graph, task: u16) -> &[u8]
 }
 
 /// The name of a sporadic task of the set.
-fn sporadic_name(tasks: &TaskSet, index: u8) -> &[u8]
+pub fn sporadic_name(tasks: &TaskSet, index: u8) -> &[u8]
     ensures name { result.now ≡ sporadic_name tasks.now index }
     ensures short { length result.now ≤ NAME_LIMIT }
 {

@@ -34,10 +34,10 @@ const UNTOLD: Tally = Tally {
 };
 
 /// The tally of each job of which anything is told.
-pub(crate) type Tallies = BTreeMap<Key, Tally>;
+pub type Tallies = BTreeMap<Key, Tally>;
 
 /// The tallies of these deeds.
-pub(crate) fn tallies_of(alloc: Global, deeds: &[Deed]) -> Result<Tallies, Memory>
+pub fn tallies_of(alloc: Global, deeds: &[Deed]) -> Result<Tallies, Memory>
     ensures { IfOk result (λ tallies. (key : Key) → tally_in tallies key ≡ tally_of deeds.now key) }
 {
     let mut tallies = BTreeMap::new(alloc);
@@ -77,7 +77,7 @@ fn add(tallies: &mut Tallies, deed: &Deed) -> Result<(), Memory>
 }
 
 /// The tally of the job of this key.
-pub(crate) fn tally_in(tallies: &Tallies, key: Key) -> Tally
+pub fn tally_in(tallies: &Tallies, key: Key) -> Tally
     ensures { result ≡ tally_in tallies.now key }
 {
     match tallies.get(&key).copied() {

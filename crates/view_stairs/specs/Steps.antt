@@ -113,7 +113,7 @@ pub record Breaks (text : List ℕ) (n : ℕ) : Type 0 where
       → rest ≢ line_of (pair_of step) ++ later
   pub unfinished : rest ≡ [] → front ≡ []
 
--- the numbers of a step are at most those of the longest cycle
+-- a step finds no more slots than the longest cycle has, within no more than these
 abbrev pub IsSmall : Step → Type 0
 IsSmall step = (step.within ≤ SLOT_LIMIT) × (step.supply.slots ≤ SLOT_LIMIT)
 

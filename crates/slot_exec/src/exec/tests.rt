@@ -226,14 +226,14 @@ struct ReadTable<T: SpareTable> {
 impl<T: SpareTable> SpareTable for ReadTable<T> {
     ghost time = { λ t. T.time t.table };
 
-    ghost pairs = { λ t. T.pairs t.table };
+    ghost spans = { λ t. T.spans t.table };
 
     ghost limit = { λ t. T.limit t.table };
 
     ghost counted = { T.counted };
 
-    fn with_room(alloc: Global, spans: &[Span], copies: u32, room: u32) -> Result<Self, Memory> {
-        let table = T::with_room(alloc, spans, copies, room)?;
+    fn with_room(alloc: Global, cycle: &[Span], copies: u32, room: u32) -> Result<Self, Memory> {
+        let table = T::with_room(alloc, cycle, copies, room)?;
         let reads = Cell::new(0);
         Ok(ReadTable { table, reads })
     }
@@ -301,7 +301,7 @@ impl<T: SpareTable> SpareTable for ReadTable<T> {
         self.table.split(at, steps);
     }
 
-    fn append_cycle<L: Ledger>(&mut self, spans: &[Span], steps: &mut Steps<L>) {
-        self.table.append_cycle(spans, steps);
+    fn append_cycle<L: Ledger>(&mut self, cycle: &[Span], steps: &mut Steps<L>) {
+        self.table.append_cycle(cycle, steps);
     }
 }

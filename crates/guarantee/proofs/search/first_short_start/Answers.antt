@@ -1,5 +1,5 @@
 use Rattle.std.proofs.Common.{◌≡◌, ◌+◌, take, refl, arith}
-use Rattle.interval_row.specs.Tables.{spans_of_pairs, works}
+use Rattle.interval_row.specs.Tables.{works}
 use Rattle.guarantee.proofs.Segments.{not_covered}
 use Rattle.guarantee.proofs.Starts.{told-first}
 use Rattle.guarantee.proofs.Tables.{due-small, IsFront-place, IsSeen-place, place-end}
@@ -7,7 +7,7 @@ use Rattle.guarantee.proofs.search.first_short_start.Goals as goal
 
 pub first_short-short-requires-clause-front : goal.first_short-short-requires-clause-front
 first_short-short-requires-clause-front g c =
-    IsFront-place (g.T.SpareTable.pairs c.args.table.now) c.args.place _ c.requires.place refl
+    IsFront-place (g.T.SpareTable.spans c.args.table.now) c.args.place _ c.requires.place refl
 
 pub overflow_add-ask : goal.overflow_add-ask
 overflow_add-ask g c =
@@ -23,7 +23,7 @@ pub overflow_add-result : goal.overflow_add-result
 overflow_add-result g c =
     let a = c.args in
     let short = c.first_short-short in
-    let small = due-small (g.T.SpareTable.time a.table.now) (g.T.SpareTable.limit a.table.now) short.result.until (g.T.SpareTable.pairs a.table.now) c.requires.table in
+    let small = due-small (g.T.SpareTable.time a.table.now) (g.T.SpareTable.limit a.table.now) short.result.until (g.T.SpareTable.spans a.table.now) c.requires.table in
     omega (arith, short.ensures.works, small, c.requires.few)
 
 pub overflow_sub-result : goal.overflow_sub-result
@@ -35,8 +35,7 @@ pub returns-clause-first : goal.returns-clause-first
 returns-clause-first g c reserve quiet =
     let a = c.args in
     let t = g.T.SpareTable.time a.table.now in
-    let pairs = g.T.SpareTable.pairs a.table.now in
-    let spans = spans_of_pairs pairs in
+    let spans = g.T.SpareTable.spans a.table.now in
     let table = c.requires.table in
     let seen = IsSeen-place table c.requires.place in
     let needed = a.ask.slots + a.place.due in

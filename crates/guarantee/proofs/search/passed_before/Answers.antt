@@ -1,5 +1,4 @@
 use Rattle.std.proofs.Common.{◌+◌, arith}
-use Rattle.interval_row.specs.Tables.{spans_of_pairs}
 use Rattle.guarantee.proofs.Starts.{LeavesAll-passed}
 use Rattle.guarantee.proofs.Tables.{place-end}
 use Rattle.guarantee.proofs.search.passed_before.Goals as goal
@@ -8,9 +7,9 @@ pub returns-clause-left : goal.returns-clause-left
 returns-clause-left g c later at =
     let a = c.args in
     let t = g.T.SpareTable.time a.table.now in
-    let pairs = g.T.SpareTable.pairs a.table.now in
+    let spans = g.T.SpareTable.spans a.table.now in
     let most = c.demand-most.result in
-    LeavesAll-passed (spans_of_pairs pairs) a.reserve.now t a.ask.arrivals a.ask.slots a.left most (a.ask.now + a.ask.slots + a.left + most) c.min-until.result a.place.span.end later.start (omega (arith, c.requires.now)) (λ x low. c.demand-most.ensures.most x (omega arith)) (c.passed.ensures.passed later at)
+    LeavesAll-passed spans a.reserve.now t a.ask.arrivals a.ask.slots a.left most (a.ask.now + a.ask.slots + a.left + most) c.min-until.result a.place.span.end later.start (omega (arith, c.requires.now)) (λ x low. c.demand-most.ensures.most x (omega arith)) (c.passed.ensures.passed later at)
 
 pub overflow_add-ask : goal.overflow_add-ask
 overflow_add-ask g c =

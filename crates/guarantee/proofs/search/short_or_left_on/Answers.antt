@@ -3,7 +3,7 @@ use Rattle.std.specs.Option.{option_map}
 use Rattle.std.proofs.lemmas.Bool.{false≢true}
 use Rattle.std.proofs.lemmas.Int.{ints}
 use Rattle.spare_capacity.specs.Recurrence.{last_end}
-use Rattle.interval_row.specs.Tables.{spans_of_pairs, works}
+use Rattle.interval_row.specs.Tables.{works}
 use Rattle.guarantee.specs.Offers.{evidence_at, first_short, need_until}
 use Rattle.guarantee.specs.Stretches.{NeedsNone}
 use Rattle.guarantee.proofs.Segments.{covered, covered-leaves, leaves-end, IsLevelFrom-later, Leaves-all, Leaves-join, Leaves-part, LeavesAll-later, Looks-found, Looks-last, Looks-later-on, Looks-leaves-on, Looks-most, most-end}
@@ -35,11 +35,10 @@ pub returns-in-Some-clause-first : goal.returns-in-Some-clause-first
 returns-in-Some-clause-first g c =
     let a = c.args in
     let t = g.T.SpareTable.time a.table.now in
-    let pairs = g.T.SpareTable.pairs a.table.now in
+    let spans = g.T.SpareTable.spans a.table.now in
     let table = c.requires.table in
     let inv = c.loop-evidence.invariant in
     let place = c.loop-evidence.place in
-    let spans = spans_of_pairs pairs in
     let needed = a.ask.slots + place.due in
     let looks = Looks-place a.ask.slots a.ask.now c.max-first.result table inv.place c.requires.now (omega (arith, c.max-first.ensures)) in
     let same = inv.same ∙ ap (first_short spans a.reserve.now t a.ask.arrivals a.ask.slots) (sym c.max-first.ensures) in
@@ -108,12 +107,11 @@ pub returns-then-covers-clause-first : goal.returns-then-covers-clause-first
 returns-then-covers-clause-first g c =
     let a = c.args in
     let t = g.T.SpareTable.time a.table.now in
-    let pairs = g.T.SpareTable.pairs a.table.now in
+    let spans = g.T.SpareTable.spans a.table.now in
     let table = c.requires.table in
     let inv = c.loop-evidence.invariant in
     let place = c.loop-evidence.place in
     let seen = IsSeen-place table inv.place in
-    let spans = spans_of_pairs pairs in
     let needed = a.ask.slots + place.due in
     let due : needed ≡ a.ask.slots + works (take place.index spans) = omega (arith, seen.due) in
     let looks = Looks-place a.ask.slots a.ask.now c.max-first.result table inv.place c.requires.now (omega (arith, c.max-first.ensures)) in
@@ -126,12 +124,11 @@ pub returns-then-covers-clause-left : goal.returns-then-covers-clause-left
 returns-then-covers-clause-left g c =
     let a = c.args in
     let t = g.T.SpareTable.time a.table.now in
-    let pairs = g.T.SpareTable.pairs a.table.now in
+    let spans = g.T.SpareTable.spans a.table.now in
     let table = c.requires.table in
     let inv = c.loop-evidence.invariant in
     let place = c.loop-evidence.place in
     let seen = IsSeen-place table inv.place in
-    let spans = spans_of_pairs pairs in
     let needed = a.ask.slots + place.due in
     let due : needed ≡ a.ask.slots + works (take place.index spans) = omega (arith, seen.due) in
     let looks = Looks-place a.ask.slots a.ask.now c.max-first.result table inv.place c.requires.now (omega (arith, c.max-first.ensures)) in
@@ -145,11 +142,10 @@ pub returns-then-covers-clause-greatest : goal.returns-then-covers-clause-greate
 returns-then-covers-clause-greatest g c =
     let a = c.args in
     let t = g.T.SpareTable.time a.table.now in
-    let pairs = g.T.SpareTable.pairs a.table.now in
+    let spans = g.T.SpareTable.spans a.table.now in
     let table = c.requires.table in
     let inv = c.loop-evidence.invariant in
     let place = c.loop-evidence.place in
-    let spans = spans_of_pairs pairs in
     let looks = Looks-place a.ask.slots a.ask.now c.max-first.result table inv.place c.requires.now (omega (arith, c.max-first.ensures)) in
     let start : a.from ≤ c.max-first.result = omega (arith, c.max-first.ensures) in
     let most = min a.told (last_end t spans - t - a.ask.slots) in
@@ -160,12 +156,11 @@ pub returns-then-not-covers-clause-first : goal.returns-then-not-covers-clause-f
 returns-then-not-covers-clause-first g c =
     let a = c.args in
     let t = g.T.SpareTable.time a.table.now in
-    let pairs = g.T.SpareTable.pairs a.table.now in
+    let spans = g.T.SpareTable.spans a.table.now in
     let table = c.requires.table in
     let inv = c.loop-evidence.invariant in
     let place = c.loop-evidence.place in
     let seen = IsSeen-place table inv.place in
-    let spans = spans_of_pairs pairs in
     let needed = a.ask.slots + place.due in
     let looks = Looks-place a.ask.slots a.ask.now c.max-first.result table inv.place c.requires.now (omega (arith, c.max-first.ensures)) in
     let told = sym c.in_default.is ∙ c.short_between.ensures.short in
@@ -180,12 +175,11 @@ pub loop-evidence-preserved : goal.loop-evidence-preserved
 loop-evidence-preserved g c =
     let a = c.args in
     let t = g.T.SpareTable.time a.table.now in
-    let pairs = g.T.SpareTable.pairs a.table.now in
+    let spans = g.T.SpareTable.spans a.table.now in
     let table = c.requires.table in
     let inv = c.loop-evidence.invariant in
     let place = c.loop-evidence.place in
     let seen = IsSeen-place table inv.place in
-    let spans = spans_of_pairs pairs in
     let needed = a.ask.slots + place.due in
     let looks = Looks-place a.ask.slots a.ask.now c.max-first.result table inv.place c.requires.now (omega (arith, c.max-first.ensures)) in
     let told = sym c.in_default.is ∙ c.short_between.ensures.short in
@@ -207,7 +201,7 @@ loop-evidence-preserved g c =
     ] in
     let next = c.in-Some-onward.next in
     let is = c.in-Some-onward.ensures in
-    let after = later-after t pairs place next table.consecutive inv.place is.place is.last in
+    let after = later-after t spans place next table.consecutive inv.place is.place is.last in
     let there = IsSeen-place table is.place in
     let end : place.span.end ≡ max c.max-first.result place.span.end = omega (arith, inv.reached, seen.stands.rising, c.max-first.ensures) in
     let here : next.span.start ≡ max a.from next.span.start = omega (arith, inv.reached, after) in
@@ -256,17 +250,16 @@ pub returns-in_default-onward-clause-first : goal.returns-in_default-onward-clau
 returns-in_default-onward-clause-first g c =
     let a = c.args in
     let t = g.T.SpareTable.time a.table.now in
-    let pairs = g.T.SpareTable.pairs a.table.now in
+    let spans = g.T.SpareTable.spans a.table.now in
     let table = c.requires.table in
     let inv = c.loop-evidence.invariant in
     let place = c.loop-evidence.place in
     let seen = IsSeen-place table inv.place in
-    let spans = spans_of_pairs pairs in
     let needed = a.ask.slots + place.due in
     let looks = Looks-place a.ask.slots a.ask.now c.max-first.result table inv.place c.requires.now (omega (arith, c.max-first.ensures)) in
     let told = sym c.in_default.is ∙ c.short_between.ensures.short in
     let over = c.in_default-onward.ensures.last in
-    let end = last-ends t pairs place inv.place over in
+    let end = last-ends t spans place inv.place over in
     let first : c.max.result ≡ max c.max-first.result place.span.end = omega (arith, c.max.ensures, c.max-first.ensures, c.last_end-last.ensures, seen.stands.rising) in
     let all = place.due + place.span.work in
     let until : c.last_end-last.result + 1 ≡ last_end t spans + 1 = omega (arith, c.last_end-last.ensures) in
@@ -280,18 +273,17 @@ pub returns-in_default-onward-clause-left : goal.returns-in_default-onward-claus
 returns-in_default-onward-clause-left g c =
     let a = c.args in
     let t = g.T.SpareTable.time a.table.now in
-    let pairs = g.T.SpareTable.pairs a.table.now in
+    let spans = g.T.SpareTable.spans a.table.now in
     let table = c.requires.table in
     let inv = c.loop-evidence.invariant in
     let place = c.loop-evidence.place in
     let seen = IsSeen-place table inv.place in
-    let spans = spans_of_pairs pairs in
     let looks = Looks-place a.ask.slots a.ask.now c.max-first.result table inv.place c.requires.now (omega (arith, c.max-first.ensures)) in
     let need : ℕ → ℕ = need_until spans a.reserve.now a.ask.arrivals in
     let left = c.short_between.new.tried.left in
     let so_far = Looks-leaves-on spans a.reserve.now a.ask t place.due c.loop-evidence.tried.left left a.from place.span.start c.max-first.result place.span.end looks c.max-first.ensures c.short_between.ensures.least inv.left (c.short_between.ensures.left c.in_default.is) in
     let over = c.in_default-onward.ensures.last in
-    let end = last-ends t pairs place inv.place over in
+    let end = last-ends t spans place inv.place over in
     let first : c.max.result ≡ max c.max-first.result place.span.end = omega (arith, c.max.ensures, c.max-first.ensures, c.last_end-last.ensures, seen.stands.rising) in
     let all = place.due + place.span.work in
     let until : c.last_end-last.result + 1 ≡ last_end t spans + 1 = omega (arith, c.last_end-last.ensures) in
@@ -320,17 +312,16 @@ pub returns-in_default-onward-clause-greatest : goal.returns-in_default-onward-c
 returns-in_default-onward-clause-greatest g c =
     let a = c.args in
     let t = g.T.SpareTable.time a.table.now in
-    let pairs = g.T.SpareTable.pairs a.table.now in
+    let spans = g.T.SpareTable.spans a.table.now in
     let table = c.requires.table in
     let inv = c.loop-evidence.invariant in
     let place = c.loop-evidence.place in
-    let spans = spans_of_pairs pairs in
     let looks = Looks-place a.ask.slots a.ask.now c.max-first.result table inv.place c.requires.now (omega (arith, c.max-first.ensures)) in
     let start : a.from ≤ c.max-first.result = omega (arith, c.max-first.ensures) in
     let most = min a.told (last_end t spans - t - a.ask.slots) in
     let greatest = Looks-most spans a.reserve.now a.ask t place.due most c.loop-evidence.tried.left c.short_between.new.tried.left a.from c.max-first.result place.span.end looks start inv.greatest (c.short_between.ensures.greatest c.in_default.is) in
     let over = c.in_default-onward.ensures.last in
-    let end = last-ends t pairs place inv.place over in
+    let end = last-ends t spans place inv.place over in
     let all = place.due + place.span.work in
     let until : c.last_end-last.result + 1 ≡ last_end t spans + 1 = omega (arith, c.last_end-last.ensures) in
     let whole = Looks-over a.ask.slots a.ask.now c.max.result (c.last_end-last.result + 1) table inv.place over c.requires.now (omega (arith, c.max.ensures, c.last_end-last.ensures)) until in

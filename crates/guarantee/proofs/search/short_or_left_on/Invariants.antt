@@ -1,7 +1,6 @@
 use Rattle.std.proofs.Common.{◌≡◌, ◌+◌, ◌-◌, ◌<◌, ◌≤◌, [], length, max, min}
 use Rattle.slot_core.specs.declared.TheConstants.{HORIZON_LIMIT}
 use Rattle.spare_capacity.specs.Recurrence.{last_end}
-use Rattle.interval_row.specs.Tables.{spans_of_pairs}
 use Rattle.guarantee.specs.Offers.{first_short, need_until}
 use Rattle.guarantee.specs.Places.{IsPlace}
 use Rattle.guarantee.specs.Stretches.{IsLevelFrom, Leaves, MostFrom}
@@ -13,10 +12,9 @@ use Rattle.guarantee.proofs.search.short_or_left_on.Given as goal
 abbrev pub invariant-loop-evidence : goal.invariant-loop-evidence
 invariant-loop-evidence g l =
     let t = g.T.SpareTable.time l.table in
-    let pairs = g.T.SpareTable.pairs l.table in
-    let spans = spans_of_pairs pairs in
+    let spans = g.T.SpareTable.spans l.table in
     record {
-      place : IsPlace pairs l.place;
+      place : IsPlace spans l.place;
       passed : l.initial.place.index ≤ l.place.index;
       reached : l.from ≤ l.place.span.end;
       same : first_short spans l.reserve t l.ask.arrivals l.ask.slots l.from ≡ first_short spans l.reserve t l.ask.arrivals l.ask.slots (max l.from l.place.span.start);
@@ -31,4 +29,4 @@ invariant-loop-evidence g l =
     }
 
 abbrev pub decreases-loop-evidence : goal.decreases-loop-evidence
-decreases-loop-evidence g l = length (g.T.SpareTable.pairs l.table) - l.place.index
+decreases-loop-evidence g l = length (g.T.SpareTable.spans l.table) - l.place.index

@@ -1,4 +1,4 @@
-use Rattle.std.proofs.Common.{◌+◌, arith}
+use Rattle.std.proofs.Common.{◌∙◌, slice_get, ap, sym, arith}
 use Rattle.guarantee.proofs.Tables.{IsPlace-later, IsSeen-place}
 use Rattle.guarantee.proofs.walk.after.Goals as goal
 
@@ -14,5 +14,5 @@ overflow_add-result g c =
 
 pub returns-clause-place : goal.returns-clause-place
 returns-clause-place g c =
-    let pairs = g.T.SpareTable.pairs c.args.table.now in
-    IsPlace-later pairs c.args.place c.spot-at.result c.read.result c.requires.place c.spot-at.ensures (c.read.ensures.span (c.args.place.index + 1) c.spot-at.ensures)
+    let spans = g.T.SpareTable.spans c.args.table.now in
+    IsPlace-later spans c.args.place c.spot-at.result c.read.result c.requires.place c.spot-at.ensures (ap (slice_get spans) (sym c.spot-at.ensures) ∙ c.read.ensures.span)

@@ -1,26 +1,25 @@
-use Rattle.std.proofs.Common.{◌<◌, arith}
+use Rattle.std.proofs.Common.{◌<◌, ◌∙◌, slice_get, ap, sym, arith}
 use Rattle.interval_row.proofs.ShortTimes.{works-next}
-use Rattle.interval_row.specs.Tables.{spans_of_pairs}
 use Rattle.guarantee.specs.Places.{IsPlace}
 use Rattle.guarantee.proofs.Places.{ended-before, start-before}
-use Rattle.guarantee.proofs.Tables.{length-spans_of_pairs, near-within, IsSeen-place}
+use Rattle.guarantee.proofs.Tables.{near-within, IsSeen-place}
 use Rattle.guarantee.proofs.walk.place_of.Given.{Over}
 use Rattle.guarantee.proofs.walk.place_of.Goals as goal
 use Rattle.guarantee.proofs.walk.place_of.Goals.{After-read-span}
 
 -- the place of the span that is read
-place : (g : Over) (c : After-read-span g) → IsPlace (g.T.SpareTable.pairs c.args.table.now) (record { at = c.spot-at.result; due = c.loop-index.due; index = c.loop-index.index; span = c.read-span.result })
+place : (g : Over) (c : After-read-span g) → IsPlace (g.T.SpareTable.spans c.args.table.now) (record { at = c.spot-at.result; due = c.loop-index.due; index = c.loop-index.index; span = c.read-span.result })
 place g c = record {
   within = omega (arith, c.loop-index-test.true, c.count-count.ensures.count);
   spot = c.spot-at.ensures;
-  span = c.read-span.ensures.span c.loop-index.index c.spot-at.ensures;
+  span = ap (slice_get (g.T.SpareTable.spans c.args.table.now)) (sym c.spot-at.ensures) ∙ c.read-span.ensures.span;
   due = c.loop-index.invariant.front.works;
 }
 
 pub returns-then-time-span-clause-early : goal.returns-then-time-span-clause-early
 returns-then-time-span-clause-early g c =
     let t = g.T.SpareTable.time c.args.table.now in
-    let spans = spans_of_pairs (g.T.SpareTable.pairs c.args.table.now) in
+    let spans = g.T.SpareTable.spans c.args.table.now in
     let here = place g (goal.at.returns-then-time-span-clause-early g c).After-read-span in
     start-before t c.loop-index.index c.args.time spans c.read-span.result c.count-count.ensures.table.consecutive here.span c.requires.after c.loop-index.invariant.early
 
@@ -33,13 +32,12 @@ overflow_add-due g c =
 pub loop-index-preserved : goal.loop-index-preserved
 loop-index-preserved g c =
     let t = g.T.SpareTable.time c.args.table.now in
-    let pairs = g.T.SpareTable.pairs c.args.table.now in
-    let spans = spans_of_pairs pairs in
+    let spans = g.T.SpareTable.spans c.args.table.now in
     let here = place g (goal.at.loop-index-preserved g c).After-read-span in
     let ended : c.read-span.result.end < c.args.time = omega (arith, c.if-time-span.false) in
     record {
       front = record {
-        few = omega (arith, here.within, length-spans_of_pairs pairs);
+        few = omega (arith, here.within);
         works = omega (arith, here.due, works-next c.loop-index.index spans c.read-span.result here.span);
       };
       early = omega (arith, ended-before t c.args.time c.loop-index.index spans c.read-span.result c.count-count.ensures.table.consecutive here.span ended);
@@ -50,5 +48,5 @@ loop-index-preserved g c =
 pub unreachable-requires : goal.unreachable-requires
 unreachable-requires g c =
     let t = g.T.SpareTable.time c.args.table.now in
-    let pairs = g.T.SpareTable.pairs c.args.table.now in
-    omega (arith, c.loop-index-test.false, c.count-count.ensures.count, near-within t c.args.time c.loop-index.index pairs c.count-count.ensures.table.consecutive c.requires.after c.requires.within c.loop-index.invariant.early)
+    let spans = g.T.SpareTable.spans c.args.table.now in
+    omega (arith, c.loop-index-test.false, c.count-count.ensures.count, near-within t c.args.time c.loop-index.index spans c.count-count.ensures.table.consecutive c.requires.after c.requires.within c.loop-index.invariant.early)

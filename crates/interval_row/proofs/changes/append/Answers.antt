@@ -29,15 +29,15 @@ few g c =
     omega (arith, work-le (first_start spans) spans c.loop-span.span-index c.requires.spans.consecutive c.loop-span-test.true, ap (λ (s : Span). s.work) c.shifted-later.ensures)
 
 pub add_span-requires-clause-marks : goal.add_span-requires-clause-marks
-add_span-requires-clause-marks g c = ap length c.push.ensures.marks ∙ c.loop-span.invariant.marked.length
+add_span-requires-clause-marks g c = ap length c.push.ensures.kept.numbers ∙ c.loop-span.invariant.marked.length
 
 pub add_span-requires-clause-counts : goal.add_span-requires-clause-counts
 add_span-requires-clause-counts g c =
-    rw c.push.ensures.marks (few_counts c.shifted-later.result.end c.loop-span.invariant.marked (omega (arith, c.loop-span.invariant.count, c.loop-span-test.true, c.requires.few)))
+    rw c.push.ensures.kept.numbers (few_counts c.shifted-later.result.end c.loop-span.invariant.marked (omega (arith, c.loop-span.invariant.count, c.loop-span-test.true, c.requires.few)))
 
 pub add_span-requires-clause-works : goal.add_span-requires-clause-works
 add_span-requires-clause-works g c =
-    rw c.push.ensures.marks (few_works c.shifted-later.result.end c.loop-span.invariant.marked c.loop-span.invariant.light (omega (arith, c.loop-span.invariant.count, c.loop-span-test.true, c.requires.few)))
+    rw c.push.ensures.kept.numbers (few_works c.shifted-later.result.end c.loop-span.invariant.marked c.loop-span.invariant.light (omega (arith, c.loop-span.invariant.count, c.loop-span-test.true, c.requires.few)))
 
 pub add_span-requires-clause-few : goal.add_span-requires-clause-few
 add_span-requires-clause-few g c = few g (goal.at.add_span-requires-clause-few g c).After-shifted-later
@@ -50,14 +50,14 @@ loop-span-preserved g c =
     let later = c.shifted-later.result in
     let i = mark_index later.end in
     let few = few g (goal.at.loop-span-preserved g c).After-shifted-later in
-    let now = c.add_span.ensures.spans ∙ c.push.ensures.spans in
-    let put = put_is (g.S.Store.marks c.push.new.self) (g.S.Store.marks c.add_span.new.store) i (with_end later.end later.work) (omega (arith, ap length c.push.ensures.marks, c.loop-span.invariant.marked.length)) c.add_span.ensures.marks in
-    let same = put ∙ ap (λ ms. set ms i (with_end later.end later.work (get_or ms i blank_mark))) c.push.ensures.marks in
+    let now = c.add_span.ensures.kept.spans ∙ c.push.ensures.spans in
+    let put = put_is (g.S.Store.marks c.push.new.self) (g.S.Store.marks c.add_span.new.store) i (with_end later.end later.work) (omega (arith, ap length c.push.ensures.kept.numbers, c.loop-span.invariant.marked.length)) c.add_span.ensures.marks in
+    let same = put ∙ ap (λ ms. set ms i (with_end later.end later.work (get_or ms i blank_mark))) c.push.ensures.kept.numbers in
     record {
       spans = now ∙ ap (λ xs. xs ++ later ∷ []) c.loop-span.invariant.spans ∙ ap (λ s. (g.S.Store.spans c.args.store.now ++ map (shifted c.args.by) (take c.loop-span.span-index spans)) ++ s ∷ []) c.shifted-later.ensures ∙ appended-next c.args.by c.loop-span.span-index (g.S.Store.spans c.args.store.now) spans c.loop-span-test.true;
       count = omega (arith, ap length now, length-append rows (later ∷ []), c.loop-span.invariant.count);
       light = rw now (AreLight-push rows later c.loop-span.invariant.light few);
       marked = rw (now, same) (AreMarked-gained _ rows (rows ++ later ∷ []) marks later.end later.work (Gains-push rows later) c.loop-span.invariant.marked);
-      room = c.add_span.ensures.room ∙ c.push.ensures.room ∙ c.loop-span.invariant.room;
+      room = c.add_span.ensures.kept.room ∙ c.push.ensures.kept.room ∙ c.loop-span.invariant.room;
       steps = omega (arith, c.push.ensures.two_steps, c.loop-span.invariant.steps);
     }

@@ -80,7 +80,7 @@ returns-clause-spans g c =
     let rows = g.S.Store.spans c.args.store.now in
     let index = c.find_hinted-place.result.index in
     let work : c.changed-span.result.work ≡ changed_by c.args.change (get_or rows index no_row).work = ap (λ (s : Span). s.work) c.changed-span.ensures ∙ ap (λ (s : Span). changed_by c.args.change s.work) (found g after) in
-    c.change_span.ensures.spans ∙ c.set_work-stay.ensures.spans ∙ ap filled (ap (λ n. with_work_at index n rows) work ∙ sym ((due g after).changed (changed_by c.args.change)))
+    c.change_span.ensures.kept.spans ∙ c.set_work-stay.ensures.spans ∙ ap filled (ap (λ n. with_work_at index n rows) work ∙ sym ((due g after).changed (changed_by c.args.change)))
 
 pub returns-clause-few_steps : goal.returns-clause-few_steps
 returns-clause-few_steps g c =
@@ -88,12 +88,12 @@ returns-clause-few_steps g c =
 
 -- the marks are still those of before
 pub change_span-requires-clause-marks : goal.change_span-requires-clause-marks
-change_span-requires-clause-marks g c = ap length c.set_work-stay.ensures.marks ∙ c.requires.timed.marked.length
+change_span-requires-clause-marks g c = ap length c.set_work-stay.ensures.kept.numbers ∙ c.requires.timed.marked.length
 
 pub change_span-requires-clause-works : goal.change_span-requires-clause-works
 change_span-requires-clause-works g c =
     let rows = g.S.Store.spans c.args.store.now in
-    rw c.set_work-stay.ensures.marks (few_works c.find_hinted-place.result.span.end c.requires.timed.marked (AreLight-FollowOn c.args.times.start rows (follows c.requires.timed)) c.requires.timed.filled.few)
+    rw c.set_work-stay.ensures.kept.numbers (few_works c.find_hinted-place.result.span.end c.requires.timed.marked (AreLight-FollowOn c.args.times.start rows (follows c.requires.timed)) c.requires.timed.filled.few)
 
 pub returns-clause-marked : goal.returns-clause-marked
 returns-clause-marked g c =
@@ -105,11 +105,11 @@ returns-clause-marked g c =
     let change = c.args.change in
     let i = mark_index span.end in
     let work : c.changed-span.result.work ≡ changed_by change span.work = ap (λ (s : Span). s.work) c.changed-span.ensures in
-    let now = c.change_span.ensures.spans ∙ c.set_work-stay.ensures.spans ∙ ap (λ n. filled (with_work_at index n rows)) work in
-    let put = put_is (g.S.Store.marks c.set_work-stay.new.store) (g.S.Store.marks c.change_span.new.store) i (with_change change) (omega (arith, ap length c.set_work-stay.ensures.marks, c.requires.timed.marked.length)) c.change_span.ensures.marks in
-    let same = put ∙ ap (λ ms. set ms i (with_change change (get_or ms i blank_mark))) c.set_work-stay.ensures.marks in
+    let now = c.change_span.ensures.kept.spans ∙ c.set_work-stay.ensures.spans ∙ ap (λ n. filled (with_work_at index n rows)) work in
+    let put = put_is (g.S.Store.marks c.set_work-stay.new.store) (g.S.Store.marks c.change_span.new.store) i (with_change change) (omega (arith, ap length c.set_work-stay.ensures.kept.numbers, c.requires.timed.marked.length)) c.change_span.ensures.marks in
+    let same = put ∙ ap (λ ms. set ms i (with_change change (get_or ms i blank_mark))) c.set_work-stay.ensures.kept.numbers in
     let moves = Moves-filled (Moves-with_work_at rows index (changed_by change span.work) span c.find_hinted-place.ensures.span) in
     rw (now, same) (AreMarked-changed c.args.times.start rows (filled (with_work_at index (changed_by change span.work) rows)) marks span.end span.work change moves (may g after) c.requires.timed.marked)
 
 pub returns-clause-front : goal.returns-clause-front
-returns-clause-front g c = ap (take c.set_work-stay.result) c.change_span.ensures.spans ∙ c.set_work-stay.ensures.front
+returns-clause-front g c = ap (take c.set_work-stay.result) c.change_span.ensures.kept.spans ∙ c.set_work-stay.ensures.front

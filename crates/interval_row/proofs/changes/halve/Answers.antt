@@ -7,6 +7,7 @@ use Rattle.spare_capacity.specs.Recurrence.{filled, first_start, with_spare}
 use Rattle.spare_capacity.specs.Refill.{IsShort}
 use Rattle.spare_capacity.proofs.Steps.{no_row}
 use Rattle.interval_row.specs.Changes.{part_before, part_from}
+use Rattle.interval_row.proofs.Stores.{Keeps-both}
 use Rattle.interval_row.proofs.Cuts.{cut-halved}
 use Rattle.interval_row.proofs.WalkBack.{halves-filled, HoldsInside-at, IsShort-at, IsWithin, IsWithin-spare}
 use Rattle.interval_row.proofs.changes.halve.Given.{Over}
@@ -81,15 +82,12 @@ returns-clause-spans g c =
     ∙ halves-filled at index rows first second c.requires.filled.filled c.requires.inside later earlier
     ∙ ap filled (sym (cut-halved (first_start rows) at index rows c.requires.filled.consecutive c.requires.found c.requires.inside))
 
-pub returns-clause-marks : goal.returns-clause-marks
-returns-clause-marks g c = c.set.ensures.marks ∙ c.insert.ensures.marks
-
-pub returns-clause-room : goal.returns-clause-room
-returns-clause-room g c = c.set.ensures.room ∙ c.insert.ensures.room
-
 pub returns-clause-steps : goal.returns-clause-steps
 returns-clause-steps g c = omega (arith, c.insert.ensures.three_steps, c.set.ensures.one_step)
 
 pub overflow_add-place : goal.overflow_add-place
 overflow_add-place g c =
     omega (arith, slice_get_within (g.S.Store.spans c.args.store.now) c.args.place.index c.args.place.span c.requires.span, c.requires.filled.few)
+
+pub returns-clause-kept : goal.returns-clause-kept
+returns-clause-kept g c = Keeps-both c.insert.ensures.kept c.set.ensures.kept

@@ -18,7 +18,7 @@ later_start-requires-clause-low g c =
     omega (arith, ints, within.low, ap (λ (s : Span). s.spare) span)
 
 pub drop_span-requires : goal.drop_span-requires
-drop_span-requires g c = record { marks = ap length c.pop_front-passed.ensures.marks ∙ c.requires.marked.length }
+drop_span-requires g c = record { marks = ap length c.pop_front-passed.ensures.kept.numbers ∙ c.requires.marked.length }
 
 pub returns-then-span-clause-marked : goal.returns-then-span-clause-marked
 returns-then-span-clause-marked g c =
@@ -27,16 +27,16 @@ returns-then-span-clause-marked g c =
     let passed = c.pop_front-passed.result in
     let i = mark_index passed.end in
     let gains = Gains-drop rows passed c.pop_front-passed.ensures.first in
-    let now = c.drop_span.ensures.spans ∙ c.pop_front-passed.ensures.rest in
-    let put = put_is (g.S.Store.marks c.pop_front-passed.new.self) (g.S.Store.marks c.drop_span.new.store) i (without_end passed.work) (omega (arith, ap length c.pop_front-passed.ensures.marks, c.requires.marked.length)) c.drop_span.ensures.marks in
-    let same = put ∙ ap (λ ms. set ms i (without_end passed.work (get_or ms i blank_mark))) c.pop_front-passed.ensures.marks in
+    let now = c.drop_span.ensures.kept.spans ∙ c.pop_front-passed.ensures.rest in
+    let put = put_is (g.S.Store.marks c.pop_front-passed.new.self) (g.S.Store.marks c.drop_span.new.store) i (without_end passed.work) (omega (arith, ap length c.pop_front-passed.ensures.kept.numbers, c.requires.marked.length)) c.drop_span.ensures.marks in
+    let same = put ∙ ap (λ ms. set ms i (without_end passed.work (get_or ms i blank_mark))) c.pop_front-passed.ensures.kept.numbers in
     rw (now, same) (AreMarked-lost (first_start rows) rows (drop 1 rows) marks passed.end passed.work gains c.requires.marked)
 
 pub returns-clause-marked : goal.returns-clause-marked
 returns-clause-marked g c =
     let rows = g.S.Store.spans c.args.store.now in
     let stays = Stays-set rows c.at-span.result c.later_start.result c.at-span.ensures.span (ap (λ (s : Span). s.end) c.later_start.ensures) (ap (λ (s : Span). s.work) c.later_start.ensures) in
-    rw (c.set.ensures.spans, c.set.ensures.marks) (AreMarked-Stays stays c.requires.marked)
+    rw (c.set.ensures.spans, c.set.ensures.kept.numbers) (AreMarked-Stays stays c.requires.marked)
 
 pub returns-clause-spans : goal.returns-clause-spans
 returns-clause-spans g c =

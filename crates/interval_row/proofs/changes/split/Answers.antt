@@ -41,11 +41,11 @@ pub halve-requires-clause-inside : goal.halve-requires-clause-inside
 halve-requires-clause-inside g c = inside g (goal.at.halve-requires-clause-inside g c).After-find-place c.if-place-at.true
 
 pub cut_span-requires-clause-marks : goal.cut_span-requires-clause-marks
-cut_span-requires-clause-marks g c = ap length c.halve.ensures.marks ∙ c.requires.timed.marked.length
+cut_span-requires-clause-marks g c = ap length c.halve.ensures.kept.numbers ∙ c.requires.timed.marked.length
 
 pub cut_span-requires-clause-counts : goal.cut_span-requires-clause-counts
 cut_span-requires-clause-counts g c =
-    rw c.halve.ensures.marks (few_counts c.args.at c.requires.timed.marked c.requires.timed.filled.few)
+    rw c.halve.ensures.kept.numbers (few_counts c.args.at c.requires.timed.marked c.requires.timed.filled.few)
 
 pub returns-then-place-at-clause-marked : goal.returns-then-place-at-clause-marked
 returns-then-place-at-clause-marked g c =
@@ -55,9 +55,9 @@ returns-then-place-at-clause-marked g c =
     let i = mark_index at in
     let inside = inside g (goal.at.returns-then-place-at-clause-marked g c).After-find-place c.if-place-at.true in
     let gains = Gains-filled (Gains-cut c.args.times.start at c.find-place.result.index rows (follows c.requires.timed) c.find-place.ensures.index inside) in
-    let now = c.cut_span.ensures.spans ∙ c.halve.ensures.spans in
-    let put = put_is (g.S.Store.marks c.halve.new.store) (g.S.Store.marks c.cut_span.new.store) i with_cut (omega (arith, ap length c.halve.ensures.marks, c.requires.timed.marked.length)) c.cut_span.ensures.marks in
-    let same = put ∙ ap (λ ms. set ms i (with_cut (get_or ms i blank_mark))) c.halve.ensures.marks in
+    let now = c.cut_span.ensures.kept.spans ∙ c.halve.ensures.spans in
+    let put = put_is (g.S.Store.marks c.halve.new.store) (g.S.Store.marks c.cut_span.new.store) i with_cut (omega (arith, ap length c.halve.ensures.kept.numbers, c.requires.timed.marked.length)) c.cut_span.ensures.marks in
+    let same = put ∙ ap (λ ms. set ms i (with_cut (get_or ms i blank_mark))) c.halve.ensures.kept.numbers in
     rw (now, same) (AreMarked-cut c.args.times.start rows (filled (cut at rows)) marks at gains c.requires.timed.marked)
 
 pub returns-then-place-at-clause-nothing : goal.returns-then-place-at-clause-nothing

@@ -8,6 +8,7 @@ use Rattle.interval_row.specs.Changes.{ends_before}
 use Rattle.interval_row.specs.Lifts.{lifted}
 use Rattle.interval_row.specs.Spans.{AreFilled}
 use Rattle.interval_row.specs.Walks.{after_walk, others_between, HaveAtMost}
+use Rattle.interval_row.proofs.Stores.{Keeps-both}
 use Rattle.interval_row.proofs.RunWalks.{come-after, come-before, drop-further, ends_before-runs, take-fewer, HaveAtMost-others}
 use Rattle.interval_row.proofs.lifted.follow_back.Goals as goal
 
@@ -25,14 +26,13 @@ loop-last-init g c =
       high = rw none tt;
       front = refl;
       rest = refl;
-      laps = refl;
-      room = refl;
+      kept = record { room = refl; numbers = refl };
       steps = refl;
     }
 
 pub follow_run-next-requires-clause-lift : goal.follow_run-next-requires-clause-lift
 follow_run-next-requires-clause-lift g c =
-    ap (λ (l : Laps). slice_get l.lifts (c.args.page % 512)) c.loop-last.invariant.laps ∙ c.requires.lift
+    ap (λ (l : Laps). slice_get l.lifts (c.args.page % 512)) c.loop-last.invariant.kept.numbers ∙ c.requires.lift
 
 pub follow_run-next-requires-clause-some : goal.follow_run-next-requires-clause-some
 follow_run-next-requires-clause-some g c =
@@ -47,7 +47,7 @@ follow_run-next-requires-clause-place g c =
 pub follow_run-next-requires-clause-filled : goal.follow_run-next-requires-clause-filled
 follow_run-next-requires-clause-filled g c =
     let rows = g.S.Shelf.spans c.loop-last.shelf in
-    subst (λ (l : Laps). AreFilled (after_walk c.loop-last.last.walk (lifted l.lifts rows))) (sym c.loop-last.invariant.laps) (subst AreFilled (sym c.loop-last.invariant.spans) c.requires.filled)
+    subst (λ (l : Laps). AreFilled (after_walk c.loop-last.last.walk (lifted l.lifts rows))) (sym c.loop-last.invariant.kept.numbers) (subst AreFilled (sym c.loop-last.invariant.spans) c.requires.filled)
 
 pub loop-last-smaller : goal.loop-last-smaller
 loop-last-smaller g c = omega (arith, c.follow_run-next.ensures.before)
@@ -63,7 +63,7 @@ loop-last-preserved g c =
     let old = g.S.Shelf.spans c.loop-last.shelf in
     let new = g.S.Shelf.spans c.follow_run-next.new.shelf in
     let one : after_walk last.walk (lifted lifts new) ≡ after_walk was.walk (lifted lifts old) =
-    subst (λ (l : Laps). after_walk last.walk (lifted l.lifts new) ≡ after_walk was.walk (lifted l.lifts old)) c.loop-last.invariant.laps c.follow_run-next.ensures.spans in
+    subst (λ (l : Laps). after_walk last.walk (lifted l.lifts new) ≡ after_walk was.walk (lifted l.lifts old)) c.loop-last.invariant.kept.numbers c.follow_run-next.ensures.spans in
     let same : after_walk last.walk (lifted lifts new) ≡ after_walk c.args.from (lifted lifts first) = one ∙ c.loop-last.invariant.spans in
     let are : AreFilled (after_walk last.walk (lifted lifts new)) = subst AreFilled (sym same) c.requires.filled in
     let low : ends_before y new ≡ ends_before y first = ends_before-runs y lifts last.walk c.args.from new first same in
@@ -79,7 +79,7 @@ loop-last-preserved g c =
     let under : was.high ≤ℤ to_z w64 (of_z w64 c.max.result) = omega (arith, ints, clamps, c.max.ensures.value, bound, to_z-of_z w64 was.high was_high) in
     let over : last.high ≤ℤ to_z w64 (of_z w64 c.max.result) = omega (arith, ints, clamps, c.max.ensures.value, bound, to_z-of_z w64 last.high last_high) in
     let run : HaveAtMost last.high (others_between j was.walk.index (lifted lifts new)) =
-    subst (λ (l : Laps). HaveAtMost last.high (others_between j was.walk.index (lifted l.lifts new))) c.loop-last.invariant.laps c.follow_run-next.ensures.high in
+    subst (λ (l : Laps). HaveAtMost last.high (others_between j was.walk.index (lifted l.lifts new))) c.loop-last.invariant.kept.numbers c.follow_run-next.ensures.high in
     let less : j ≤ was.walk.index = omega (arith, c.follow_run-next.ensures.before) in
     record {
       spans = same;
@@ -92,8 +92,7 @@ loop-last-preserved g c =
       high = HaveAtMost-others lifts was.high last.high (to_z w64 (of_z w64 c.max.result)) j was.walk.index c.args.from.index new old c.follow_run-next.ensures.before c.loop-last.invariant.within under over c.follow_run-next.ensures.rest run c.loop-last.invariant.high;
       front = c.follow_run-next.ensures.front ∙ take-fewer j was.walk.index old first c.loop-last.invariant.front less;
       rest = drop-further was.walk.index c.args.from.index new old c.follow_run-next.ensures.rest c.loop-last.invariant.within ∙ c.loop-last.invariant.rest;
-      laps = c.follow_run-next.ensures.laps ∙ c.loop-last.invariant.laps;
-      room = c.follow_run-next.ensures.room ∙ c.loop-last.invariant.room;
+      kept = Keeps-both c.loop-last.invariant.kept c.follow_run-next.ensures.kept;
       steps = omega (arith, c.follow_run-next.ensures.two_steps, c.loop-last.invariant.steps);
     }
 
@@ -108,12 +107,6 @@ returns-after-loop-last-clause-front g c = c.loop-last.invariant.front
 
 pub returns-after-loop-last-clause-rest : goal.returns-after-loop-last-clause-rest
 returns-after-loop-last-clause-rest g c = c.loop-last.invariant.rest
-
-pub returns-after-loop-last-clause-laps : goal.returns-after-loop-last-clause-laps
-returns-after-loop-last-clause-laps g c = c.loop-last.invariant.laps
-
-pub returns-after-loop-last-clause-room : goal.returns-after-loop-last-clause-room
-returns-after-loop-last-clause-room g c = c.loop-last.invariant.room
 
 pub returns-after-loop-last-clause-high : goal.returns-after-loop-last-clause-high
 returns-after-loop-last-clause-high g c = c.loop-last.invariant.high
@@ -133,12 +126,6 @@ returns-else-last-ne0-clause-front g c = c.loop-last.invariant.front
 pub returns-else-last-ne0-clause-rest : goal.returns-else-last-ne0-clause-rest
 returns-else-last-ne0-clause-rest g c = c.loop-last.invariant.rest
 
-pub returns-else-last-ne0-clause-laps : goal.returns-else-last-ne0-clause-laps
-returns-else-last-ne0-clause-laps g c = c.loop-last.invariant.laps
-
-pub returns-else-last-ne0-clause-room : goal.returns-else-last-ne0-clause-room
-returns-else-last-ne0-clause-room g c = c.loop-last.invariant.room
-
 pub returns-else-last-ne0-clause-high : goal.returns-else-last-ne0-clause-high
 returns-else-last-ne0-clause-high g c = c.loop-last.invariant.high
 
@@ -157,12 +144,6 @@ returns-else-page-last-clause-front g c = c.loop-last.invariant.front
 pub returns-else-page-last-clause-rest : goal.returns-else-page-last-clause-rest
 returns-else-page-last-clause-rest g c = c.loop-last.invariant.rest
 
-pub returns-else-page-last-clause-laps : goal.returns-else-page-last-clause-laps
-returns-else-page-last-clause-laps g c = c.loop-last.invariant.laps
-
-pub returns-else-page-last-clause-room : goal.returns-else-page-last-clause-room
-returns-else-page-last-clause-room g c = c.loop-last.invariant.room
-
 pub returns-else-page-last-clause-high : goal.returns-else-page-last-clause-high
 returns-else-page-last-clause-high g c = c.loop-last.invariant.high
 
@@ -171,3 +152,12 @@ returns-else-page-last-clause-two_steps g c = c.loop-last.invariant.steps
 
 pub follow_run-next-requires-clause-near : goal.follow_run-next-requires-clause-near
 follow_run-next-requires-clause-near g c = c.requires.near
+
+pub returns-after-loop-last-clause-kept : goal.returns-after-loop-last-clause-kept
+returns-after-loop-last-clause-kept g c = c.loop-last.invariant.kept
+
+pub returns-else-last-ne0-clause-kept : goal.returns-else-last-ne0-clause-kept
+returns-else-last-ne0-clause-kept g c = c.loop-last.invariant.kept
+
+pub returns-else-page-last-clause-kept : goal.returns-else-page-last-clause-kept
+returns-else-page-last-clause-kept g c = c.loop-last.invariant.kept

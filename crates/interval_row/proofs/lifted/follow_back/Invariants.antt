@@ -3,6 +3,7 @@ use Rattle.slot_core.specs.declared.jobs.Span.{Span}
 use Rattle.interval_row.specs.Changes.{ends_before}
 use Rattle.interval_row.specs.Lifts.{lifted}
 use Rattle.interval_row.specs.Walks.{after_walk, others_between, HaveAtMost}
+use Rattle.interval_row.specs.Stores.{Keeps}
 use Rattle.interval_row.proofs.lifted.follow_back.Given as goal
 
 -- the spans from this place on have followed, as a run's would; before the first turn there are none
@@ -20,8 +21,7 @@ invariant-loop-last g l = record {
   high : HaveAtMost l.last.high (others_between l.last.walk.index l.fn.from.index (lifted (g.S.Shelf.laps l.fn.shelf).lifts (g.S.Shelf.spans l.shelf)));
   front : take l.last.walk.index (g.S.Shelf.spans l.shelf) ≡ take l.last.walk.index (g.S.Shelf.spans l.fn.shelf);
   rest : drop l.fn.from.index (g.S.Shelf.spans l.shelf) ≡ drop l.fn.from.index (g.S.Shelf.spans l.fn.shelf);
-  laps : g.S.Shelf.laps l.shelf ≡ g.S.Shelf.laps l.fn.shelf;
-  room : g.S.Shelf.room l.shelf ≡ g.S.Shelf.room l.fn.shelf;
+  kept : Keeps g.S.Shelf.room g.S.Shelf.laps l.fn.shelf l.shelf;
   steps : l.steps + 2 * l.last.walk.index ≡ l.fn.steps + 2 * l.fn.from.index;
 }
 

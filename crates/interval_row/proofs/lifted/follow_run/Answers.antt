@@ -180,12 +180,6 @@ returns-clause-rest g c =
     let few = IsRun-within lifts c.args.page c.args.lift (raise g w) k c.args.from.index rows (is g w) in
     ap (drop c.args.from.index) c.raise_back-raised.ensures.spans ∙ rest-kept (lifted_by (raise g w).more) k c.args.from.index rows c.raise_back-raised.ensures.before few
 
-pub returns-clause-laps : goal.returns-clause-laps
-returns-clause-laps g c = c.raise_back-raised.ensures.laps
-
-pub returns-clause-room : goal.returns-clause-room
-returns-clause-room g c = c.raise_back-raised.ensures.room
-
 pub returns-clause-two_steps : goal.returns-clause-two_steps
 returns-clause-two_steps g c =
     omega (arith, c.raise_back-raised.ensures.two_steps, c.raise_back-raised.ensures.before)
@@ -195,3 +189,6 @@ raise_back-raised-requires g c = record {
   some = omega (arith, c.requires.some);
   within = omega (arith, c.requires.place, count_by-le-length (λ (s : Span). ltb s.end ((c.args.page + 1) * 64)) (g.S.Shelf.spans c.args.shelf.now));
 }
+
+pub returns-clause-kept : goal.returns-clause-kept
+returns-clause-kept g c = c.raise_back-raised.ensures.kept

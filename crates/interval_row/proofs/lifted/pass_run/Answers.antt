@@ -50,12 +50,12 @@ has-passed g c =
     let put = ap (λ l. l.lifts) c.pass_back-passed.ensures.lifts in
     let lifts = rw (to_z-of_z w64 c.args.from.walk.more more, sym c.from.ensures) at put in
     let count = rw (sym c.from.ensures) at c.pass_back-passed.ensures.count in
-    rw (lifts, count, c.pass_back-passed.ensures.spans) (HasPassed-run c.from.result (at-run g c))
+    rw (lifts, count, c.pass_back-passed.ensures.kept.spans) (HasPassed-run c.from.result (at-run g c))
 
 -- and the spans at the end of the walk are the same
 spans-same : (g : Over) (c : After-from g) → after_walk (record { index = c.args.from.walk.index - c.pass_back-passed.result.count; more = c.args.from.walk.more }) (lifted (g.S.Shelf.laps c.pass_back-passed.new.self).lifts (g.S.Shelf.spans c.pass_back-passed.new.self)) ≡ after_walk c.args.from.walk (lifted (g.S.Shelf.laps c.args.shelf.now).lifts (g.S.Shelf.spans c.args.shelf.now))
 spans-same g c =
-    (has-passed g c).spans ∙ ap (λ ss. after_walk c.args.from.walk (lifted (g.S.Shelf.laps c.args.shelf.now).lifts ss)) c.pass_back-passed.ensures.spans
+    (has-passed g c).spans ∙ ap (λ ss. after_walk c.args.from.walk (lifted (g.S.Shelf.laps c.args.shelf.now).lifts ss)) c.pass_back-passed.ensures.kept.spans
 
 pub overflow_cast-result : goal.overflow_cast-result
 overflow_cast-result g c =
@@ -83,7 +83,7 @@ pub returns-clause-front : goal.returns-clause-front
 returns-clause-front g c =
     let passed = has-passed g (goal.at.returns-clause-front g c).After-from in
     let lifts = (g.S.Shelf.laps c.args.shelf.now).lifts in
-    passed.front ∙ ap (λ ss. take (c.args.from.walk.index - c.pass_back-passed.result.count) (lifted lifts ss)) c.pass_back-passed.ensures.spans
+    passed.front ∙ ap (λ ss. take (c.args.from.walk.index - c.pass_back-passed.result.count) (lifted lifts ss)) c.pass_back-passed.ensures.kept.spans
 
 pub returns-clause-ended : goal.returns-clause-ended
 returns-clause-ended g c =

@@ -12,7 +12,7 @@ pub set_high-requires-clause-below : goal.set_high-requires-clause-below
 set_high-requires-clause-below g c =
     let own = c.requires.marked.each c.mark_index-index.result c.mark-mark.result c.mark-mark.ensures in
     let none = AreAtMost-none c.mark_index-index.result (negsuc 9223372036854775807) (g.S.Store.spans c.args.store.now) (sym own.count ∙ c.if-mark-eq0.true) in
-    subst (λ spans. AreAtMost c.mark_index-index.result (negsuc 9223372036854775807) (drop 1 spans)) (sym c.set_mark.ensures.spans)
+    subst (λ spans. AreAtMost c.mark_index-index.result (negsuc 9223372036854775807) (drop 1 spans)) (sym c.set_mark.ensures.kept.spans)
     (AreAtMost-drop c.mark_index-index.result (negsuc 9223372036854775807) (g.S.Store.spans c.args.store.now) none)
 
 pub returns-else-mark-eq0-clause-marks : goal.returns-else-mark-eq0-clause-marks

@@ -12,7 +12,6 @@ use Rattle.interval_row.proofs.Cycles.{copies_fit, last_end-le, AreCopies-copies
 use Rattle.interval_row.proofs.Ends.{last_end-appended}
 use Rattle.interval_row.proofs.Kept.{starts-at_zero, AreFilled-ArePlanSpans}
 use Rattle.interval_row.proofs.Rooms.{AreKept-copies_of, IsTable-AreKept, AreKept, marked_of}
-use Rattle.interval_row.proofs.Spots.{spans_of_pairs-numbered}
 use Rattle.interval_row.proofs.span_table.filled_table.Given.{Over}
 use Rattle.interval_row.proofs.span_table.filled_table.Goals as goal
 use Rattle.interval_row.proofs.span_table.filled_table.Goals.{In_ok-chain, After-loop-copy}
@@ -108,4 +107,4 @@ pub returns-clause-time : goal.returns-clause-time
 returns-clause-time g c = sym (kept g (goal.at.returns-clause-time g c).After-loop-copy).starts
 
 pub returns-clause-spans : goal.returns-clause-spans
-returns-clause-spans g c = spans_of_pairs-numbered 0 (g.S.Store.spans c.loop-copy.chain) ∙ made g (goal.at.returns-clause-spans g c).After-loop-copy
+returns-clause-spans g c = made g (goal.at.returns-clause-spans g c).After-loop-copy

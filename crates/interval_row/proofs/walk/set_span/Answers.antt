@@ -55,15 +55,12 @@ returns-clause-front g c =
 pub returns-clause-index : goal.returns-clause-index
 returns-clause-index g c = refl
 
-pub returns-clause-marks : goal.returns-clause-marks
-returns-clause-marks g c = c.set.ensures.marks
-
 pub returns-clause-one_step : goal.returns-clause-one_step
 returns-clause-one_step g c = c.set.ensures.one_step
-
-pub returns-clause-room : goal.returns-clause-room
-returns-clause-room g c = c.set.ensures.room
 
 pub set-requires : goal.set-requires
 set-requires g c =
     slice_get_within (g.S.Store.spans c.args.store.now) c.args.place.index c.args.place.span c.requires.span
+
+pub returns-clause-kept : goal.returns-clause-kept
+returns-clause-kept g c = c.set.ensures.kept

@@ -39,7 +39,7 @@ walking g c = c.follow_rest-walk.ensures.spans ∙ c.set_span-from.ensures.spans
 pub follow_pages-requires-clause-pages : goal.follow_pages-requires-clause-pages
 follow_pages-requires-clause-pages g c =
     let can = can g ((goal.at.follow_pages-requires-clause-pages g c).After-set_span-from) in
-    let marks = c.follow_rest-walk.ensures.marks ∙ c.set_span-from.ensures.marks in
+    let marks = c.follow_rest-walk.ensures.kept.numbers ∙ c.set_span-from.ensures.kept.numbers in
     rw (walking g ((goal.at.follow_pages-requires-clause-pages g c).After-follow_rest-walk), marks) (can.pages (c.if-not-are_in_lap.ensures refl))
 
 pub follow_pages-requires-clause-first : goal.follow_pages-requires-clause-first

@@ -2,6 +2,7 @@ use Rattle.std.proofs.Common.{◌≡◌, ◌/◌, ◌∙◌, pos, FitsSigned, ap
 use Rattle.std.proofs.lemmas.Int.{to_z-of_z}
 use Rattle.slot_core.specs.declared.jobs.Span.{Span}
 use Rattle.interval_row.specs.Spans.{AreFilled}
+use Rattle.interval_row.proofs.Stores.{Keeps-both}
 use Rattle.interval_row.proofs.PageWalks.{walked-done}
 use Rattle.interval_row.proofs.RunWalks.{take-fewer}
 use Rattle.interval_row.proofs.WalkPages.{length-walks, EndsInPage, EndsInPage-start, IfSome-at}
@@ -35,8 +36,7 @@ loop-walk-preserved g c =
           ∙ take-fewer c.follow_spans-followed.result.walk.index c.loop-walk.walk.index (g.S.Store.spans c.loop-walk.store) (g.S.Store.spans c.args.store.now) c.loop-walk.invariant.front (omega (arith, c.follow_spans-followed.ensures.before));
       before = omega (arith, c.follow_spans-followed.ensures.before, c.loop-walk.invariant.before);
       start = c.follow_spans-followed.ensures.start;
-      room = c.follow_spans-followed.ensures.room ∙ c.loop-walk.invariant.room;
-      marks = c.follow_spans-followed.ensures.marks ∙ c.loop-walk.invariant.marks;
+      kept = Keeps-both c.loop-walk.invariant.kept c.follow_spans-followed.ensures.kept;
       low = omega (arith, c.follow_spans-followed.ensures.two_steps, c.follow_spans-followed.ensures.before, c.loop-walk.invariant.low);
       high = omega (arith, c.follow_spans-followed.ensures.two_steps, c.loop-walk.invariant.high);
     }

@@ -1,6 +1,7 @@
 use Rattle.std.proofs.Common.{◌≡◌, ◌+◌, ◌*◌, ◌≤◌, ◌<◌, length, take}
 use Rattle.std.specs.Prelude.{slice_get, IfSome}
 use Rattle.interval_row.specs.Walks.{after_walk}
+use Rattle.interval_row.specs.Stores.{Keeps}
 use Rattle.interval_row.proofs.walk_back.follow_all.Given as goal
 
 -- the spans from this place on have followed, and the first of them starts at this end
@@ -11,8 +12,7 @@ invariant-loop-walk g l = record {
   front : take l.walk.index (g.S.Store.spans l.store) ≡ take l.walk.index (g.S.Store.spans l.fn.store);
   before : l.walk.index ≤ l.fn.from.index;
   start : IfSome (slice_get (g.S.Store.spans l.store) l.walk.index) (λ s. s.start ≡ l.end);
-  room : g.S.Store.room l.store ≡ g.S.Store.room l.fn.store;
-  marks : g.S.Store.marks l.store ≡ g.S.Store.marks l.fn.store;
+  kept : Keeps g.S.Store.room g.S.Store.marks l.fn.store l.store;
   low : l.fn.steps ≤ l.steps;
   high : l.steps + 2 * l.walk.index ≤ l.fn.steps + 2 * l.fn.from.index;
 }

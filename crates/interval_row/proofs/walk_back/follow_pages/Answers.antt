@@ -3,6 +3,7 @@ use Rattle.std.proofs.lemmas.Int.{to_z-of_z}
 use Rattle.spare_capacity.specs.Recurrence.{first_start}
 use Rattle.interval_row.specs.Spans.{AreFilled}
 use Rattle.interval_row.specs.Walks.{after_walk}
+use Rattle.interval_row.proofs.Stores.{Keeps-both}
 use Rattle.interval_row.proofs.PageWalks.{none-before, walked-done}
 use Rattle.interval_row.proofs.RunWalks.{take-fewer}
 use Rattle.interval_row.proofs.walk_back.follow_pages.Goals as goal
@@ -35,8 +36,7 @@ loop-last-preserved g c =
       passed = omega (arith, next.passed, c.loop-last.invariant.passed);
       first = next.first;
       before = omega (arith, next.before, c.loop-last.invariant.before);
-      room = next.room ∙ c.loop-last.invariant.room;
-      marks = next.marks ∙ c.loop-last.invariant.marks;
+      kept = Keeps-both c.loop-last.invariant.kept next.kept;
       low = omega (arith, next.steps, c.loop-last.invariant.low);
       high = omega (arith, next.few_steps, c.loop-last.invariant.high);
     }

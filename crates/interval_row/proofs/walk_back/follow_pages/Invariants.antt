@@ -1,6 +1,7 @@
 use Rattle.std.proofs.Common.{◌≡◌, ◌+◌, ◌*◌, ◌≤◌, pos, take}
 use Rattle.interval_row.specs.Changes.{ends_before}
 use Rattle.interval_row.specs.Walks.{after_walk}
+use Rattle.interval_row.specs.Stores.{Keeps}
 use Rattle.interval_row.proofs.walk_back.follow_pages.Given as goal
 
 -- the spans of the pages from this one on have followed, unless nothing is repaid
@@ -12,8 +13,7 @@ invariant-loop-last g l = record {
   passed : l.last.walk.index ≤ l.fn.from.walk.index;
   first : l.first_page ≤ l.last.page;
   before : l.last.page ≤ l.fn.from.page;
-  room : g.S.Store.room l.store ≡ g.S.Store.room l.fn.store;
-  marks : g.S.Store.marks l.store ≡ g.S.Store.marks l.fn.store;
+  kept : Keeps g.S.Store.room g.S.Store.marks l.fn.store l.store;
   low : l.fn.steps ≤ l.steps;
   high : l.steps + 2 * l.last.walk.index ≤ l.fn.steps + 2 * l.fn.from.walk.index;
 }

@@ -1,5 +1,6 @@
 use Rattle.std.proofs.Common.{◌≡◌, ◌+◌, ◌-◌, ◌*◌, ◌∙◌, ap, sym, arith}
 use Rattle.interval_row.specs.Changes.{ends_before}
+use Rattle.interval_row.proofs.Stores.{Keeps-both}
 use Rattle.interval_row.proofs.RunWalks.{take-fewer}
 use Rattle.interval_row.proofs.walk_back.follow_some.Goals as goal
 
@@ -23,12 +24,6 @@ returns-clause-before g c = omega (arith, c.pass_pages-passed.ensures.first, c.p
 pub returns-clause-passed : goal.returns-clause-passed
 returns-clause-passed g c = omega (arith, c.follow_page-walk.ensures.before, c.pass_pages-passed.ensures.before)
 
-pub returns-clause-room : goal.returns-clause-room
-returns-clause-room g c = c.follow_page-walk.ensures.room ∙ c.pass_pages-passed.ensures.room
-
-pub returns-clause-marks : goal.returns-clause-marks
-returns-clause-marks g c = c.follow_page-walk.ensures.marks ∙ c.pass_pages-passed.ensures.marks
-
 pub returns-clause-steps : goal.returns-clause-steps
 returns-clause-steps g c = c.follow_page-walk.ensures.steps
 
@@ -36,7 +31,7 @@ pub returns-clause-few_steps : goal.returns-clause-few_steps
 returns-clause-few_steps g c = omega (arith, c.follow_page-walk.ensures.few_steps, c.pass_pages-passed.ensures.before)
 
 pub follow_page-walk-requires-clause-pages : goal.follow_page-walk-requires-clause-pages
-follow_page-walk-requires-clause-pages g c = rw (c.pass_pages-passed.ensures.spans, c.pass_pages-passed.ensures.marks) c.requires.pages
+follow_page-walk-requires-clause-pages g c = rw (c.pass_pages-passed.ensures.spans, c.pass_pages-passed.ensures.kept.numbers) c.requires.pages
 
 pub follow_page-walk-requires-clause-page : goal.follow_page-walk-requires-clause-page
 follow_page-walk-requires-clause-page g c =
@@ -75,14 +70,14 @@ returns-then-passed-first_page-clause-front g c = c.pass_pages-passed.ensures.fr
 pub returns-then-passed-first_page-clause-passed : goal.returns-then-passed-first_page-clause-passed
 returns-then-passed-first_page-clause-passed g c = c.pass_pages-passed.ensures.before
 
-pub returns-then-passed-first_page-clause-room : goal.returns-then-passed-first_page-clause-room
-returns-then-passed-first_page-clause-room g c = c.pass_pages-passed.ensures.room
-
-pub returns-then-passed-first_page-clause-marks : goal.returns-then-passed-first_page-clause-marks
-returns-then-passed-first_page-clause-marks g c = c.pass_pages-passed.ensures.marks
-
 pub returns-then-passed-first_page-clause-place : goal.returns-then-passed-first_page-clause-place
 returns-then-passed-first_page-clause-place g c = λ _. c.pass_pages-passed.ensures.place
 
 pub returns-then-passed-first_page-clause-before : goal.returns-then-passed-first_page-clause-before
 returns-then-passed-first_page-clause-before g c = omega (arith, c.requires.rising, c.if-passed-first_page.true)
+
+pub returns-clause-kept : goal.returns-clause-kept
+returns-clause-kept g c = Keeps-both c.pass_pages-passed.ensures.kept c.follow_page-walk.ensures.kept
+
+pub returns-then-passed-first_page-clause-kept : goal.returns-then-passed-first_page-clause-kept
+returns-then-passed-first_page-clause-kept g c = c.pass_pages-passed.ensures.kept

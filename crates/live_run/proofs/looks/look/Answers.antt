@@ -29,7 +29,7 @@ told g c h stands =
     let count = c.ahead-ran.result.1 in
     let line = c.bytes.ensures ∙ (c.look_line-line.ensures ∙ ap (λ (s : TaskSet). look_line s (told_of_slot ran) count) c.tasks.ensures.tasks) in
     subst (TellsLook exec.plan.tasks exec.plan.cycle h c.args.most) (sym line)
-    (TellsLook-told exec c.args.most count ran h stands c.ahead-ran.ensures.some c.ahead-ran.ensures.few (c.ahead-ran.ensures.same h stands) (c.ahead-ran.ensures.longest h stands))
+    (TellsLook-told exec c.args.most count ran h stands c.ahead-ran.ensures.some c.ahead-ran.ensures.few c.ahead-ran.ensures.within (c.ahead-ran.ensures.same h stands) (c.ahead-ran.ensures.longest h stands))
 
 pub returns-clause-put : goal.returns-clause-put
 returns-clause-put g c =

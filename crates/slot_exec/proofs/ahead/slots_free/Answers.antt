@@ -1,5 +1,4 @@
 use Rattle.std.proofs.Common.{arith}
-use Rattle.interval_row.specs.Tables.{spans_of_pairs}
 use Rattle.slot_exec.proofs.AheadRooms.{free-more, free-one}
 use Rattle.slot_exec.proofs.ahead.slots_free.Goals as goal
 
@@ -8,7 +7,7 @@ loop-taken-init g c =
     record {
       some = omega arith;
       few = c.requires.some;
-      free = free-one (spans_of_pairs (g.T.SpareTable.pairs c.args.table.now)) c.args.reserve.now (g.T.SpareTable.time c.args.table.now) c.requires.fits;
+      free = free-one (g.T.SpareTable.spans c.args.table.now) c.args.reserve.now (g.T.SpareTable.time c.args.table.now) c.requires.fits;
       steps = omega arith;
     }
 
@@ -19,6 +18,6 @@ loop-taken-preserved g c =
     record {
       some = omega arith;
       few = omega arith;
-      free = free-more (spans_of_pairs (g.T.SpareTable.pairs c.args.table.now)) c.args.reserve.now (g.T.SpareTable.time c.args.table.now) taken more _ c.loop-taken.invariant.free (c.soft_slots-more.ensures.leaves (omega arith)) (omega arith);
+      free = free-more (g.T.SpareTable.spans c.args.table.now) c.args.reserve.now (g.T.SpareTable.time c.args.table.now) taken more _ c.loop-taken.invariant.free (c.soft_slots-more.ensures.leaves (omega arith)) (omega arith);
       steps = omega arith;
     }

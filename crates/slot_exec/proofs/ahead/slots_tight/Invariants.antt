@@ -1,5 +1,4 @@
 use Rattle.std.proofs.Common.{◌-◌, ◌≤◌}
-use Rattle.interval_row.specs.Tables.{spans_of_pairs}
 use Rattle.slot_exec.specs.Ahead.{IsTightFor}
 use Rattle.slot_exec.proofs.ahead.slots_tight.Given as goal
 
@@ -9,7 +8,7 @@ invariant-loop-low g l = record {
   some : 1 ≤ l.low;
   between : l.low ≤ l.high;
   few : l.high ≤ l.most;
-  tight : IsTightFor (spans_of_pairs (g.T.SpareTable.pairs l.table)) l.reserve (g.T.SpareTable.time l.table) l.low l.room;
+  tight : IsTightFor (g.T.SpareTable.spans l.table) l.reserve (g.T.SpareTable.time l.table) l.low l.room;
 }
 
 abbrev pub decreases-loop-low : goal.decreases-loop-low

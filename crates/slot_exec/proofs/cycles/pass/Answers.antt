@@ -8,11 +8,9 @@ use Rattle.slot_facts.proofs.Plans.Items.{plan_cycle-bounds}
 use Rattle.spare_capacity.specs.Recurrence.{last_end}
 use Rattle.interval_row.specs.Changes.{after_pass}
 use Rattle.spare_capacity.specs.PlanSpans.{ArePlanSpans}
-use Rattle.interval_row.specs.Tables.{spans_of_pairs}
 use Rattle.interval_row.proofs.Cycles.{last_end-some}
 use Rattle.interval_row.proofs.Fillings.{last_end-filled, length-filled}
 use Rattle.interval_row.proofs.Kept.{length-after_pass}
-use Rattle.guarantee.proofs.Tables.{length-spans_of_pairs}
 use Rattle.slot_exec.specs.Changes.{HasPlaces}
 use Rattle.slot_exec.proofs.cycles.pass.Goals as goal
 
@@ -35,8 +33,7 @@ places_at plan rows queue limit capacity t time cycle later whole turns places =
 -- the spans end with the third cycle from the one of the slot before on
 pub ends_cycle-requires : goal.ends_cycle-requires
 ends_cycle-requires g c =
-    let rows = spans_of_pairs (g.T.SpareTable.pairs c.args.table.now) in
-    let pairs = g.T.SpareTable.pairs c.pass_slot.new.self in
+    let rows = g.T.SpareTable.spans c.args.table.now in
     let before = g.T.SpareTable.time c.args.table.now in
     let time = g.T.SpareTable.time c.pass_slot.new.self in
     let own : c.args.plan.now.cycle ≡ c.from-cycle.result = sym (c.from-cycle.ensures ∙ c.cycle.ensures.cycle) in
@@ -44,7 +41,6 @@ ends_cycle-requires g c =
     let some : 1 ≤ length (after_pass rows) = omega (
       arith,
       c.pass_slot.ensures.table.some,
-      length-spans_of_pairs pairs,
       ap length c.pass_slot.ensures.spans,
       length-filled (after_pass rows),
     ) in
@@ -68,13 +64,11 @@ append_cycle-requires-clause-plan g c =
 
 pub append_cycle-requires-clause-free : goal.append_cycle-requires-clause-free
 append_cycle-requires-clause-free g c =
-    let rows = spans_of_pairs (g.T.SpareTable.pairs c.args.table.now) in
-    let pairs = g.T.SpareTable.pairs c.pass_slot.new.self in
+    let rows = g.T.SpareTable.spans c.args.table.now in
     let places = places_at c.args.plan.now rows c.args.queue.now.jobs (g.T.SpareTable.limit c.args.table.now) c.args.queue.now.capacity (g.T.SpareTable.time c.args.table.now) c.time-time.result c.from-cycle.result (c.time-time.ensures ∙ c.pass_slot.ensures.time) (c.from-cycle.ensures ∙ c.cycle.ensures.cycle) (eqb-true _ 0 (sym c.ends_cycle.ensures ∙ c.if-ends_cycle.true)) c.requires.places in
     omega (
       arith,
       places.spans,
-      length-spans_of_pairs pairs,
       ap length c.pass_slot.ensures.spans,
       length-filled (after_pass rows),
       length-after_pass rows,
@@ -84,14 +78,12 @@ append_cycle-requires-clause-free g c =
 
 pub append_cycle-requires-clause-near : goal.append_cycle-requires-clause-near
 append_cycle-requires-clause-near g c =
-    let rows = spans_of_pairs (g.T.SpareTable.pairs c.args.table.now) in
-    let pairs = g.T.SpareTable.pairs c.pass_slot.new.self in
+    let rows = g.T.SpareTable.spans c.args.table.now in
     let time = g.T.SpareTable.time c.pass_slot.new.self in
     let places = places_at c.args.plan.now rows c.args.queue.now.jobs (g.T.SpareTable.limit c.args.table.now) c.args.queue.now.capacity (g.T.SpareTable.time c.args.table.now) c.time-time.result c.from-cycle.result (c.time-time.ensures ∙ c.pass_slot.ensures.time) (c.from-cycle.ensures ∙ c.cycle.ensures.cycle) (eqb-true _ 0 (sym c.ends_cycle.ensures ∙ c.if-ends_cycle.true)) c.requires.places in
     let some : 1 ≤ length (after_pass rows) = omega (
       arith,
       c.pass_slot.ensures.table.some,
-      length-spans_of_pairs pairs,
       ap length c.pass_slot.ensures.spans,
       length-filled (after_pass rows),
     ) in
@@ -106,4 +98,4 @@ append_cycle-requires-clause-near g c =
 
 pub insert_cycle-requires-clause-apart : goal.insert_cycle-requires-clause-apart
 insert_cycle-requires-clause-apart g c =
-    (places_at c.args.plan.now (spans_of_pairs (g.T.SpareTable.pairs c.args.table.now)) c.args.queue.now.jobs (g.T.SpareTable.limit c.args.table.now) c.args.queue.now.capacity (g.T.SpareTable.time c.args.table.now) c.time-time.result c.from-cycle.result (c.time-time.ensures ∙ c.pass_slot.ensures.time) (c.from-cycle.ensures ∙ c.cycle.ensures.cycle) (eqb-true _ 0 (sym c.ends_cycle.ensures ∙ c.if-ends_cycle.true)) c.requires.places).apart
+    (places_at c.args.plan.now (g.T.SpareTable.spans c.args.table.now) c.args.queue.now.jobs (g.T.SpareTable.limit c.args.table.now) c.args.queue.now.capacity (g.T.SpareTable.time c.args.table.now) c.time-time.result c.from-cycle.result (c.time-time.ensures ∙ c.pass_slot.ensures.time) (c.from-cycle.ensures ∙ c.cycle.ensures.cycle) (eqb-true _ 0 (sym c.ends_cycle.ensures ∙ c.if-ends_cycle.true)) c.requires.places).apart

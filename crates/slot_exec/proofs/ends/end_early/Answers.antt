@@ -1,8 +1,7 @@
 use Rattle.std.proofs.Common.{sym, ◌∙◌}
-use Rattle.interval_row.specs.Tables.{spans_of_pairs}
 use Rattle.scene_steps.proofs.Ends.EndedSpans.{AreDueInSpans-ending}
 use Rattle.slot_exec.proofs.ends.end_early.Goals as goal
 
 pub give_back-requires : goal.give_back-requires
 give_back-requires g c =
-    AreDueInSpans-ending c.time.result c.args.key c.args.queue.now.jobs (spans_of_pairs (g.T.SpareTable.pairs c.args.table.now)) c.in-Some.job c.requires (sym c.started_job.ensures.job ∙ c.in-Some.is)
+    AreDueInSpans-ending c.time.result c.args.key c.args.queue.now.jobs (g.T.SpareTable.spans c.args.table.now) c.in-Some.job c.requires (sym c.started_job.ensures.job ∙ c.in-Some.is)

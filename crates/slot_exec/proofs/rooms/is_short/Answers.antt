@@ -1,7 +1,6 @@
 use Rattle.std.proofs.Common.{◌≡◌, ◌+◌, ◌<◌, ap, ◌∙◌, arith}
 use Rattle.std.proofs.lemmas.Bool.{leb-true}
 use Rattle.slot_core.specs.Feasibility.Sporadics.{sporadic_demand}
-use Rattle.interval_row.specs.Tables.{spans_of_pairs}
 use Rattle.slot_exec.proofs.RememberedRoom.{soft_fits-tight}
 use Rattle.slot_exec.proofs.rooms.is_short.Goals as goal
 
@@ -14,7 +13,7 @@ returns-clause-short g c short =
     let (within, due) = c.requires.room.due later in
     let demand : c.demand.result ≡ sporadic_demand reserve.sporadics reserve.nexts (t + 1) tight = c.demand.ensures.demand ∙ ap (λ n. sporadic_demand reserve.sporadics reserve.nexts (n + 1) tight) c.time-now.ensures in
     let low = leb-true c.saturating_sub.result c.demand.result short in
-    soft_fits-tight (spans_of_pairs (g.T.SpareTable.pairs c.args.table.now)) reserve t tight later within (omega (arith, low, due, demand, c.saturating_sub.ensures, c.time-now.ensures))
+    soft_fits-tight (g.T.SpareTable.spans c.args.table.now) reserve t tight later within (omega (arith, low, due, demand, c.saturating_sub.ensures, c.time-now.ensures))
 
 pub returns-clause-tight : goal.returns-clause-tight
 returns-clause-tight g c short =

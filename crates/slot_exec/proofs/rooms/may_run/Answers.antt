@@ -1,11 +1,10 @@
 use Rattle.std.proofs.Common.{sym, arith}
-use Rattle.interval_row.specs.Tables.{spans_of_pairs}
 use Rattle.slot_exec.proofs.RememberedRoom.{soft_fits-free}
 use Rattle.slot_exec.proofs.rooms.may_run.Goals as goal
 
 pub returns-then-room-ge1-clause-answer : goal.returns-then-room-ge1-clause-answer
 returns-then-room-ge1-clause-answer g c =
-    sym (soft_fits-free (spans_of_pairs (g.T.SpareTable.pairs c.args.table.now)) c.args.reserve.now (g.T.SpareTable.time c.args.table.now) c.args.room c.requires.room (omega (arith, c.if-room-ge1.true)))
+    sym (soft_fits-free (g.T.SpareTable.spans c.args.table.now) c.args.reserve.now (g.T.SpareTable.time c.args.table.now) c.args.room c.requires.room (omega (arith, c.if-room-ge1.true)))
 
 pub returns-then-is_empty-clause-tight : goal.returns-then-is_empty-clause-tight
 returns-then-is_empty-clause-tight g c fails some =

@@ -1,5 +1,4 @@
 use Rattle.std.proofs.Common.{refl}
-use Rattle.interval_row.specs.Tables.{spans_of_pairs}
 use Rattle.slot_exec.proofs.AheadRooms.{tight-found}
 use Rattle.slot_exec.proofs.rooms.search.Goals as goal
 
@@ -14,4 +13,4 @@ returns-in-Short-clause-room g c =
 pub returns-in-Short-clause-tight : goal.returns-in-Short-clause-tight
 returns-in-Short-clause-tight g c fails =
     let (first, after, within, work) = c.in-Short.ensures.short _ _ refl in
-    tight-found (spans_of_pairs (g.T.SpareTable.pairs c.args.table.now)) c.args.reserve.now (g.T.SpareTable.time c.args.table.now) _ first after within work
+    tight-found (g.T.SpareTable.spans c.args.table.now) c.args.reserve.now (g.T.SpareTable.time c.args.table.now) _ first after within work

@@ -4,7 +4,6 @@ use Rattle.std.proofs.lemmas.List.{take_more}
 use Rattle.std.proofs.lemmas.Option.{get_or_from_slice_get, slice_get_within}
 use Rattle.slot_core.specs.declared.jobs.Span.{Span}
 use Rattle.slot_core.specs.Runs.ShownSpans.{ShownSpans}
-use Rattle.interval_row.specs.Tables.{spans_of_pairs}
 use Rattle.slot_exec.proofs.shown.first_spans.Goals as goal
 
 -- one span more is shown
@@ -16,9 +15,9 @@ shown-more spans more i s before after at shown pushed =
 
 pub loop-index-preserved : goal.loop-index-preserved
 loop-index-preserved g c =
-    let pairs = g.T.SpareTable.pairs c.args.table.now in
-    let read = c.read.ensures.span c.loop-index.index c.spot.ensures in
+    let spans = g.T.SpareTable.spans c.args.table.now in
+    let read = ap (slice_get spans) (sym c.spot.ensures) ∙ c.read.ensures.span in
     record {
-      shown = shown-more (spans_of_pairs pairs) _ c.loop-index.index c.read.result c.loop-index.shown c.push.new.self read c.loop-index.invariant.shown c.push.ensures;
+      shown = shown-more spans _ c.loop-index.index c.read.result c.loop-index.shown c.push.new.self read c.loop-index.invariant.shown c.push.ensures;
       steps = omega arith;
     }

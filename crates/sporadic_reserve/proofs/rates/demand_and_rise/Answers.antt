@@ -2,7 +2,7 @@ use Rattle.std.proofs.Common.{◌≡◌, ◌*◌, ◌≤◌, arith, get_or}
 use Rattle.std.proofs.Math.Nat.{mul-le-mul}
 use Rattle.std.proofs.lemmas.List.Sums.{sum_by_more}
 use Rattle.slot_core.specs.declared.TheConstants.{HORIZON_LIMIT, SLOT_LIMIT}
-use Rattle.sporadic_reserve.proofs.Demands.{demand-all, no_rate, IsRate-at, rate_demand, RisesAt-all, RisesAt-more}
+use Rattle.sporadic_reserve.proofs.Demands.{demand-all, no_rate, sporadic_demand-grows, IsRate-at, rate_demand, RisesAt-all, RisesAt-more}
 use Rattle.sporadic_reserve.proofs.rates.demand_and_rise.Goals as goal
 
 pub loop-rate-preserved : goal.loop-rate-preserved
@@ -23,6 +23,12 @@ pub returns-clause-demand : goal.returns-clause-demand
 returns-clause-demand c =
     let rates = c.args.rates.now in
     demand-all rates c.loop-rate.rate-index c.loop-rate.needed c.args.r c.args.x c.loop-rate-test.false c.loop-rate.invariant.sum
+
+pub returns-clause-most : goal.returns-clause-most
+returns-clause-most c z le =
+    let rates = c.args.rates.now in
+    let all = demand-all rates c.loop-rate.rate-index c.loop-rate.needed c.args.r c.args.x c.loop-rate-test.false c.loop-rate.invariant.sum in
+    omega (arith, all, sporadic_demand-grows rates c.args.r c.requires.rates z c.args.x le)
 
 pub returns-clause-rise : goal.returns-clause-rise
 returns-clause-rise c =

@@ -27,14 +27,14 @@ laps g c =
     let add : FitsSigned w64 was.add = search rules in
     let both : ◌≡◌ {A = Lift} (record { high = to_z w64 (of_z w64 c.max-high.result); add = to_z w64 (of_z w64 was.add) }) (lift g c) =
     λ k. record { high = to_z-of_z w64 c.max-high.result high k; add = to_z-of_z w64 was.add add k } in
-    ap (λ (l : Laps). l.lifts) c.set_lift.ensures.laps ∙ ap (λ (l : Laps). set l.lifts j (record { high = to_z w64 (of_z w64 c.max-high.result); add = to_z w64 (of_z w64 was.add) })) c.follow_back-followed.ensures.laps
+    ap (λ (l : Laps). l.lifts) c.set_lift.ensures.laps ∙ ap (λ (l : Laps). set l.lifts j (record { high = to_z w64 (of_z w64 c.max-high.result); add = to_z w64 (of_z w64 was.add) })) c.follow_back-followed.ensures.kept.numbers
     ∙ ap (set (g.S.Shelf.laps c.self.inside.shelf).lifts j) both
 
 -- the spans are those that were followed
 now : (g : Over) (c : After-set_lift g) → lifted (g.S.Shelf.laps c.set_lift.new.self).lifts (g.S.Shelf.spans c.set_lift.new.self) ≡ lifted (g.S.Shelf.laps c.self.inside.shelf).lifts (g.S.Shelf.spans c.follow_back-followed.new.shelf)
 now g c =
     let lifts = (g.S.Shelf.laps c.self.inside.shelf).lifts in
-    (λ k. lifted (laps g c k) (c.set_lift.ensures.spans k))
+    (λ k. lifted (laps g c k) (c.set_lift.ensures.kept.spans k))
     ∙ lifted-same lifts c.index_of_page-index.result c.lift-lift.result c.lift-lift.ensures (lift g c) refl (g.S.Shelf.spans c.follow_back-followed.new.shelf)
 
 pub invariant_of-self : goal.invariant_of-self
@@ -58,7 +58,7 @@ invariant_of-self g c =
     let high : n ≤ ends_before ((c.args.page + 1) * 64) rows = omega (arith, c.requires.place, count ((c.args.page + 1) * 64)) in
     let own = in-walk lifts followed.walk c.args.from c.args.page new rows are c.follow_back-followed.ensures.spans low c.follow_back-followed.ensures.reached high in
     let mark : AllByRecursion (λ (s : Span). mark_index s.end ≡ j) (take (n - k) (drop k new)) = rw c.index_of_page-index.ensures own in
-    rw (laps g w, c.set_lift.ensures.spans) (AreCovered-others lifts j was c.lift-lift.ensures (lift g w) refl followed.high k n new rows more over c.follow_back-followed.ensures.before c.self.invariant mark c.follow_back-followed.ensures.high c.follow_back-followed.ensures.front c.follow_back-followed.ensures.rest)
+    rw (laps g w, c.set_lift.ensures.kept.spans) (AreCovered-others lifts j was c.lift-lift.ensures (lift g w) refl followed.high k n new rows more over c.follow_back-followed.ensures.before c.self.invariant mark c.follow_back-followed.ensures.high c.follow_back-followed.ensures.front c.follow_back-followed.ensures.rest)
 
 pub returns-clause-spans : goal.returns-clause-spans
 returns-clause-spans g c =
@@ -105,14 +105,6 @@ returns-clause-before g c = c.follow_back-followed.ensures.before
 pub returns-clause-two_steps : goal.returns-clause-two_steps
 returns-clause-two_steps g c = c.follow_back-followed.ensures.two_steps
 
-pub returns-clause-room : goal.returns-clause-room
-returns-clause-room g c =
-    c.set_lift.ensures.room ∙ c.follow_back-followed.ensures.room ∙ ap (λ (v : StoreParts). v.room) c.self.view_is
-
-pub returns-clause-marks : goal.returns-clause-marks
-returns-clause-marks g c =
-    ap (λ (l : Laps). l.marks) c.set_lift.ensures.laps ∙ ap (λ (l : Laps). l.marks) c.follow_back-followed.ensures.laps ∙ ap (λ (v : StoreParts). v.marks) c.self.view_is
-
 pub returns-clause-reached : goal.returns-clause-reached
 returns-clause-reached g c =
     let shelf = c.self.inside.shelf in
@@ -141,3 +133,9 @@ follow_back-followed-requires-clause-place g c =
 pub follow_back-followed-requires-clause-filled : goal.follow_back-followed-requires-clause-filled
 follow_back-followed-requires-clause-filled g c =
     subst (λ (v : StoreParts). AreFilled (after_walk c.args.from v.spans)) (sym c.self.view_is) c.requires.filled
+
+pub returns-clause-kept : goal.returns-clause-kept
+returns-clause-kept g c = record {
+  room = c.set_lift.ensures.kept.room ∙ c.follow_back-followed.ensures.kept.room ∙ ap (λ (v : StoreParts). v.room) c.self.view_is;
+  numbers = ap (λ (l : Laps). l.marks) c.set_lift.ensures.laps ∙ ap (λ (l : Laps). l.marks) c.follow_back-followed.ensures.kept.numbers ∙ ap (λ (v : StoreParts). v.marks) c.self.view_is;
+}

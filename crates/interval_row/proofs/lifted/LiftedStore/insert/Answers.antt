@@ -38,11 +38,11 @@ module _ (g : Over) (c : After-insert g) where
   within = omega (arith, slice_get_within (lifted lifts spans) i c.args.there there, length-map spans (lifted_in lifts))
 
   laps : (g.S.Shelf.laps c.insert.new.self).lifts ≡ over covered c.args.span c.cover-lift.result c.cover-lift.ensures.lift
-  laps = ap (λ (l : Laps). l.lifts) (c.insert.ensures.laps ∙ c.cover-lift.ensures.laps)
+  laps = ap (λ (l : Laps). l.lifts) (c.insert.ensures.kept.numbers ∙ c.cover-lift.ensures.laps)
 
   now : g.S.Shelf.spans c.insert.new.self ≡ insert spans i (lowered_by c.cover-lift.result.add c.args.span)
   now =
-      c.insert.ensures.spans ∙ ap (λ xs. insert xs i c.lowered_by.result) (c.cover-lift.ensures.spans ∙ c.cover.ensures.spans)
+      c.insert.ensures.spans ∙ ap (λ xs. insert xs i c.lowered_by.result) (c.cover-lift.ensures.kept.spans ∙ c.cover.ensures.kept.spans)
       ∙ ap (insert spans i) c.lowered_by.ensures
 
 pub invariant_of-self : goal.invariant_of-self

@@ -58,7 +58,7 @@ loop-last-preserved g c = record {
   before = omega (arith, c.pass_run-last.ensures.before, c.loop-last.invariant.before);
   front = stayed g (goal.at.loop-last-preserved g c).After-pass_run-last;
   covered = c.pass_run-last.ensures.covered;
-  room = c.pass_run-last.ensures.room ∙ c.loop-last.invariant.room;
+  room = c.pass_run-last.ensures.kept.room ∙ c.loop-last.invariant.room;
   marks = c.pass_run-last.ensures.marks ∙ c.loop-last.invariant.marks;
 }
 
@@ -78,12 +78,6 @@ returns-then-low-last-clause-spans g c = c.pass_run-last.ensures.spans ∙ c.loo
 
 pub returns-then-low-last-clause-more : goal.returns-then-low-last-clause-more
 returns-then-low-last-clause-more g c = c.pass_run-last.ensures.more ∙ c.loop-last.invariant.more
-
-pub returns-then-low-last-clause-room : goal.returns-then-low-last-clause-room
-returns-then-low-last-clause-room g c = c.pass_run-last.ensures.room ∙ c.loop-last.invariant.room
-
-pub returns-then-low-last-clause-marks : goal.returns-then-low-last-clause-marks
-returns-then-low-last-clause-marks g c = c.pass_run-last.ensures.marks ∙ c.loop-last.invariant.marks
 
 pub returns-then-low-last-clause-first : goal.returns-then-low-last-clause-first
 returns-then-low-last-clause-first g c = omega (arith, c.pass_run-last.ensures.first, c.max-low.ensures)
@@ -117,11 +111,14 @@ returns-clause-before g c = c.loop-last.invariant.before
 pub returns-clause-front : goal.returns-clause-front
 returns-clause-front g c = c.loop-last.invariant.front
 
-pub returns-clause-room : goal.returns-clause-room
-returns-clause-room g c = c.loop-last.invariant.room
-
-pub returns-clause-marks : goal.returns-clause-marks
-returns-clause-marks g c = c.loop-last.invariant.marks
-
 pub returns-clause-ended : goal.returns-clause-ended
 returns-clause-ended g c = λ more. absurd (omega (arith, more, c.loop-last-test.false))
+
+pub returns-then-low-last-clause-kept : goal.returns-then-low-last-clause-kept
+returns-then-low-last-clause-kept g c = record {
+  room = c.pass_run-last.ensures.kept.room ∙ c.loop-last.invariant.room;
+  numbers = c.pass_run-last.ensures.marks ∙ c.loop-last.invariant.marks;
+}
+
+pub returns-clause-kept : goal.returns-clause-kept
+returns-clause-kept g c = record { room = c.loop-last.invariant.room; numbers = c.loop-last.invariant.marks }

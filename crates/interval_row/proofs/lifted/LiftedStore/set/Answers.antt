@@ -21,7 +21,7 @@ module _ (g : Over) (c : After-set g) where
 
   -- the lifts of the shelf, where the laps before are these
   laps : (before : Laps) → g.S.Shelf.laps c.if-index-eq0.self-inside.shelf ≡ before → (g.S.Shelf.laps c.set.new.self).lifts ≡ before.lifts
-  laps before are = ap (λ (l : Laps). l.lifts) (c.set.ensures.laps ∙ are)
+  laps before are = ap (λ (l : Laps). l.lifts) (c.set.ensures.kept.numbers ∙ are)
 
   -- the spans of the shelf, where those before are these and the lift is this
   now : (before : List Span) → g.S.Shelf.spans c.if-index-eq0.self-inside.shelf ≡ before → (lift : Lift) → c.if-index-eq0.lift ≡ lift
@@ -40,7 +40,7 @@ invariant_of-self g c = elim c.if-index-eq0.branch [
   | else-index-eq0 w ↦
       let i = c.args.index in let s = c.args.span in let was = w.cover-lift.result in
       let lifts_are = laps g c (g.S.Shelf.laps w.cover-lift.new.shelf) (λ k. g.S.Shelf.laps (w.self-inside-is k).shelf) ∙ ap (λ (l : Laps). l.lifts) w.cover-lift.ensures.laps in
-      let spans_are = now g c (spans g c) ((λ k. g.S.Shelf.spans (w.self-inside-is k).shelf) ∙ w.cover-lift.ensures.spans) was w.lift-is in
+      let spans_are = now g c (spans g c) ((λ k. g.S.Shelf.spans (w.self-inside-is k).shelf) ∙ w.cover-lift.ensures.kept.spans) was w.lift-is in
       rw (lifts_are, spans_are) (AreCovered-put (lifts g c) s was w.cover-lift.ensures.lift (fits g c) (spans g c) i w.if-index-eq0.false c.self.invariant)
 ]
 
@@ -55,7 +55,7 @@ returns-clause-spans g c = elim c.if-index-eq0.branch [
   | else-index-eq0 w ↦
       let i = c.args.index in let s = c.args.span in let was = w.cover-lift.result in
       let lifts_are = laps g c (g.S.Shelf.laps w.cover-lift.new.shelf) (λ k. g.S.Shelf.laps (w.self-inside-is k).shelf) ∙ ap (λ (l : Laps). l.lifts) w.cover-lift.ensures.laps in
-      let spans_are = now g c (spans g c) ((λ k. g.S.Shelf.spans (w.self-inside-is k).shelf) ∙ w.cover-lift.ensures.spans) was w.lift-is in
+      let spans_are = now g c (spans g c) ((λ k. g.S.Shelf.spans (w.self-inside-is k).shelf) ∙ w.cover-lift.ensures.kept.spans) was w.lift-is in
       (λ k. lifted (lifts_are k) (spans_are k)) ∙ lifted-set (lifts g c) s was w.cover-lift.ensures.lift (fits g c) (spans g c) i
       ∙ ap (λ (v : StoreParts). set v.spans i s) c.self.view_is
 ]

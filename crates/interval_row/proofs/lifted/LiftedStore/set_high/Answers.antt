@@ -19,7 +19,7 @@ invariant_of-self g c =
     let laps = ap (λ (l : Laps). l.lifts) c.set_lift.ensures.laps ∙ ap (set lifts j) both in
     let rest = ap (λ (v : StoreParts). drop 1 v.spans) (sym c.self.view_is) ∙ drop-map (lifted_in lifts) 1 spans in
     let below = subst (AreAtMost j c.args.high) rest c.requires.below in
-    rw (laps, c.set_lift.ensures.spans) (AreCovered-set lifts j was c.lift-lift.ensures lift refl (drop 1 spans) below c.self.invariant)
+    rw (laps, c.set_lift.ensures.kept.spans) (AreCovered-set lifts j was c.lift-lift.ensures lift refl (drop 1 spans) below c.self.invariant)
 
 pub returns-clause-spans : goal.returns-clause-spans
 returns-clause-spans g c =
@@ -30,5 +30,5 @@ returns-clause-spans g c =
     let both : ◌≡◌ {A = Lift} (record { high = to_z w64 (of_z w64 c.args.high); add = to_z w64 (of_z w64 was.add) }) lift =
     λ k. record { high = to_z-of_z w64 c.args.high c.ranges.high k; add = to_z-of_z w64 was.add fits k } in
     let laps = ap (λ (l : Laps). l.lifts) c.set_lift.ensures.laps ∙ ap (set lifts j) both in
-    (λ k. lifted (laps k) (c.set_lift.ensures.spans k)) ∙ lifted-same lifts j was c.lift-lift.ensures lift refl spans
+    (λ k. lifted (laps k) (c.set_lift.ensures.kept.spans k)) ∙ lifted-same lifts j was c.lift-lift.ensures lift refl spans
     ∙ ap (λ (v : StoreParts). v.spans) c.self.view_is

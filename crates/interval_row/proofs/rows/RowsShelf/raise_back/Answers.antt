@@ -86,8 +86,8 @@ loop-index-preserved g c =
     record {
       some = omega (arith, c.if-index-eq0.false);
       spans = done g b;
-      room = c.set.ensures.room ∙ c.loop-index.invariant.room;
-      laps = c.set.ensures.laps ∙ c.loop-index.invariant.laps;
+      room = c.set.ensures.kept.room ∙ c.loop-index.invariant.room;
+      laps = c.set.ensures.kept.numbers ∙ c.loop-index.invariant.laps;
       passed = PassOn-next c.args.raise (spans g b) (k g b) c.args.from c.at-span.result (here g b) (sym c.passes_on.ensures ∙ c.if-not-passes_on.false)
           (λ i s low. c.loop-index.invariant.passed i s (omega (arith, low)));
       high = λ i s low. high g b i s (omega (arith, low, c.if-index-eq0.false)) low;

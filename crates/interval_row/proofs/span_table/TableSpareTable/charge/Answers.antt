@@ -1,18 +1,15 @@
-use Rattle.std.proofs.Common.{◌+◌, ◌*◌, ◌≤◌, ◌^◌, ◌∙◌, IsSomeAnd, ap, sym, subst}
-use Rattle.slot_core.specs.declared.jobs.Span.{Span}
-use Rattle.spare_capacity.specs.Recurrence.{filled}
-use Rattle.interval_row.specs.Changes.{ends_before, span_ending, with_more}
-use Rattle.interval_row.proofs.Spots.{spans_of_pairs-numbered}
 use Rattle.interval_row.proofs.span_table.TableSpareTable.charge.Goals as goal
 
 pub change_work-requires : goal.change_work-requires
-change_work-requires g c =
-    subst (λ xs. IsSomeAnd (span_ending c.args.deadline xs) (λ (s : Span). s.work + c.args.slots ≤ 2 ^ 40)) (spans_of_pairs-numbered 0 c.args.self.now.spans) c.requires
+change_work-requires g c = c.requires
 
 pub returns-clause-spans : goal.returns-clause-spans
-returns-clause-spans g c =
-    spans_of_pairs-numbered 0 c.change_work.new.self.spans ∙ c.change_work.ensures.spans ∙ ap (λ xs. filled (with_more c.args.deadline c.args.slots xs)) (sym (spans_of_pairs-numbered 0 c.args.self.now.spans))
+returns-clause-spans g c = c.change_work.ensures.spans
 
 pub returns-clause-few_steps : goal.returns-clause-few_steps
-returns-clause-few_steps g c =
-    λ t. subst (λ xs. c.change_work.new.steps ≤ c.args.steps.now + 3 * ends_before c.args.deadline xs + 3) (sym (spans_of_pairs-numbered 0 c.args.self.now.spans)) c.change_work.ensures.few_steps
+returns-clause-few_steps g c = λ t. c.change_work.ensures.few_steps
+
+pub returns-clause-stays : goal.returns-clause-stays
+returns-clause-stays g c =
+    let is = c.change_work.ensures in
+    record { table = is.table; time = is.time; room = is.room }

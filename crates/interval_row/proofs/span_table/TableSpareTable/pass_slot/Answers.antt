@@ -3,7 +3,6 @@ use Rattle.spare_capacity.specs.Recurrence.{filled, first_start, last_end}
 use Rattle.interval_row.specs.Changes.{after_pass}
 use Rattle.interval_row.specs.Marks.{AreMarked}
 use Rattle.interval_row.proofs.Rooms.{marked-start, seen_of, AreKept-after_pass, IsTable-AreKept, AreKept, kept_of, marked_of}
-use Rattle.interval_row.proofs.Spots.{spans_of_pairs-numbered}
 use Rattle.interval_row.proofs.span_table.TableSpareTable.pass_slot.Given.{Over}
 use Rattle.interval_row.proofs.span_table.TableSpareTable.pass_slot.Goals as goal
 use Rattle.interval_row.proofs.span_table.TableSpareTable.pass_slot.Goals.{After-pass_time}
@@ -37,13 +36,13 @@ kept g c =
     let seen = seen_of c.self.view_is (kept_of c.self.invariant) in
     let rows = g.S.Store.spans c.self.inside.chain in
     let goes_on : first_start rows + 1 < last_end 0 rows = omega (arith, c.requires, c.self.invariant.timed.ends, seen.start, seen.end) in
-    rw (c.pass_time.ensures.spans ∙ c.pass-self-inside.ensures.spans, c.pass_time.ensures.room ∙ c.pass-self-inside.ensures.room) (AreKept-after_pass rows (g.S.Store.room c.self.inside.chain) c.self.inside.times.start c.self.inside.times.end (kept_of c.self.invariant) goes_on)
+    rw (c.pass_time.ensures.kept.spans ∙ c.pass-self-inside.ensures.spans, c.pass_time.ensures.kept.room ∙ c.pass-self-inside.ensures.room) (AreKept-after_pass rows (g.S.Store.room c.self.inside.chain) c.self.inside.times.start c.self.inside.times.end (kept_of c.self.invariant) goes_on)
 
 pub invariant_of-self : goal.invariant_of-self
 invariant_of-self g c =
     let rows = g.S.Store.spans c.pass-self-inside.new.store in
     let marked = subst (λ n. AreMarked n rows (g.S.Store.marks c.pass-self-inside.new.store)) (sym c.self.invariant.timed.starts) c.pass-self-inside.ensures.marked in
-    marked_of (kept g (goal.at.invariant_of-self g c).After-pass_time) (rw c.pass_time.ensures.spans (c.pass_time.ensures.marked rows marked))
+    marked_of (kept g (goal.at.invariant_of-self g c).After-pass_time) (rw c.pass_time.ensures.kept.spans (c.pass_time.ensures.marked rows marked))
 
 pub returns-clause-table : goal.returns-clause-table
 returns-clause-table g c = IsTable-AreKept _ _ _ _ (kept g (goal.at.returns-clause-table g c).After-pass_time)
@@ -54,4 +53,4 @@ returns-clause-time g c =
 
 pub returns-clause-spans : goal.returns-clause-spans
 returns-clause-spans g c =
-    spans_of_pairs-numbered 0 (g.S.Store.spans c.pass_time.new.store) ∙ c.pass_time.ensures.spans ∙ c.pass-self-inside.ensures.spans ∙ ap (λ xs. filled (after_pass xs)) (sym (seen_of c.self.view_is (kept_of c.self.invariant)).rows)
+    c.pass_time.ensures.kept.spans ∙ c.pass-self-inside.ensures.spans ∙ ap (λ xs. filled (after_pass xs)) (sym (seen_of c.self.view_is (kept_of c.self.invariant)).rows)

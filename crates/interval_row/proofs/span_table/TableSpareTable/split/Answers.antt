@@ -2,10 +2,8 @@ use Rattle.std.proofs.Common.{◌+◌, ◌<◌, ◌≤◌, ◌∙◌, IsSome, le
 use Rattle.spare_capacity.specs.Recurrence.{filled}
 use Rattle.interval_row.specs.Changes.{apart_from, cut, ends_before, span_ending}
 use Rattle.interval_row.specs.Stores.{Stored}
-use Rattle.interval_row.specs.Tables.{numbered}
 use Rattle.interval_row.proofs.Cuts.{apart_from-cut}
 use Rattle.interval_row.proofs.Rooms.{seen_of, AreKept-cut, IsTable-AreKept, AreKept, kept_of, marked_of}
-use Rattle.interval_row.proofs.Spots.{spans_of_pairs-numbered}
 use Rattle.interval_row.proofs.span_table.TableSpareTable.split.Given.{Over}
 use Rattle.interval_row.proofs.span_table.TableSpareTable.split.Goals as goal
 use Rattle.interval_row.proofs.span_table.TableSpareTable.split.Goals.{After-split-self-inside}
@@ -39,27 +37,31 @@ pub invariant_of-self : goal.invariant_of-self
 invariant_of-self g c =
     marked_of (kept g (goal.at.invariant_of-self g c).After-split-self-inside) c.split-self-inside.ensures.marked
 
-pub returns-clause-table : goal.returns-clause-table
-returns-clause-table g c = IsTable-AreKept _ _ _ _ (kept g (goal.at.returns-clause-table g c).After-split-self-inside)
-
-pub returns-clause-time : goal.returns-clause-time
-returns-clause-time g c =
-    sym (kept g (goal.at.returns-clause-time g c).After-split-self-inside).starts ∙ c.self.invariant.timed.starts ∙ sym (seen_of c.self.view_is (kept_of c.self.invariant)).start
+pub returns-clause-stays : goal.returns-clause-stays
+returns-clause-stays g c =
+    let seen = seen_of c.self.view_is (kept_of c.self.invariant) in
+    let are = kept g (goal.at.returns-clause-stays g c).After-split-self-inside in
+    record {
+      table = IsTable-AreKept _ _ _ _ are;
+      time = sym are.starts ∙ c.self.invariant.timed.starts ∙ sym seen.start;
+      room = c.split-self-inside.ensures.room ∙ sym seen.room;
+    }
 
 pub returns-clause-spans : goal.returns-clause-spans
 returns-clause-spans g c =
-    spans_of_pairs-numbered 0 (g.S.Store.spans c.split-self-inside.new.store) ∙ c.split-self-inside.ensures.spans ∙ ap (λ xs. filled (cut c.args.at xs)) (sym (seen_of c.self.view_is (kept_of c.self.invariant)).rows)
+    c.split-self-inside.ensures.spans ∙ ap (λ xs. filled (cut c.args.at xs)) (sym (seen_of c.self.view_is (kept_of c.self.invariant)).rows)
 
 pub returns-clause-others : goal.returns-clause-others
 returns-clause-others g c =
-    ap (apart_from c.args.at) (spans_of_pairs-numbered 0 (g.S.Store.spans c.split-self-inside.new.store) ∙ c.split-self-inside.ensures.spans)
+    ap (apart_from c.args.at) c.split-self-inside.ensures.spans
     ∙ apart_from-cut c.args.at (g.S.Store.spans c.self.inside.chain) c.self.invariant.timed.filled.filled
     ∙ ap (apart_from c.args.at) (sym (seen_of c.self.view_is (kept_of c.self.invariant)).rows)
 
 pub returns-clause-nothing : goal.returns-clause-nothing
 returns-clause-nothing g c =
     λ found.
-    ap (numbered 0) (c.split-self-inside.ensures.nothing (subst (λ xs. IsSome (span_ending c.args.at xs)) (seen_of c.self.view_is (kept_of c.self.invariant)).rows found) ∙ ap (λ (v : Stored). v.spans) c.self.view_is)
+    c.split-self-inside.ensures.nothing (subst (λ xs. IsSome (span_ending c.args.at xs)) (seen_of c.self.view_is (kept_of c.self.invariant)).rows found)
+    ∙ ap (λ (v : Stored). v.spans) c.self.view_is
 
 pub returns-clause-few_steps : goal.returns-clause-few_steps
 returns-clause-few_steps g c =

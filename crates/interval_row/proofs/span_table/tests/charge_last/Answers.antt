@@ -1,7 +1,6 @@
-use Rattle.std.proofs.Common.{◌≤◌, ◌+◌, ◌-◌, ◌^◌, arith}
+use Rattle.std.proofs.Common.{◌≤◌, ◌+◌, ◌-◌, ◌^◌, ◌∙◌, slice_get, ap, sym, arith}
 use Rattle.slot_core.specs.declared.jobs.Span.{Span}
 use Rattle.spare_capacity.specs.Recurrence.{first_start}
-use Rattle.interval_row.specs.Tables.{numbered, spans_of_pairs}
 use Rattle.interval_row.proofs.Places.{span_ending-at}
 use Rattle.interval_row.proofs.span_table.tests.charge_last.Goals as goal
 
@@ -9,4 +8,4 @@ pub charge-requires : goal.charge-requires
 charge-requires g c =
     let spans = c.args.table.now.spans in
     let table = c.count.ensures.table in
-    span_ending-at (first_start spans) (spans_of_pairs (numbered 0 spans)) (c.count.result - 1) c.read-span.result (λ (s : Span). s.work + c.args.slots ≤ 2 ^ 40) table.consecutive table.proper (c.read-span.ensures.span (c.count.result - 1) c.spot-last.ensures) (omega arith)
+    span_ending-at (first_start spans) spans (c.count.result - 1) c.read-span.result (λ (s : Span). s.work + c.args.slots ≤ 2 ^ 40) table.consecutive table.proper (ap (slice_get spans) (sym c.spot-last.ensures) ∙ c.read-span.ensures.span) (omega arith)

@@ -48,3 +48,7 @@ returns-clause-longest g c =
     rw c.ran.ensures
     (λ h stands exact few less.
     TellsOtherAfter-parts c.self.inside.reserve c.self.invariant c.choose-chosen.result.0 c.choose-chosen.ensures.chosen c.slots_of-count.result _ c.slots_of-count.ensures.some c.slots_of-count.ensures.few (omega (arith, c.cycle.ensures.cycle)) c.slots_of-count.ensures.stays _ c.self.view_is h stands exact (omega (arith, few, less, ap (λ (e : Executive). e.plan.cycle) c.self.view_is, c.cycle.ensures.cycle)))
+
+pub returns-clause-within : goal.returns-clause-within
+returns-clause-within g c =
+    omega (arith, c.slots_of-count.ensures.few, c.cycle.ensures.cycle, ap (λ (e : Executive). e.plan.cycle) c.self.view_is)

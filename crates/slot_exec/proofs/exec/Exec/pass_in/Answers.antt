@@ -4,8 +4,6 @@ use Rattle.std.proofs.lemmas.Bool.{and_parts}
 use Rattle.slot_core.specs.declared.TheConstants.{TIME_LIMIT}
 use Rattle.slot_core.specs.Keeping.Executives.{Executive}
 use Rattle.slot_core.specs.Runs.Traces.{told_of_slot}
-use Rattle.interval_row.specs.Tables.{spans_of_pairs}
-use Rattle.guarantee.proofs.Tables.{length-spans_of_pairs}
 use Rattle.slot_exec.proofs.SlotChoice.{choice_of}
 use Rattle.slot_exec.proofs.SlotParts.{Does-seen, end-near, HasPlaces-parts, IsExecutive-parts, MayRun-parts, next_slot-before_end, others-parts, ran_of-parts, RemembersSpans-parts, run_end-horizon, slot-before_end}
 use Rattle.slot_exec.proofs.exec.Exec.pass_in.Goals as goal
@@ -74,7 +72,7 @@ returns-clause-others g c = λ stays.
     let ran = c.run-stay.ensures in
     let passed = c.pass-turned.ensures in
     let parts = all_three c.run-stay.result c.pass-turned.result (c.count.result == c.count-count.result) stays in
-    let before = g.T.SpareTable.pairs c.self.inside.table in
-    let next = g.T.SpareTable.pairs c.pass-turned.new.table in
-    let many : length (spans_of_pairs next) ≡ length (spans_of_pairs before) = length-spans_of_pairs next ∙ sym c.count.ensures.count ∙ eqb-true _ _ parts.2 ∙ c.count-count.ensures.count ∙ sym (length-spans_of_pairs before) in
+    let before = g.T.SpareTable.spans c.self.inside.table in
+    let next = g.T.SpareTable.spans c.pass-turned.new.table in
+    let many : length next ≡ length before = sym c.count.ensures.count ∙ eqb-true _ _ parts.2 ∙ c.count-count.ensures.count in
     others-parts c.self.inside.reserve c.self.invariant c.choose-chosen.result.0 c.choose-chosen.ensures.chosen _ _ c.run-stay.new.queue.jobs ran.time ran.spans ran.jobs _ _ c.pass-turned.new.queue.jobs _ passed.time passed.spans passed.jobs ran.soft _ c.self.view_is c.count-count.ensures.table.filled c.pass-turned.result passed.turned parts.1 many (ran.others parts.0)

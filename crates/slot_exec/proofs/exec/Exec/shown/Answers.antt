@@ -5,5 +5,5 @@ use Rattle.slot_exec.proofs.exec.Exec.shown.Goals as goal
 
 pub returns-clause-shows : goal.returns-clause-shows
 returns-clause-shows g c =
-    let shows = Shows-parts _ (g.T.SpareTable.pairs c.self.inside.table) _ _ _ _ c.first_spans.result c.self.invariant c.first_spans.ensures.shown in
+    let shows = Shows-parts _ (g.T.SpareTable.spans c.self.inside.table) _ _ _ _ c.first_spans.result c.self.invariant c.first_spans.ensures.shown in
     subst (λ (exec : Executive). Shows exec c.first_spans.result) c.self.view_is shows

@@ -8,7 +8,6 @@ use Rattle.slot_core.specs.declared.tasks.TaskSet.{TaskSet}
 use Rattle.sporadic_reserve.specs.Reserves.{without_name, Reserved}
 use Rattle.interval_row.specs.Changes.{copies_of}
 use Rattle.spare_capacity.specs.PlanSpans.{ArePlanSpans}
-use Rattle.interval_row.specs.Tables.{spans_of_pairs}
 use Rattle.scene_steps.proofs.Spans.Turns.{copies-fit}
 use Rattle.scene_steps.proofs.Starts.FirstParts.{StandsFor-start}
 use Rattle.slot_exec.specs.Parts.{executive, span_room}
@@ -39,7 +38,7 @@ pub invariant_of-result : goal.invariant_of-result
 invariant_of-result g c =
     let plan = c.args.plan in
     let table = c.in_ok-table.table in
-    let rows = spans_of_pairs (g.T.SpareTable.pairs table) in
+    let rows = g.T.SpareTable.spans table in
     let whole = c.cycle-cycle.ensures in
     let copies = subst (λ (xs : List Span). rows ≡ copies_of xs 3) c.spans.ensures.spans c.in_ok-table.ensures.spans in
     let tasks = ap (λ (r : Reserved). r.sporadics) c.new-reserve.ensures ∙ ap (map without_name) c.sporadics.ensures.sporadics in
@@ -55,7 +54,7 @@ pub returns : goal.returns
 returns g c =
     let plan = c.args.plan in
     let table = c.in_ok-table.table in
-    let rows = spans_of_pairs (g.T.SpareTable.pairs table) in
+    let rows = g.T.SpareTable.spans table in
     let copies = subst (λ (xs : List Span). rows ≡ copies_of xs 3) c.spans.ensures.spans c.in_ok-table.ensures.spans in
     let nexts = ap (λ (r : Reserved). r.nexts) c.new-reserve.ensures ∙ ap (map (λ (s : Sporadic). 0)) c.sporadics.ensures.sporadics in
     let soft = ap (λ (b : Buffer SoftJob). b.items) c.in_ok-soft.ensures in

@@ -29,6 +29,7 @@ returns-in_err-copy g c = record {
   no_fault = λ _. refl;
   no_blame = λ _. refl;
   gives = rw (answer_is c.from_residual.result c.from_residual.ensures.1) tt;
+  gives_none = rw (answer_is c.from_residual.result c.from_residual.ensures.1) refl;
 }
 
 pub returns-in-Ok : goal.returns-in-Ok
@@ -44,6 +45,7 @@ returns-in-Ok g c = record {
   gives =
       ap (λ name. Some (name, c.len-self.result)) c.in_ok-copy.ensures.ok
       ∙ ap (λ length. Some (c.args.name.now, length)) c.len-self.ensures;
+  gives_none = tt;
 }
 
 pub returns-in-Err-Memory : goal.returns-in-Err-Memory
@@ -57,6 +59,7 @@ returns-in-Err-Memory g c = record {
   no_fault = λ _. refl;
   no_blame = λ _. refl;
   gives = tt;
+  gives_none = refl;
 }
 
 pub returns-in-Err-Failed : goal.returns-in-Err-Failed
@@ -70,4 +73,5 @@ returns-in-Err-Failed g c = record {
   no_fault = λ other. absurd (other refl);
   no_blame = λ other. absurd (other refl);
   gives = tt;
+  gives_none = refl;
 }

@@ -1,0 +1,4 @@
+mod GroupRows
+mod Parts
+mod Ranks
+mod Sorts

@@ -1,0 +1,12 @@
+-- The rows of the sporadic tasks so far are appended.
+use Rattle.std.proofs.Common.{◌≡◌, ℕ, ◌++◌, List, Some}
+use Rattle.std.specs.Prelude.{map}
+use Rattle.std.specs.List.{range_with_len}
+use Rattle.view_stats.specs.declared.groups.Group.TheVariants.{Sporadic}
+use Rattle.view_stats.proofs.GroupRows.{group_rows}
+use Rattle.view_stats.proofs.put.push_sporadics.Given as goal
+
+abbrev pub invariant-loop-index : goal.invariant-loop-index
+invariant-loop-index l =
+    (text : List ℕ) → l.initial.rows ≡ Some text
+    → l.rows ≡ Some (text ++ group_rows l.tasks l.slots l.outcomes (map Sporadic (range_with_len 0 l.index)))
