@@ -54,11 +54,11 @@ _slotview() {
         local views='picture jobs events spans waves stairs'
         COMPREPLY=($(compgen -W "$views --help --version" -- "$current"))
         ;;
-    jobs:2)
+    jobs:2 | picture:2)
         _slotshift_files toml "$current"
         [ "${current#-}" = "$current" ] || COMPREPLY=(--table)
         ;;
-    jobs:3) [ "${COMP_WORDS[2]}" != --table ] || _slotshift_files bin "$current" ;;
+    jobs:3 | picture:3) [ "${COMP_WORDS[2]}" != --table ] || _slotshift_files bin "$current" ;;
     esac
 }
 

@@ -31,8 +31,8 @@ FORMS = {
     "slotplan": ["load T", "who T", "header T", "supply T", "supply T D"],
     "slotunits": ["tasks U", "check U", "check U FROM TO", "arrivals U A", "trace U"],
     "slotview": [
-        "picture [FROM UNTIL]", "jobs T", "jobs --table B", "events [FROM UNTIL]", "spans [FROM UNTIL]",
-        "waves [FROM UNTIL]", "stairs",
+        "picture [T | --table B] [FROM UNTIL]", "jobs T", "jobs --table B", "events [FROM UNTIL]",
+        "spans [FROM UNTIL]", "waves [FROM UNTIL]", "stairs",
     ],
 }
 
@@ -183,8 +183,10 @@ class Words:
             self.tell_command()
         elif view == "stairs" and words:
             self.tell(2, "stairs takes no word: the supply comes on standard input")
+        elif view == "picture" and words and (len(words) != 2 or not words[0][:1].isdigit()):
+            self.check_picture(words)
         elif view != "jobs" and len(words) == 2:
-            self.check_part(*words)
+            self.check_part(2, *words)
         elif view != "jobs" and words:
             takes = "takes no word, or FROM and UNTIL, two slots"
             self.tell(2 if len(words) == 1 else 0, f"{view} {takes}: the trace comes on standard input")
@@ -193,14 +195,25 @@ class Words:
         elif view == "jobs" and (len(words) != 2 or words[0] != "--table"):
             self.tell(0, "jobs takes the task file of the trace, or --table and the table")
 
-    def check_part(self, begin, end):
-        """Checks the slots from which and before which a trace is shown."""
-        for at, name, word in ((2, "FROM", begin), (3, "UNTIL", end)):
+    def check_picture(self, words):
+        """Checks what stands behind picture where that is not FROM and UNTIL alone."""
+        taken = 2 if words[0] == "--table" else 1
+        if len(words) not in (taken, taken + 2):
+            self.tell(0, "picture takes the task file of the trace, or --table and the table, and then FROM and UNTIL")
+            return
+        if taken == 1:
+            self.tasks = words[:1]
+        if words[taken:]:
+            self.check_part(2 + taken, *words[taken:])
+
+    def check_part(self, first, begin, end):
+        """Checks the slots from which and before which a trace is shown: the words of this number and of the next."""
+        for at, name, word in ((first, "FROM", begin), (first + 1, "UNTIL", end)):
             why = why_no_count(name, word, NUMBER_LIMIT, 0)
             if why:
                 self.tell(at, why)
         if not self.faults and int(begin) >= int(end):
-            self.tell(2, f"FROM = {begin} is not below UNTIL = {end}, before which the part ends")
+            self.tell(first, f"FROM = {begin} is not below UNTIL = {end}, before which the part ends")
 
 
 def meaning(command, letter):

@@ -93,11 +93,11 @@ b0000000000000000000000000000000000000000000000000000000000000100 c
 b1111111111111111111111111111111111111111111111111111111111111111 c
 ";
 
-const USAGE: &str = "usage: slotview picture [FROM UNTIL] | jobs T | jobs --table B, \
+const USAGE: &str = "usage: slotview picture [T | --table B] [FROM UNTIL] | jobs T | jobs --table B, \
      slotview events [FROM UNTIL] | spans [FROM UNTIL] | waves [FROM UNTIL] | stairs\n";
 
 /// The words, the trace, the status, and what is written, or else told on standard error.
-const RUNS: [(&str, &str, Status, &str); 18] = [
+const RUNS: [(&str, &str, Status, &str); 22] = [
     ("events", TRACE, Status::Done, EVENTS),
     ("spans", TRACE, Status::Done, SPANS),
     ("waves", TRACE, Status::Done, WAVES),
@@ -110,6 +110,25 @@ const RUNS: [(&str, &str, Status, &str); 18] = [
     ("jobs --tables a.bin", TRACE, Status::Usage, USAGE),
     ("jobs --table a.bin b.bin", TRACE, Status::Usage, USAGE),
     ("picture", "", Status::NotVerified, "trace no line 1\n"),
+    (
+        "picture a.toml",
+        STRANGE,
+        Status::NotVerified,
+        "trace no line 2\n",
+    ),
+    (
+        "picture --table a.bin 0 1",
+        STRANGE,
+        Status::NotVerified,
+        "trace no line 2\n",
+    ),
+    ("picture a.toml 1 1", TRACE, Status::Usage, USAGE),
+    (
+        "picture b.toml 0 2",
+        TRACE,
+        Status::FileFault,
+        "cannot read b.toml\n",
+    ),
     ("waves", BROKEN, Status::NotVerified, "trace no line 3\n"),
     (
         "jobs a.toml",
@@ -210,7 +229,14 @@ fn shows_or_tells_why_not(rt: HostRuntime) -> Result<(), Fail> {
 #[test]
 fn tells_what_fails(rt: HostRuntime) -> Result<(), Fail> {
     let alloc = rt.alloc();
-    for line in ["picture", "events", "spans", "waves", "jobs a.toml"] {
+    for line in [
+        "picture",
+        "events",
+        "spans",
+        "waves",
+        "jobs a.toml",
+        "picture a.toml",
+    ] {
         let mut input = input_of(alloc, TRACE.as_bytes(), 1)?;
         let ran = run_over(alloc, line, &mut input, 4096)?;
         compare(

@@ -2,14 +2,17 @@
 use Rattle.std.proofs.Common.{◌≡◌, ◌≤◌, ◌<◌, ◌+◌, ◌*◌, ℕ, Bool, List, [], ◌∷◌, ◌++◌, length, length-append, take, ap, append_assoc, append-nil, arith, refl, subst, sym, ◌∙◌, ◌-◌}
 use Rattle.std.specs.Prelude.{Err, Ok, OnErr, OnOk, Result, get_or}
 use Rattle.std.proofs.Math.Nat.{min-eq_left}
-use Rattle.std.proofs.lemmas.List.{take_more}
+use Rattle.std.proofs.lemmas.List.{flat_map_more, take_more}
 use Rattle.run_blocks.specs.declared.blocks.Block.{Block}
 use Rattle.run_blocks.specs.declared.rows.Row.{Row}
-use Rattle.run_blocks.specs.declared.TheConstants.{ROW_LIMIT}
+use Rattle.view_picture.specs.declared.TheConstants.{MOST_ROWS}
 use Rattle.view_picture.specs.declared.layout.TheConstants.{FAR, ROW, TOP_LIMIT}
 use Rattle.view_picture.specs.declared.layout.Times.{Times}
 use Rattle.view_picture.specs.Backdrops.{HasNoBlock}
-use Rattle.view_picture.specs.Blocks.{AreDrawn, after_steps, block_text, blocks_text, x_of}
+use Rattle.view_picture.specs.declared.row_marks.RowMark.{RowMark}
+use Rattle.view_picture.specs.Blocks.{AreDrawn, block_text, blocks_text}
+use Rattle.view_picture.specs.Marks.{mark_text, marks_text}
+use Rattle.view_picture.specs.Places.{after_steps, x_of}
 use Rattle.view_picture.specs.Styles.{style_sheet}
 use Rattle.view_picture.specs.declared.style.TheConstants.{STYLE}
 
@@ -22,7 +25,7 @@ HasNoBlock-drawn (Ok value) grown same old new = subst HasNoBlock (sym grown) ne
 HasNoBlock-drawn (Err e) grown same old new = subst HasNoBlock (sym same) old
 
 -- few rows end no further than a place may be
-pub rows-near : (rows : List Row) (top : ℕ) → top ≤ TOP_LIMIT → length rows ≤ ROW_LIMIT → top + length rows * ROW ≤ FAR
+pub rows-near : (rows : List Row) (top : ℕ) → top ≤ TOP_LIMIT → length rows ≤ MOST_ROWS → top + length rows * ROW ≤ FAR
 rows-near rows top high few = omega (arith, high, few)
 
 -- slots from the first on are as many steps
@@ -41,6 +44,21 @@ pub steps-inside :
     → from + count * step ≤ edge
 steps-inside from count step edge near inside =
     subst (λ place. place ≤ edge) (min-eq_left near) inside
+
+-- marks that are drawn, and one more
+pub marks-more :
+    (times : Times) (top : ℕ) (marks : List RowMark) (place : ℕ) (mark : RowMark)
+    (before between after : List ℕ) → place < length marks → mark ≡ get_or marks place mark
+    → between ≡ before ++ marks_text times top (take place marks)
+    → after ≡ between ++ mark_text times top mark
+    → after ≡ before ++ marks_text times top (take (place + 1) marks)
+marks-more times top marks place mark before between after low is old grown =
+    let front = take place marks in
+    let longer = take_more marks place mark low ∙ ap (λ m. front ++ m ∷ []) (sym is) in
+    grown
+    ∙ ap (λ xs. xs ++ mark_text times top mark) old
+    ∙ flat_map_more (mark_text times top) before front mark
+    ∙ ap (λ ms. before ++ marks_text times top ms) (sym longer)
 
 -- the text of blocks and one more
 blocks_text-more :

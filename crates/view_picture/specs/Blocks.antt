@@ -1,5 +1,5 @@
 -- The blocks of a picture, and the runs that they stand for.
-use Rattle.std.specs.Prelude.{◌≡◌, ℕ, ◌+◌, ◌-◌, ◌*◌, ◌≤◌, Bool, true, false, List, [], ◌∷◌, ◌++◌, codes, length, min}
+use Rattle.std.specs.Prelude.{◌≡◌, ℕ, ◌+◌, ◌-◌, ◌*◌, ◌≤◌, Bool, true, false, List, [], ◌∷◌, ◌++◌, codes, length}
 use Rattle.run_blocks.specs.declared.blocks.Block.{Block}
 use Rattle.run_blocks.specs.declared.rows.Row.{Row}
 use Rattle.run_blocks.specs.Blocks.{AreApart, are_placed, blocks_runs}
@@ -12,7 +12,10 @@ use Rattle.trace_lines.specs.declared.line.TraceLine.{TraceLine}
 use Rattle.trace_lines.specs.Traces.{runs_of, slots_of, time_of_first}
 use Rattle.view_picture.specs.declared.layout.TheConstants.{ABOVE, BLOCK, FAR, ROW}
 use Rattle.view_picture.specs.declared.layout.Times.{Times}
+use Rattle.view_picture.specs.declared.row_marks.RowMark.{RowMark}
 use Rattle.view_picture.specs.Backdrops.{HasNoBlock}
+use Rattle.view_picture.specs.Marks.{marks_text}
+use Rattle.view_picture.specs.Places.{after_steps, x_of}
 use Rattle.view_picture.specs.Styles.{style_sheet}
 use Rattle.view_picture.specs.Titles.{block_title}
 
@@ -26,14 +29,6 @@ shade_of (Firm row) false = codes "firm-a"
 shade_of (Firm row) true = codes "firm-b"
 shade_of (Soft row) false = codes "soft-a"
 shade_of (Soft row) true = codes "soft-b"
-
--- so many steps further, but no place is further than FAR pixels
-abbrev pub after_steps : ℕ → ℕ → ℕ → ℕ
-after_steps from count step = min (from + count * step) FAR
-
--- the left edge of the slot of a time
-abbrev pub x_of : Times → ℕ → ℕ
-x_of times time = after_steps times.left (time - times.first) times.slot
 
 -- where a block lies: from the left edge of its first slot up to a pixel before that of the slot
 -- after it, in its row, which are counted from the top of the first one on
@@ -63,18 +58,21 @@ pub record AreDrawn (times : Times) (top : ℕ) (blocks : List Block) (before af
   pub each : length seconds ≡ length blocks
   pub drawn : after ≡ before ++ blocks_text times top blocks seconds
 
--- a document shows over rows what lines run: it is a backdrop in which no element is a block, and
--- then the blocks, which stand for a job and a slot exactly where a line runs that job in that slot,
+-- a document shows over rows these marks, and what lines run: it is a backdrop in which no element
+-- is a block, and which ends with the marks, and then the blocks, which stand for a job and a slot exactly where a line runs that job in that slot,
 -- each in the row of its job and joined where they go on, over slots that are at least 2 pixels
 -- wide, so that a block is seen; the first slot is that of the first line, and each slot and each
 -- row lies whole inside the document
-pub record ShowsRuns (rows : List Row) (lines : List TraceLine) (document : List ℕ) : Type 0 where
+pub record ShowsRuns
+    (rows : List Row) (marks : List RowMark) (lines : List TraceLine) (document : List ℕ)
+    : Type 0 where
   pub blocks : List Block
   pub seconds : List Bool
   pub times : Times
   pub top : ℕ
   pub width : ℕ
   pub height : ℕ
+  pub front : List ℕ
   pub backdrop : List ℕ
   pub stands : blocks_runs blocks ≡ runs_of lines
   pub placed : are_placed rows blocks ≡ true
@@ -86,6 +84,7 @@ pub record ShowsRuns (rows : List Row) (lines : List TraceLine) (document : List
   pub low : top + length rows * ROW ≤ FAR
   pub bottom : top + length rows * ROW ≤ height
   pub bare : HasNoBlock backdrop
+  pub marked : backdrop ≡ front ++ marks_text times top marks
   pub each : length seconds ≡ length blocks
   pub drawn :
       document ≡

@@ -1,7 +1,8 @@
 //! What is drawn behind the blocks.
 
-ghost use Rattle.std.specs.Prelude.{◌≡◌, true, nat_lt};
+ghost use Rattle.std.specs.Prelude.{◌≡◌, ◌++◌, true, nat_lt, OnOk};
 ghost use Rattle.svg_text.specs.Content.{is_name};
+ghost use Rattle.svg_text.specs.Shapes.{path_text};
 ghost use Rattle.view_picture.specs.declared.layout.TheConstants.{BLOCK};
 ghost use Rattle.view_picture.specs.Backdrops.{HasNoBlock};
 
@@ -66,6 +67,8 @@ impl Backdrop {
         title: &[u8],
     ) -> Result<(), Memory>
         requires named { is_name class.now ≡ true }
+        ensures { OnOk result (self.new
+            ≡ self.old ++ path_text class.now x y strokes.now title.now) }
     {
         self.drawing.path(class, x, y, strokes, title)
     }
@@ -79,7 +82,8 @@ impl Backdrop {
 
     /// The drawing, on which blocks may be drawn.
     pub(crate) fn into_drawing(self) -> Drawing
-        ensures { HasNoBlock result }
+        ensures same { result ≡ self }
+        ensures bare { HasNoBlock result }
     {
         self.drawing
     }

@@ -1,15 +1,19 @@
 //! The blocks of slots in which one job runs.
 
-ghost use Rattle.std.specs.Prelude.{◌≡◌, ◌+◌, ◌*◌, ◌≤◌, ◌++◌, ℕ, length, OnOk};
-ghost use Rattle.run_blocks.specs.declared.TheConstants.{ROW_LIMIT};
+ghost use Rattle.std.specs.Prelude.{◌≡◌, ◌+◌, ◌*◌, ◌≤◌, ◌++◌, ℕ, length, IfOk, OnOk};
 ghost use Rattle.svg_text.specs.Shapes.{document_text};
 ghost use Rattle.trace_lines.specs.Traces.{slots_of, time_of_first};
 ghost use Rattle.view_picture.specs.declared.layout.TheConstants.{FAR, LEAST_SLOT, ROW, TOP_LIMIT};
+ghost use Rattle.view_picture.specs.declared.TheConstants.{MOST_ROWS};
 ghost use Rattle.view_picture.specs.declared.style.TheConstants.{STYLE};
 ghost use Rattle.view_picture.specs.Backdrops.{HasNoBlock};
-ghost use Rattle.view_picture.specs.Blocks.{AreDrawn, ShowsRuns, after_steps, block_text, shade_of, x_of};
+ghost use Rattle.view_picture.specs.Blocks.{AreDrawn, ShowsRuns, block_text, shade_of};
+ghost use Rattle.view_picture.specs.Marks.{marks_text};
+ghost use Rattle.view_picture.specs.Places.{after_steps, x_of};
 
+use crate::backdrop::Backdrop;
 use crate::layout::{ABOVE, BLOCK, ROW, Times, down};
+use crate::row_marks::{RowMark, draw_row_marks};
 use crate::titles::block_title;
 use run_blocks::{Block, Row, blocks_of};
 use slot_core::Memory;
@@ -24,30 +28,50 @@ struct Last<'a> {
     second: bool,
 }
 
-/// Draws the blocks of what the lines run on a drawing that has none.
+/// Draws the marks in rows from this place on, and then the blocks of what the lines run.
 pub(crate) fn draw_runs(
     alloc: Global,
-    drawing: &mut Drawing,
+    backdrop: Backdrop,
     lines: &[TraceLine],
     rows: &[Row],
+    marks: &[RowMark],
     times: &Times,
     top: u32,
-) -> Result<(), Memory>
-    requires few { length rows.now ≤ ROW_LIMIT }
+) -> Result<Drawing, Memory>
+    requires few { length rows.now ≤ MOST_ROWS }
     requires first { times.now.first ≡ time_of_first lines.now }
     requires count { times.now.slots ≡ slots_of lines.now }
     requires wide { LEAST_SLOT ≤ times.now.slot }
     requires high { top ≤ TOP_LIMIT }
     requires whole { times.now.left + slots_of lines.now * times.now.slot ≤ FAR }
-    requires bare { HasNoBlock drawing.old }
-    ensures { OnOk result ((width height : ℕ)
+    ensures { IfOk result (λ drawing. (width height : ℕ)
         → x_of times.now (times.now.first + times.now.slots) ≤ width
         → after_steps top (length rows.now) ROW ≤ height
-        → ShowsRuns rows.now lines.now (document_text width height STYLE.now drawing.new)) }
+        → ShowsRuns rows.now marks.now lines.now
+        (document_text width height STYLE.now drawing)) }
 {
+    let mut drawing = marked(backdrop, times, top, marks)?;
     let blocks = blocks_of(alloc, lines, rows)?;
-    draw_blocks(alloc, drawing, times, top, rows.len(), blocks.as_slice())?;
-    Ok(())
+    draw_blocks(
+        alloc,
+        &mut drawing,
+        times,
+        top,
+        rows.len(),
+        blocks.as_slice(),
+    )?;
+    Ok(drawing)
+}
+
+/// The backdrop with these marks.
+fn marked(backdrop: Backdrop, times: &Times, top: u32, marks: &[RowMark]) -> Result<Drawing, Memory>
+    ensures bare { IfOk result HasNoBlock }
+    ensures marked { IfOk result (λ drawing.
+        drawing ≡ backdrop ++ marks_text times.now top marks.now) }
+{
+    let mut backdrop = backdrop;
+    draw_row_marks(&mut backdrop, times, top, marks)?;
+    Ok(backdrop.into_drawing())
 }
 
 /// Draws the blocks in rows from this place on. The first block of a row has the first shade, and

@@ -2,7 +2,7 @@
 
 ghost use Rattle.std.specs.Prelude.{◌≡◌, ◌≤◌, ◌+◌, ◌-◌, ◌*◌};
 ghost use Rattle.view_picture.specs.declared.layout.TheConstants.{FAR, GREATEST_SLOT, LEAST_SLOT, LETTER, MARGIN, MOST_LETTERS, ROW, TOP_LIMIT};
-ghost use Rattle.view_picture.specs.Blocks.{after_steps, x_of};
+ghost use Rattle.view_picture.specs.Places.{after_steps, x_of};
 
 /// No place is further to the right or below.
 pub(crate) const FAR: u64 = 1_000_000;

@@ -8,6 +8,7 @@ use crate::arrivals::draw_due;
 use crate::backdrop::Backdrop;
 use crate::layout::{LEGEND, LETTER, MARGIN, down};
 use crate::marks::{MARKS, Mark};
+use crate::row_marks::{MOMENTS, Moment, RowMark};
 use slot_core::Memory;
 use std::alloc::Global;
 use svg_text::Frame;
@@ -20,6 +21,8 @@ enum Sign {
     Jobs,
     /// A mark of arrivals.
     Mark(Mark),
+    /// A mark in rows.
+    Moment(Moment),
     /// The first capacity.
     First,
     /// The least capacity of those that a line shows.
@@ -32,6 +35,7 @@ impl Sign {
         match self {
             Sign::Jobs => "one job, the next",
             Sign::Mark(mark) => mark.words(),
+            Sign::Moment(moment) => moment.words(),
             Sign::First => "capacity of the first span",
             Sign::Least => "least of the 8 spans that a line shows",
         }
@@ -44,6 +48,7 @@ impl Sign {
         match self {
             Sign::Mark(Mark::Accepted) | Sign::Jobs | Sign::First | Sign::Least => SIGN,
             Sign::Mark(_) => 10,
+            Sign::Moment(_) => 6,
         }
     }
 
@@ -76,9 +81,14 @@ pub(crate) struct Legend {
     pub lines: usize,
 }
 
-/// The legend of the lines of a trace in this width: shades, the marks that stand in it, and
-/// capacities.
-pub(crate) fn legend_of(alloc: Global, lines: &[TraceLine], width: u32) -> Result<Legend, Memory> {
+/// The legend of the lines of a trace and of these marks in this width: shades, the marks that
+/// stand in it, and capacities.
+pub(crate) fn legend_of(
+    alloc: Global,
+    lines: &[TraceLine],
+    marks: &[RowMark],
+    width: u32,
+) -> Result<Legend, Memory> {
     let mut legend = Legend {
         signs: Vec::new(alloc),
         width,
@@ -86,6 +96,7 @@ pub(crate) fn legend_of(alloc: Global, lines: &[TraceLine], width: u32) -> Resul
         lines: 1,
     };
     legend.push(Sign::Jobs)?;
+    push_moments(&mut legend, marks)?;
     for mark in MARKS {
         if lines.iter().any(|line| Mark::of(&line.words) == Some(mark)) {
             legend.push(Sign::Mark(mark))?;
@@ -94,6 +105,16 @@ pub(crate) fn legend_of(alloc: Global, lines: &[TraceLine], width: u32) -> Resul
     legend.push(Sign::First)?;
     legend.push(Sign::Least)?;
     Ok(legend)
+}
+
+/// Adds the moments of which there are marks.
+fn push_moments(legend: &mut Legend, marks: &[RowMark]) -> Result<(), Memory> {
+    for moment in MOMENTS {
+        if marks.iter().any(|mark| mark.moment == moment) {
+            legend.push(Sign::Moment(moment))?;
+        }
+    }
+    Ok(())
 }
 
 impl Legend {
@@ -139,6 +160,7 @@ fn draw_sign(backdrop: &mut Backdrop, sign: Sign, x: u32, y: u32) -> Result<(), 
             }
             backdrop.path(mark.class(), x.saturating_add(1), y, mark.strokes(), b"")
         }
+        Sign::Moment(moment) => { backdrop.path(moment.class(), x, y, moment.short_strokes(), b"") }
         Sign::First => draw_box(backdrop, "first", (x, y), (SIGN, 12)),
         Sign::Least => draw_box(backdrop, "least", (x, y.saturating_add(5)), (SIGN, 2)),
     }

@@ -1,15 +1,15 @@
 //! The picture.
 
-ghost use Rattle.std.specs.Prelude.{◌≡◌, ◌≢◌, ◌≤◌, ◌<◌, ◌+◌, List, length, Err, IfOk, IsOk};
+ghost use Rattle.std.specs.Prelude.{◌≡◌, ◌≢◌, ◌≤◌, ◌<◌, ◌+◌, List, [], length, Err, IfOk, IsOk};
 ghost use Rattle.svg_text.specs.Content.{IsDocument};
-ghost use Rattle.run_blocks.specs.declared.TheConstants.{ROW_LIMIT};
 ghost use Rattle.run_blocks.specs.declared.rows.Row.{Row};
 ghost use Rattle.run_blocks.specs.Rows.{AreCrowded};
 ghost use Rattle.trace_lines.specs.Traces.{slots_of};
 ghost use Rattle.view_picture.specs.declared.faults.PictureFault.TheVariants.{TooLong, TooManyRows};
-ghost use Rattle.view_picture.specs.declared.TheConstants.{PICTURE_LIMIT};
+ghost use Rattle.view_picture.specs.declared.TheConstants.{MOST_ROWS, PICTURE_LIMIT};
 ghost use Rattle.view_picture.specs.declared.layout.TheConstants.{MOST_LETTERS};
-ghost use Rattle.view_picture.specs.Blocks.{AreRows, ShowsRuns, x_of};
+ghost use Rattle.view_picture.specs.Blocks.{AreRows, ShowsRuns};
+ghost use Rattle.view_picture.specs.Places.{x_of};
 
 use crate::PICTURE_LIMIT;
 use crate::arrivals::{arrivals_of, draw_arrivals};
@@ -20,7 +20,7 @@ use crate::capacity::{draw_capacities, levels_of};
 use crate::faults::PictureFault;
 use crate::layout::{Heights, MARGIN, MOST_LETTERS, Times};
 use crate::legend::{Legend, legend_of};
-use crate::row_marks::{RowMark, draw_row_marks};
+use crate::row_marks::RowMark;
 use crate::rows::draw_rows;
 use crate::style::STYLE;
 use crate::titles::row_label;
@@ -42,7 +42,7 @@ const LETTERS: usize = 14;
 pub fn picture(alloc: Global, lines: &[TraceLine]) -> Result<Document, PictureFault>
     ensures formed { IfOk result (λ document. IsDocument document) }
     ensures shows { IfOk result (λ document. (rows : List Row) × AreRows rows lines.now
-        × ShowsRuns rows lines.now document) }
+        × ShowsRuns rows [] lines.now document) }
     ensures short { IsOk result → slots_of lines.now ≤ PICTURE_LIMIT }
     ensures refused { PICTURE_LIMIT < slots_of lines.now → result ≡ Err TooLong }
     ensures cause { result ≡ Err TooLong → PICTURE_LIMIT < slots_of lines.now }
@@ -69,9 +69,9 @@ pub fn picture_over(
     rows: &[Row],
     marks: &[RowMark],
 ) -> Result<Document, PictureFault>
-    requires few { length rows.now ≤ ROW_LIMIT }
+    requires few { length rows.now ≤ MOST_ROWS }
     ensures formed { IfOk result (λ document. IsDocument document) }
-    ensures shows { IfOk result (λ document. ShowsRuns rows.now lines.now document) }
+    ensures shows { IfOk result (λ document. ShowsRuns rows.now marks.now lines.now document) }
     ensures short { IsOk result → slots_of lines.now ≤ PICTURE_LIMIT }
     ensures refused { PICTURE_LIMIT < slots_of lines.now → result ≡ Err TooLong }
     ensures cause { result ≡ Err TooLong → PICTURE_LIMIT < slots_of lines.now }
@@ -103,14 +103,14 @@ fn drawn(
 ) -> Result<Document, Memory>
     requires count { slots ≡ slots_of lines.now }
     requires short { slots ≤ PICTURE_LIMIT }
-    requires few { length rows.now ≤ ROW_LIMIT }
+    requires few { length rows.now ≤ MOST_ROWS }
     ensures formed { IfOk result (λ document. IsDocument document) }
-    ensures shows { IfOk result (λ document. ShowsRuns rows.now lines.now document) }
+    ensures shows { IfOk result (λ document. ShowsRuns rows.now marks.now lines.now document) }
 {
     let letters = letters_of(alloc, rows)?;
     let times = Times::new(time_of_first(lines), slots, letters);
     let width = width_of(&times);
-    let legend = legend_of(alloc, lines, width.min(WIDTHS.1))?;
+    let legend = legend_of(alloc, lines, marks, width.min(WIDTHS.1))?;
     let arrivals = arrivals_of(alloc, lines, &times)?;
     let heights = Heights::new(legend.lines, arrivals.count, rows.len());
     let mut backdrop = Backdrop::new(alloc);
@@ -120,11 +120,10 @@ fn drawn(
     draw_axis(&mut backdrop, &times, &heights)?;
     draw_arrivals(alloc, &mut backdrop, &times, &heights, &arrivals)?;
     draw_rows(alloc, &mut backdrop, &times, &heights, rows)?;
-    draw_row_marks(&mut backdrop, &times, &heights, marks)?;
     let levels = levels_of(alloc, lines)?;
     draw_capacities(alloc, &mut backdrop, &times, &heights, levels.as_slice())?;
-    let mut drawing = backdrop.into_drawing();
-    draw_runs(alloc, &mut drawing, lines, rows, &times, heights.rows)?;
+    let top = heights.rows;
+    let drawing = draw_runs(alloc, backdrop, lines, rows, marks, &times, top)?;
     Document::new(alloc, width, height, STYLE, &drawing)
 }
 

@@ -3,6 +3,7 @@ use Rattle.std.proofs.Common.{◌≡◌, ◌≢◌, ◌+◌, ◌⊎◌, ◌<◌,
 use Rattle.std.specs.Prelude.{IfSome, IfErr}
 use Rattle.slot_core.specs.Calls.Counts.{Rose}
 use Rattle.slot_core.specs.Keeping.Plans.{IsPlan, PlanParts}
+use Rattle.slot_core.specs.declared.tasks.TaskSet.{TaskSet}
 use Rattle.slot_io.specs.Files.{Held}
 use Rattle.command_line.specs.declared.commands.Source.{Source as PlanSource}
 use Rattle.command_line.specs.declared.file.File.{File}
@@ -17,7 +18,9 @@ use Rattle.command_line.specs.declared.status.Status.{Status}
 use Rattle.command_line.specs.Commands.{is_file_of}
 use Rattle.run_steps.specs.Steps.{IsOfReading, IsReading}
 use Rattle.view_run.specs.declared.views.View.{View}
-use Rattle.view_run.specs.declared.views.View.TheVariants.{Lines, Jobs, Stairs}
+use Rattle.view_run.specs.declared.views.View.TheVariants.{Lines, Planned, Stairs}
+use Rattle.view_run.specs.declared.views.PlanView.{PlanView}
+use Rattle.view_run.specs.declared.views.PlanView.TheVariants.{Jobs, Tasks}
 use Rattle.view_run.specs.declared.views.LineView.TheVariants.{Picture, Events, Spans, Waves}
 use Rattle.run_blocks.specs.declared.faults.RowsFault.{RowsFault}
 use Rattle.run_blocks.specs.declared.faults.RowsFault.TheVariants.{Memory as RowsMemory, TooMany as TooManyOfRows}
@@ -29,7 +32,7 @@ use Rattle.trace_lines.specs.Parts.{IsLong, IsTraceText}
 use Rattle.view_picture.specs.declared.TheConstants.{PICTURE_LIMIT}
 use Rattle.view_picture.specs.declared.faults.PictureFault.{PictureFault}
 use Rattle.view_picture.specs.declared.faults.PictureFault.TheVariants.{Memory as PictureMemory, TooLong, TooManyRows}
-use Rattle.view_run.specs.Inputs.{EndsBefore, Holds, HoldsSuch, IsByteRefusal, IsInputRefusal, IsShown, IsUnread, slots_kept}
+use Rattle.view_run.specs.Inputs.{EndsBefore, Holds, HoldsSuch, IsByteRefusal, IsInputRefusal, IsShown, IsUnread, Told, slots_kept}
 use Rattle.trace_lines.specs.declared.line.TraceLine.{TraceLine}
 use Rattle.trace_lines.specs.declared.trace.TraceFault.{TraceFault}
 use Rattle.trace_lines.specs.declared.trace.TraceFault.TheVariants.{Memory as TraceMemory, NoLine, NoSlot, TooMany}
@@ -38,7 +41,10 @@ use Rattle.view_jobs.specs.declared.faults.JobsFault.{JobsFault}
 use Rattle.view_jobs.specs.declared.faults.JobsFault.TheVariants.{Memory as JobsMemory, Failed as JobsFailed, NoLine as NoJobLine}
 use Rattle.view_jobs.specs.Tables.{first_unknown}
 use Rattle.view_run.specs.declared.views.Source.{Source}
-use Rattle.view_run.specs.Refusals.{no_line, no_slot, of_jobs, of_picture, of_rows, of_supply, of_text}
+use Rattle.task_rows.specs.declared.faults.TaskPictureFault.{TaskPictureFault}
+use Rattle.task_rows.specs.declared.faults.TaskPictureFault.TheVariants.{Memory as TasksMemory, NoLine as NoTaskLine, TooLong as TasksTooLong, TooManyRows as TasksTooManyRows}
+use Rattle.task_rows.specs.Rows.{first_of_no_task, rows_of_tasks}
+use Rattle.view_run.specs.Refusals.{no_line, no_slot, of_jobs, of_picture, of_rows, of_supply, of_tasks, of_text}
 use Rattle.view_run.specs.Supplies.{AreSupply, IsNoSupply, IsSupplyRefusal}
 use Rattle.view_stairs.specs.declared.fault.StairsFault.{StairsFault}
 use Rattle.view_stairs.specs.declared.fault.StairsFault.TheVariants.{Memory as StairsMemory, NoLine as NoStep}
@@ -46,7 +52,7 @@ use Rattle.view_stairs.specs.declared.lines.Step.{Step}
 use Rattle.view_stairs.specs.Steps.{AreStairs, steps_text, Breaks as StepsBreak}
 use Rattle.view_run.specs.Plans.{IsPlanOf, IsPlanRefusal}
 use Rattle.view_run.specs.Runs.{AreInput, IsRefused}
-use Rattle.view_run.specs.Shown.{IsJobsRefusal, IsLinesRefusal}
+use Rattle.view_run.specs.Shown.{IsJobsRefusal, IsLinesRefusal, IsTaskPictureRefusal}
 use Rattle.view_run.specs.Views.{plan_source}
 
 -- what holds of a value, where there is one
@@ -79,6 +85,31 @@ pub of_picture-cause : (lines : List TraceLine) (before after : ℕ) (fault : Pi
 of_picture-cause lines before after PictureMemory long crowded = tt
 of_picture-cause lines before after TooLong long crowded = inl (long refl, refl)
 of_picture-cause lines before after TooManyRows long crowded = inr (crowded refl, refl)
+
+-- a picture over tasks that is not made has too many slots or rows, or a line names what the plan
+-- does not have, or memory ran out
+pub of_tasks-cause :
+    (plan : PlanParts) (set : TaskSet) (number : ℕ) (lines : List TraceLine) (before after : ℕ)
+    (fault : TaskPictureFault) → set ≡ plan.tasks → (fault ≡ TasksTooLong → PICTURE_LIMIT < slots_of lines)
+    → (fault ≡ TasksTooManyRows → AreCrowded lines)
+    → ((n : ℕ) → fault ≡ NoTaskLine n → (place : ℕ) × (n ≡ number + place)
+    × (first_of_no_task (rows_of_tasks set) lines ≡ Some place))
+    → IsTaskPictureRefusal plan number lines before after (of_tasks fault)
+of_tasks-cause plan set number lines before after TasksMemory same long crowded unknown = tt
+of_tasks-cause plan set number lines before after TasksTooLong same long crowded unknown =
+    inl (inl (long refl, refl))
+of_tasks-cause plan set number lines before after TasksTooManyRows same long crowded unknown =
+    inl (inr (crowded refl, refl))
+of_tasks-cause plan set number lines before after (NoTaskLine n) same long crowded unknown =
+    let (place, is, first) = unknown n refl in
+    inr (place, subst (λ s. first_of_no_task (rows_of_tasks s) lines ≡ Some place) same first, ap no_line is)
+
+-- it is not refused for a failed write
+pub tasks-unfailed : (fault : TaskPictureFault) → of_tasks fault ≡ WriteFault → ⊥
+tasks-unfailed TasksMemory is = cc is
+tasks-unfailed TasksTooLong is = cc is
+tasks-unfailed TasksTooManyRows is = cc is
+tasks-unfailed (NoTaskLine n) is = cc is
 
 -- a table of jobs is not written since the sink counted a fault, memory ran out, or a line names what
 -- the plan does not have
@@ -114,11 +145,14 @@ unfound e may readable enough never (inr (inl memory)) = enough memory
 unfound e may readable enough never (inr (inr found)) = false≢true (sym never ∙ found)
 
 -- each refusal of a plan has its cause
-pub plan-refused : {S A : Type 0} {given : S → Option (List ℕ × ℕ)} (held : S → Option Held) (faults : S → ℕ) (blamed : S → Option (List ℕ)) (before after : S) (names : List (List ℕ)) (source : Source) (from : PlanSource) (result : Outcome A) (view : A → PlanParts) → from ≡ plan_source source → IsReading held faults blamed given before after names (is_file_of from) (λ files. plan_from files names from) result view → IfErr result (IsPlanRefusal source names (held before) (blamed after) (faults before) (faults after))
+pub plan-refused : {S A : Type 0} {given : S → Option (List ℕ × ℕ)} (held : S → Option Held) (faults : S → ℕ) (blamed : S → Option (List ℕ)) (before after : S) (names : List (List ℕ)) (source : Source) (from : PlanSource) (result : Outcome A) (view : A → PlanParts) → from ≡ plan_source source → IsReading held faults blamed given before after names (is_file_of from) (λ files. plan_from files names from) result view → IfErr result (IsPlanRefusal source names (held before) (blamed after, given after) (faults before) (faults after))
 plan-refused held faults blamed before after names source from (Ok a) view same reading = tt
 plan-refused held faults blamed before after names source from (Err (Unreadable file)) view same reading = (let (may, rose, name) = reading.blames file refl in (ap (λ s. is_file_of s file) (sym same) ∙ may, rose, name))
 plan-refused held faults blamed before after names source from (Err Memory) view same reading = tt
-plan-refused held faults blamed before after names source from (Err (TooLarge x)) view same reading = due held faults blamed before after names (is_file_of from) source from (TooLarge x) view same reading (λ file is. cc is) (λ is. cc is) refl
+plan-refused held faults blamed before after names source from (Err (TooLarge x)) view same reading =
+    let (may, size) = reading.sizes x refl in
+    let (found, of_bytes) = due held faults blamed before after names (is_file_of from) source from (TooLarge x) view same reading (λ file is. cc is) (λ is. cc is) refl in
+    (ap (λ s. is_file_of s x) (sym same) ∙ may, size, of_bytes)
 plan-refused held faults blamed before after names source from (Err (BadTasks x)) view same reading = due held faults blamed before after names (is_file_of from) source from (BadTasks x) view same reading (λ file is. cc is) (λ is. cc is) refl
 plan-refused held faults blamed before after names source from (Err (Infeasible x)) view same reading = due held faults blamed before after names (is_file_of from) source from (Infeasible x) view same reading (λ file is. cc is) (λ is. cc is) refl
 plan-refused held faults blamed before after names source from (Err (BadTable x)) view same reading = due held faults blamed before after names (is_file_of from) source from (BadTable x) view same reading (λ file is. cc is) (λ is. cc is) refl
@@ -163,17 +197,17 @@ unread-such None bytes held e holds (inr (inr past)) = absurd past
 unread-such (Some slots) bytes held e holds (inr (inr (same, ends))) = inr (inr (same, such bytes held (EndsBefore slots.from) holds ends))
 
 -- lines that are not read have a cause in what the input holds
-pub lines-refused : {V : Type 0} (slots : Option Slots) (r : Result V Refusal) (bytes : List ℕ) (held : Option Held) (before after : ℕ) → IfSome held (λ files. Holds files bytes) → IfErr r (λ e. (e ≡ Memory) ⊎ IsUnread slots (λ IsSo. IsSo bytes) e) → IfErr r (IsInputRefusal slots held before after)
-lines-refused slots (Ok v) bytes held before after holds cause = tt
-lines-refused slots (Err e) bytes held before after holds (inl memory) = inl (subst (IsByteRefusal held before after) (sym memory) tt)
-lines-refused slots (Err e) bytes held before after holds (inr unread) =
+pub lines-refused : {V : Type 0} (slots : Option Slots) (r : Result V Refusal) (bytes : List ℕ) (held : Option Held) (told : Told) (before after : ℕ) → IfSome held (λ files. Holds files bytes) → IfErr r (λ e. (e ≡ Memory) ⊎ IsUnread slots (λ IsSo. IsSo bytes) e) → IfErr r (IsInputRefusal slots held told before after)
+lines-refused slots (Ok v) bytes held told before after holds cause = tt
+lines-refused slots (Err e) bytes held told before after holds (inl memory) = inl (subst (IsByteRefusal held told before after) (sym memory) tt)
+lines-refused slots (Err e) bytes held told before after holds (inr unread) =
     inr (unread-such slots bytes held e holds unread)
 
 -- a text that is no supply is a cause in what the input holds
-pub supply-refused : {V : Type 0} (r : Result V Refusal) (bytes : List ℕ) (held : Option Held) (before after : ℕ) → IfSome held (λ files. Holds files bytes) → IfErr r (λ e. (e ≡ Memory) ⊎ IsNoSupply (λ IsSo. IsSo bytes) e) → IfErr r (IsSupplyRefusal held before after)
-supply-refused (Ok v) bytes held before after holds cause = tt
-supply-refused (Err e) bytes held before after holds (inl memory) = inl (subst (IsByteRefusal held before after) (sym memory) tt)
-supply-refused (Err e) bytes held before after holds (inr (n, same, breaks)) = inr (n, same, such bytes held (λ text. StepsBreak text n) holds breaks)
+pub supply-refused : {V : Type 0} (r : Result V Refusal) (bytes : List ℕ) (held : Option Held) (told : Told) (before after : ℕ) → IfSome held (λ files. Holds files bytes) → IfErr r (λ e. (e ≡ Memory) ⊎ IsNoSupply (λ IsSo. IsSo bytes) e) → IfErr r (IsSupplyRefusal held told before after)
+supply-refused (Ok v) bytes held told before after holds cause = tt
+supply-refused (Err e) bytes held told before after holds (inl memory) = inl (subst (IsByteRefusal held told before after) (sym memory) tt)
+supply-refused (Err e) bytes held told before after holds (inr (n, same, breaks)) = inr (n, same, such bytes held (λ text. StepsBreak text n) holds breaks)
 
 -- a supply that is not read breaks at a line, or memory ran out
 pub of_supply-cause : (bytes : List ℕ) (fault : StairsFault) → ((n : ℕ) → fault ≡ NoStep n → StepsBreak bytes n) → (of_supply fault ≡ Memory) ⊎ IsNoSupply (λ IsSo. IsSo bytes) (of_supply fault)
@@ -210,39 +244,42 @@ jobs-failed JobsFailed is = refl
 jobs-failed (NoJobLine n) is = cc is
 
 -- faulty words are no refusal of a view
-pub refused-no_usage : (view : View) (names : List (List ℕ)) (files input : Option Held) (blamed : Option (List ℕ)) (of_files of_input of_output : ℕ × ℕ) (e : Refusal) → IsRefused view names files input blamed of_files of_input of_output e → refusal_status e ≡ Status.Usage → ⊥
-refused-no_usage view names files input blamed of_files of_input of_output (Unreadable x) cause usage = cc usage
-refused-no_usage view names files input blamed of_files of_input of_output (TooLarge x) cause usage = cc usage
-refused-no_usage view names files input blamed of_files of_input of_output (BadTasks x) cause usage = cc usage
-refused-no_usage view names files input blamed of_files of_input of_output (Infeasible x) cause usage = cc usage
-refused-no_usage view names files input blamed of_files of_input of_output (BadTable x) cause usage = cc usage
-refused-no_usage view names files input blamed of_files of_input of_output (BadArrivals x) cause usage = cc usage
-refused-no_usage view names files input blamed of_files of_input of_output (NotVerified x) cause usage = cc usage
-refused-no_usage view names files input blamed of_files of_input of_output (BadSecond x) cause usage = cc usage
-refused-no_usage view names files input blamed of_files of_input of_output (SecondInfeasible x) cause usage = cc usage
-refused-no_usage view names files input blamed of_files of_input of_output (NoRow x) cause usage = cc usage
-refused-no_usage view names files input blamed of_files of_input of_output (NotCycleEnd x) cause usage = cc usage
-refused-no_usage view names files input blamed of_files of_input of_output (NoChange x) cause usage = cc usage
-refused-no_usage view names files input blamed of_files of_input of_output WriteFault cause usage = cc usage
-refused-no_usage view names files input blamed of_files of_input of_output Memory cause usage = cc usage
-refused-no_usage view names files input blamed of_files of_input of_output Usage (inl memory) usage = cc memory
-refused-no_usage (Lines view slots) names files input blamed of_files of_input of_output Usage (inr (inl plan)) usage = plan
-refused-no_usage (Jobs source) names files input blamed of_files of_input of_output Usage (inr (inl plan)) usage = plan
-refused-no_usage Stairs names files input blamed of_files of_input of_output Usage (inr (inl plan)) usage = plan
-refused-no_usage (Lines view slots) names files input blamed of_files of_input of_output Usage (inr (inr (inl (plan, inl bytes)))) usage = bytes
-refused-no_usage (Lines view slots) names files input blamed of_files of_input of_output Usage (inr (inr (inl (plan, inr (inl (n, same, breaks)))))) usage = cc same
-refused-no_usage (Lines view slots) names files input blamed of_files of_input of_output Usage (inr (inr (inl (plan, inr (inr (inl (same, long))))))) usage = cc same
-refused-no_usage (Jobs source) names files input blamed of_files of_input of_output Usage (inr (inr (inl (plan, inl bytes)))) usage = bytes
-refused-no_usage (Jobs source) names files input blamed of_files of_input of_output Usage (inr (inr (inl (plan, inr (inl (n, same, breaks)))))) usage = cc same
-refused-no_usage (Jobs source) names files input blamed of_files of_input of_output Usage (inr (inr (inl (plan, inr (inr (inl (same, long))))))) usage = cc same
-refused-no_usage (Lines view None) names files input blamed of_files of_input of_output Usage (inr (inr (inl (plan, inr (inr (inr past)))))) usage = past
-refused-no_usage (Lines view (Some slots)) names files input blamed of_files of_input of_output Usage (inr (inr (inl (plan, inr (inr (inr (same, ends))))))) usage = cc same
-refused-no_usage (Jobs source) names files input blamed of_files of_input of_output Usage (inr (inr (inl (plan, inr (inr (inr past)))))) usage = past
-refused-no_usage Stairs names files input blamed of_files of_input of_output Usage (inr (inr (inl (plan, inl bytes)))) usage = bytes
-refused-no_usage Stairs names files input blamed of_files of_input of_output Usage (inr (inr (inl (plan, inr (n, same, breaks))))) usage = cc same
-refused-no_usage Stairs names files input blamed of_files of_input of_output Usage (inr (inr (inr (steps, are, same, rose)))) usage = cc same
-refused-no_usage (Lines Picture slots) names files input blamed of_files of_input of_output Usage (inr (inr (inr (lines, are, cause)))) usage = cause
-refused-no_usage (Lines Events slots) names files input blamed of_files of_input of_output Usage (inr (inr (inr (lines, are, cause)))) usage = cause
-refused-no_usage (Lines Spans slots) names files input blamed of_files of_input of_output Usage (inr (inr (inr (lines, are, cause)))) usage = cause
-refused-no_usage (Lines Waves slots) names files input blamed of_files of_input of_output Usage (inr (inr (inr (lines, are, cause)))) usage = cause
-refused-no_usage (Jobs source) names files input blamed of_files of_input of_output Usage (inr (inr (inr (lines, are, (plan, own, cause))))) usage = cause
+pub refused-no_usage : (view : View) (names : List (List ℕ)) (files input : Option Held) (files_told input_told : Told) (of_files of_input of_output : ℕ × ℕ) (e : Refusal) → IsRefused view names files input files_told input_told of_files of_input of_output e → refusal_status e ≡ Status.Usage → ⊥
+refused-no_usage view names files input files_told input_told of_files of_input of_output (Unreadable x) cause usage = cc usage
+refused-no_usage view names files input files_told input_told of_files of_input of_output (TooLarge x) cause usage = cc usage
+refused-no_usage view names files input files_told input_told of_files of_input of_output (BadTasks x) cause usage = cc usage
+refused-no_usage view names files input files_told input_told of_files of_input of_output (Infeasible x) cause usage = cc usage
+refused-no_usage view names files input files_told input_told of_files of_input of_output (BadTable x) cause usage = cc usage
+refused-no_usage view names files input files_told input_told of_files of_input of_output (BadArrivals x) cause usage = cc usage
+refused-no_usage view names files input files_told input_told of_files of_input of_output (NotVerified x) cause usage = cc usage
+refused-no_usage view names files input files_told input_told of_files of_input of_output (BadSecond x) cause usage = cc usage
+refused-no_usage view names files input files_told input_told of_files of_input of_output (SecondInfeasible x) cause usage = cc usage
+refused-no_usage view names files input files_told input_told of_files of_input of_output (NoRow x) cause usage = cc usage
+refused-no_usage view names files input files_told input_told of_files of_input of_output (NotCycleEnd x) cause usage = cc usage
+refused-no_usage view names files input files_told input_told of_files of_input of_output (NoChange x) cause usage = cc usage
+refused-no_usage view names files input files_told input_told of_files of_input of_output WriteFault cause usage = cc usage
+refused-no_usage view names files input files_told input_told of_files of_input of_output Memory cause usage = cc usage
+refused-no_usage view names files input files_told input_told of_files of_input of_output Usage (inl memory) usage = cc memory
+refused-no_usage (Lines view slots) names files input files_told input_told of_files of_input of_output Usage (inr (inl plan)) usage = plan
+refused-no_usage (Planned view source) names files input files_told input_told of_files of_input of_output Usage (inr (inl plan)) usage = plan
+refused-no_usage Stairs names files input files_told input_told of_files of_input of_output Usage (inr (inl plan)) usage = plan
+refused-no_usage (Lines view slots) names files input files_told input_told of_files of_input of_output Usage (inr (inr (inl (plan, inl bytes)))) usage = bytes
+refused-no_usage (Lines view slots) names files input files_told input_told of_files of_input of_output Usage (inr (inr (inl (plan, inr (inl (n, same, breaks)))))) usage = cc same
+refused-no_usage (Lines view slots) names files input files_told input_told of_files of_input of_output Usage (inr (inr (inl (plan, inr (inr (inl (same, long))))))) usage = cc same
+refused-no_usage (Planned view source) names files input files_told input_told of_files of_input of_output Usage (inr (inr (inl (plan, inl bytes)))) usage = bytes
+refused-no_usage (Planned view source) names files input files_told input_told of_files of_input of_output Usage (inr (inr (inl (plan, inr (inl (n, same, breaks)))))) usage = cc same
+refused-no_usage (Planned view source) names files input files_told input_told of_files of_input of_output Usage (inr (inr (inl (plan, inr (inr (inl (same, long))))))) usage = cc same
+refused-no_usage (Lines view None) names files input files_told input_told of_files of_input of_output Usage (inr (inr (inl (plan, inr (inr (inr past)))))) usage = past
+refused-no_usage (Lines view (Some slots)) names files input files_told input_told of_files of_input of_output Usage (inr (inr (inl (plan, inr (inr (inr (same, ends))))))) usage = cc same
+refused-no_usage (Planned Jobs source) names files input files_told input_told of_files of_input of_output Usage (inr (inr (inl (plan, inr (inr (inr past)))))) usage = past
+refused-no_usage (Planned (Tasks None) source) names files input files_told input_told of_files of_input of_output Usage (inr (inr (inl (plan, inr (inr (inr past)))))) usage = past
+refused-no_usage (Planned (Tasks (Some slots)) source) names files input files_told input_told of_files of_input of_output Usage (inr (inr (inl (plan, inr (inr (inr (same, ends))))))) usage = cc same
+refused-no_usage Stairs names files input files_told input_told of_files of_input of_output Usage (inr (inr (inl (plan, inl bytes)))) usage = bytes
+refused-no_usage Stairs names files input files_told input_told of_files of_input of_output Usage (inr (inr (inl (plan, inr (n, same, breaks))))) usage = cc same
+refused-no_usage Stairs names files input files_told input_told of_files of_input of_output Usage (inr (inr (inr (steps, are, same, rose)))) usage = cc same
+refused-no_usage (Lines Picture slots) names files input files_told input_told of_files of_input of_output Usage (inr (inr (inr (lines, are, cause)))) usage = cause
+refused-no_usage (Lines Events slots) names files input files_told input_told of_files of_input of_output Usage (inr (inr (inr (lines, are, cause)))) usage = cause
+refused-no_usage (Lines Spans slots) names files input files_told input_told of_files of_input of_output Usage (inr (inr (inr (lines, are, cause)))) usage = cause
+refused-no_usage (Lines Waves slots) names files input files_told input_told of_files of_input of_output Usage (inr (inr (inr (lines, are, cause)))) usage = cause
+refused-no_usage (Planned Jobs source) names files input files_told input_told of_files of_input of_output Usage (inr (inr (inr (lines, are, (plan, own, cause))))) usage = cause
+refused-no_usage (Planned (Tasks slots) source) names files input files_told input_told of_files of_input of_output Usage (inr (inr (inr (lines, are, (plan, own, cause))))) usage = cause

@@ -1,5 +1,5 @@
 -- What standard input holds, and why it is refused.
-use Rattle.std.specs.Prelude.{◌≡◌, ◌<◌, ◌≤◌, ◌⊎◌, ℕ, ⊤, List, codes, length, Option, Some, None, IfSome}
+use Rattle.std.specs.Prelude.{◌≡◌, ◌<◌, ◌≤◌, ◌⊎◌, ℕ, ◌+◌, ⊤, List, codes, length, Option, Some, None, IfSome}
 use Rattle.slot_core.specs.Calls.Counts.{Rose}
 use Rattle.slot_io.specs.Files.{Held, first_bytes}
 use Rattle.command_line.specs.declared.file.File.TheVariants.{Trace}
@@ -47,19 +47,26 @@ IsUnread slots OfText e =
     ((n : ℕ) × (e ≡ no_line n) × OfText (λ text. Breaks text n))
     ⊎ (((e ≡ too_many_lines) × OfText (IsLong (slots_kept slots))) ⊎ IsPast slots OfText e)
 
--- why the bytes of standard input are refused: a fault is counted, there are too many, or memory
--- ran out
-abbrev pub IsByteRefusal : Option Held → ℕ → ℕ → Refusal → Type 0
-IsByteRefusal held before after (Unreadable Trace) = Rose before after
-IsByteRefusal held before after (TooLarge Trace) =
-    IfSome held (λ files. (text : List ℕ) × BeginsWith files text × (INPUT_LIMIT < length text))
-IsByteRefusal held before after Memory = ⊤
-IsByteRefusal held before after refusal = ⊥
+-- what files tell of their reads: the name of the last one that failed, or none, and that of the
+-- last one that gave bytes, with how many, or none
+abbrev pub Told : Type 0
+Told = Option (List ℕ) × Option (List ℕ × ℕ)
+
+-- why the bytes of standard input are refused: a fault is counted, and it is blamed; or the last
+-- read gave a byte more than the limit; or memory ran out
+abbrev pub IsByteRefusal : Option Held → Told → ℕ → ℕ → Refusal → Type 0
+IsByteRefusal held told before after (Unreadable Trace) =
+    Rose before after × (told.0 ≡ Some (codes "standard input"))
+IsByteRefusal held told before after (TooLarge Trace) =
+    (told.1 ≡ Some (codes "standard input", INPUT_LIMIT + 1))
+    × IfSome held (λ files. (text : List ℕ) × BeginsWith files text × (INPUT_LIMIT < length text))
+IsByteRefusal held told before after Memory = ⊤
+IsByteRefusal held told before after refusal = ⊥
 
 -- why standard input is refused: its bytes are, or the text is not shown
-abbrev pub IsInputRefusal : Option Slots → Option Held → ℕ → ℕ → Refusal → Type 0
-IsInputRefusal slots held before after e =
-    IsByteRefusal held before after e ⊎ IsUnread slots (HoldsSuch held) e
+abbrev pub IsInputRefusal : Option Slots → Option Held → Told → ℕ → ℕ → Refusal → Type 0
+IsInputRefusal slots held told before after e =
+    IsByteRefusal held told before after e ⊎ IsUnread slots (HoldsSuch held) e
 
 -- what is shown of the lines of a trace: all, or the part that tells of the slots
 abbrev pub shown_lines : Option Slots → List TraceLine → List TraceLine
@@ -71,7 +78,13 @@ abbrev pub shown_number : Option Slots → List TraceLine → ℕ
 shown_number None lines = 1
 shown_number (Some slots) lines = number_of_first slots lines
 
+-- the trace has the first of the slots, where some are asked for, or that is the first of all
+abbrev pub HasFirst : Option Slots → List TraceLine → Type 0
+HasFirst None lines = ⊤
+HasFirst (Some slots) lines = (slots.from ≡ 0) ⊎ (slots.from < time_of_last lines)
+
 -- what is kept of the lines of a trace is what is shown of them
 abbrev pub IsShown : Option Slots → List TraceLine → List TraceLine → ℕ → Type 0
 IsShown slots lines shown number =
     (shown ≡ shown_lines slots lines) × (number ≡ shown_number slots lines)
+    × HasFirst slots lines

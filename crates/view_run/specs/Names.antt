@@ -3,12 +3,12 @@ use Rattle.std.specs.Prelude.{ℕ, List, [], ◌∷◌, codes}
 use Rattle.command_line.specs.Refusals.{word_at}
 use Rattle.view_run.specs.declared.views.Source.TheVariants.{Tasks, Table}
 use Rattle.view_run.specs.declared.views.View.{View}
-use Rattle.view_run.specs.declared.views.View.TheVariants.{Lines, Jobs, Stairs}
+use Rattle.view_run.specs.declared.views.View.TheVariants.{Lines, Planned, Stairs}
 
 -- the name of the file of the plan, or nothing where the view has none
 abbrev pub plan_name : List (List ℕ) → View → List ℕ
-plan_name words (Jobs Tasks) = word_at words 1
-plan_name words (Jobs Table) = word_at words 2
+plan_name words (Planned view Tasks) = word_at words 1
+plan_name words (Planned view Table) = word_at words 2
 plan_name words (Lines view slots) = []
 plan_name words Stairs = []
 

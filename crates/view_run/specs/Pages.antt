@@ -4,7 +4,8 @@ use Rattle.std.specs.Prelude.{ℕ, List, ◌++◌, codes}
 -- its help
 abbrev pub view_help : List ℕ
 view_help =
-    codes "usage: slotview picture [FROM UNTIL] | jobs T | jobs --table B\n"
+    codes "usage: slotview picture [T | --table B] [FROM UNTIL]\n"
+    ++ codes "       slotview jobs T | jobs --table B\n"
     ++ codes "       slotview events [FROM UNTIL] | spans [FROM UNTIL] | waves [FROM UNTIL]\n"
     ++ codes "       slotview stairs\n"
     ++ codes "       slotview --help\n"
@@ -17,6 +18,10 @@ view_help =
     ++ codes "views:\n"
     ++ codes "  picture          a picture (SVG) of what arrived, what ran and the capacities,\n"
     ++ codes "                   of at most 10000 slots\n"
+    ++ codes "  picture T        the same over the tasks of T: a row for each, also where it\n"
+    ++ codes "                   never ran, and marks where its jobs are released and due\n"
+    ++ codes "  picture --table B\n"
+    ++ codes "                   the same over the tasks of the plan that B spells\n"
     ++ codes "  jobs T           a table (CSV) of the jobs, beside the plan of T\n"
     ++ codes "  jobs --table B   the same, beside the plan that B spells\n"
     ++ codes "  events           a table (CSV) of what arrived, with the answers\n"
@@ -43,5 +48,4 @@ view_help =
     ++ codes "  8   memory ran out\n"
     ++ codes "  9   B is no table of a plan\n"
     ++ codes "  10  standard input is no trace, has not the slot FROM, or is too long for a\n"
-    ++ codes "      view; or it names a task that the plan of jobs does not have; or it is no\n"
-    ++ codes "      supply\n"
+    ++ codes "      view; or it names a task that T or B does not have; or it is no supply\n"

@@ -16,13 +16,15 @@ use Rattle.view_jobs.specs.declared.faults.JobsFault.TheVariants.{Memory as Jobs
 use Rattle.view_picture.specs.declared.TheConstants.{PICTURE_LIMIT}
 use Rattle.view_picture.specs.declared.faults.PictureFault.{PictureFault}
 use Rattle.view_picture.specs.declared.faults.PictureFault.TheVariants.{Memory as PictureMemory, TooLong, TooManyRows}
+use Rattle.task_rows.specs.declared.faults.TaskPictureFault.{TaskPictureFault}
+use Rattle.task_rows.specs.declared.faults.TaskPictureFault.TheVariants.{Memory as TasksMemory, NoLine as NoTaskLine, TooLong as TasksTooLong, TooManyRows as TasksTooManyRows}
 use Rattle.view_stairs.specs.declared.fault.StairsFault.{StairsFault}
 use Rattle.view_stairs.specs.declared.fault.StairsFault.TheVariants.{Memory as StairsMemory, NoLine as NoStep}
 
 -- the usage
 abbrev pub view_usage : List ℕ
 view_usage =
-    codes "usage: slotview picture [FROM UNTIL] | jobs T | jobs --table B"
+    codes "usage: slotview picture [T | --table B] [FROM UNTIL] | jobs T | jobs --table B"
     ++ codes ", slotview events [FROM UNTIL] | spans [FROM UNTIL] | waves [FROM UNTIL]"
     ++ codes " | stairs"
 
@@ -78,6 +80,13 @@ abbrev pub of_jobs : JobsFault → Refusal
 of_jobs JobsMemory = Memory
 of_jobs JobsFailed = WriteFault
 of_jobs (NoJobLine n) = no_line n
+
+-- of a trace that has no picture over the tasks of a plan
+abbrev pub of_tasks : TaskPictureFault → Refusal
+of_tasks TasksMemory = Memory
+of_tasks TasksTooLong = too_long
+of_tasks TasksTooManyRows = too_many_rows
+of_tasks (NoTaskLine n) = no_line n
 
 -- of a text that is no supply
 abbrev pub of_supply : StairsFault → Refusal

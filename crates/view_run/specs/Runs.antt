@@ -8,10 +8,11 @@ use Rattle.trace_lines.specs.declared.line.TraceLine.{TraceLine}
 use Rattle.trace_lines.specs.Texts.{lines_text}
 use Rattle.trace_lines.specs.Traces.{AreTrace}
 use Rattle.view_run.specs.declared.views.View.{View}
-use Rattle.view_run.specs.declared.views.View.TheVariants.{Lines, Jobs, Stairs}
-use Rattle.view_run.specs.Inputs.{Holds, IsInputRefusal, shown_lines, shown_number}
+use Rattle.view_run.specs.declared.views.View.TheVariants.{Lines, Planned, Stairs}
+use Rattle.view_run.specs.Inputs.{HasFirst, Holds, IsInputRefusal, Told, shown_lines, shown_number}
 use Rattle.view_run.specs.Plans.{IsPlanOf, IsPlanRefusal}
-use Rattle.view_run.specs.Shown.{IsJobsRefusal, IsJobsText, IsLinesRefusal, IsLinesText}
+use Rattle.view_run.specs.Shown.{IsLinesRefusal, IsLinesText, IsPlanText, IsPlanViewRefusal}
+use Rattle.view_run.specs.Views.{slots_in}
 use Rattle.view_run.specs.Supplies.{IsStaircaseDue, IsSupplyRefusal, IsUndrawn}
 
 -- the lines are those of a trace, whose text standard input holds, where it tells what it holds
@@ -19,36 +20,37 @@ abbrev pub AreInput : Option Held → List TraceLine → Type 0
 AreInput held lines =
     AreTrace lines × IfSome held (λ files. Holds files (lines_text lines))
 
--- why a view has no plan: only a table of jobs asks for one
+-- why a view has no plan: only one beside a plan asks for one
 abbrev pub IsViewPlanRefusal :
-    View → List (List ℕ) → Option Held → Option (List ℕ) → ℕ → ℕ → Refusal → Type 0
-IsViewPlanRefusal (Lines view slots) names held blamed before after e = ⊥
-IsViewPlanRefusal (Jobs source) names held blamed before after e =
-    IsPlanRefusal source names held blamed before after e
-IsViewPlanRefusal Stairs names held blamed before after e = ⊥
+    View → List (List ℕ) → Option Held → Told → ℕ → ℕ → Refusal → Type 0
+IsViewPlanRefusal (Planned view source) names held told before after e =
+    IsPlanRefusal source names held told before after e
+IsViewPlanRefusal view names held told before after e = ⊥
 
--- there is the plan that a view asks for: only a table of jobs asks for one
+-- there is the plan that a view asks for: only one beside a plan asks for one
 abbrev pub HasPlan : View → List (List ℕ) → Option Held → Type 0
-HasPlan (Lines view slots) names held = ⊤
-HasPlan (Jobs source) names held = (plan : PlanParts) × IsPlanOf source names held plan
-HasPlan Stairs names held = ⊤
+HasPlan (Planned view source) names held =
+    (plan : PlanParts) × IsPlanOf source names held plan
+HasPlan view names held = ⊤
 
 -- why the input of a view is refused: that of a staircase is a supply, that of others a trace
-abbrev pub IsViewInputRefusal : View → Option Held → ℕ → ℕ → Refusal → Type 0
-IsViewInputRefusal (Lines view slots) input before after e =
-    IsInputRefusal slots input before after e
-IsViewInputRefusal (Jobs source) input before after e = IsInputRefusal None input before after e
-IsViewInputRefusal Stairs input before after e = IsSupplyRefusal input before after e
+abbrev pub IsViewInputRefusal : View → Option Held → Told → ℕ → ℕ → Refusal → Type 0
+IsViewInputRefusal (Lines view slots) input told before after e =
+    IsInputRefusal slots input told before after e
+IsViewInputRefusal (Planned view source) input told before after e =
+    IsInputRefusal (slots_in view) input told before after e
+IsViewInputRefusal Stairs input told before after e = IsSupplyRefusal input told before after e
 
--- the text that is due: that of the view of the lines of the input. A table of jobs is over the plan
--- of its file
+-- the text that is due: that of the view of the lines of the input, of which the trace has the first
+-- slot that is asked for. A view beside a plan is over that of its file
 abbrev pub IsTextDue : View → List (List ℕ) → Option Held → Option Held → List ℕ → Type 0
 IsTextDue (Lines view slots) names files input text =
-    (lines : List TraceLine) × AreInput input lines
+    (lines : List TraceLine) × AreInput input lines × HasFirst slots lines
     × IsLinesText view (shown_number slots lines) (shown_lines slots lines) text
-IsTextDue (Jobs source) names files input text =
-    (lines : List TraceLine) × AreInput input lines
-    × ((plan : PlanParts) × IsPlanOf source names files plan × IsJobsText plan lines text)
+IsTextDue (Planned view source) names files input text =
+    (lines : List TraceLine) × AreInput input lines × HasFirst (slots_in view) lines
+    × ((plan : PlanParts) × IsPlanOf source names files plan
+    × IsPlanText view plan (shown_lines (slots_in view) lines) text)
 IsTextDue Stairs names files input text = IsStaircaseDue input text
 
 -- why the view of such lines is not written
@@ -57,21 +59,22 @@ abbrev pub IsUnviewed :
 IsUnviewed (Lines view slots) names files input before after e =
     (lines : List TraceLine) × AreInput input lines
     × IsLinesRefusal view (shown_lines slots lines) before after e
-IsUnviewed (Jobs source) names files input before after e =
+IsUnviewed (Planned view source) names files input before after e =
     (lines : List TraceLine) × AreInput input lines
     × ((plan : PlanParts) × IsPlanOf source names files plan
-    × IsJobsRefusal plan lines before after e)
+    × IsPlanViewRefusal view plan (shown_number (slots_in view) lines)
+    (shown_lines (slots_in view) lines) before after e)
 IsUnviewed Stairs names files input before after e = IsUndrawn input before after e
 
--- why a run is refused, over files and an input that hold this, a file that is blamed, and over the
--- counts of faults of the files, the input and the output before and after: memory ran out, or it
+-- why a run is refused, over files and an input that hold this, what these tell of their reads, and
+-- over the counts of faults of the files, the input and the output before and after: memory ran out, or it
 -- has no plan, or there is one, and then the input is refused, or the view is not written
 abbrev pub IsRefused :
-    View → List (List ℕ) → Option Held → Option Held → Option (List ℕ) → ℕ × ℕ → ℕ × ℕ → ℕ × ℕ
+    View → List (List ℕ) → Option Held → Option Held → Told → Told → ℕ × ℕ → ℕ × ℕ → ℕ × ℕ
     → Refusal → Type 0
-IsRefused view names files input blamed of_files of_input of_output e =
+IsRefused view names files input files_told input_told of_files of_input of_output e =
     (e ≡ Memory)
-    ⊎ (IsViewPlanRefusal view names files blamed of_files.0 of_files.1 e
+    ⊎ (IsViewPlanRefusal view names files files_told of_files.0 of_files.1 e
     ⊎ ((HasPlan view names files
-    × IsViewInputRefusal view input of_input.0 of_input.1 e)
+    × IsViewInputRefusal view input input_told of_input.0 of_input.1 e)
     ⊎ IsUnviewed view names files input of_output.0 of_output.1 e))

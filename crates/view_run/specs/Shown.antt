@@ -1,5 +1,5 @@
 -- What is written of a view, and why it is not.
-use Rattle.std.specs.Prelude.{◌≡◌, ◌<◌, ◌≤◌, ◌⊎◌, ℕ, ◌+◌, true, ⊤, List, Option, Some, None}
+use Rattle.std.specs.Prelude.{◌≡◌, ◌<◌, ◌≤◌, ◌⊎◌, ℕ, ◌+◌, true, ⊤, List, [], Option, Some, None}
 use Rattle.std.specs.Io.KnownBytes.{Appends}
 use Rattle.slot_core.specs.Calls.Counts.{Rose}
 use Rattle.run_blocks.specs.declared.rows.Row.{Row}
@@ -14,9 +14,13 @@ use Rattle.trace_lines.specs.declared.line.TraceLine.{TraceLine}
 use Rattle.trace_lines.specs.Traces.{runs_of, slots_of}
 use Rattle.view_picture.specs.declared.TheConstants.{PICTURE_LIMIT}
 use Rattle.view_picture.specs.Blocks.{AreRows, ShowsRuns}
+use Rattle.task_rows.specs.Pictures.{ShowsTasks}
+use Rattle.task_rows.specs.Rows.{first_of_no_task, rows_of_tasks}
 use Rattle.view_tables.specs.declared.put.Table.TheVariants.{Events as EventTable, Spans as SpanTable}
 use Rattle.view_tables.specs.Tables.{part_text}
 use Rattle.view_waves.specs.WaveTexts.{waves_text}
+use Rattle.view_run.specs.declared.views.PlanView.{PlanView}
+use Rattle.view_run.specs.declared.views.PlanView.TheVariants.{Jobs, Tasks}
 use Rattle.view_run.specs.declared.views.LineView.{LineView}
 use Rattle.view_run.specs.declared.views.LineView.TheVariants.{Picture, Events, Spans, Waves}
 use Rattle.view_run.specs.Refusals.{no_line, too_long, too_many_rows}
@@ -25,7 +29,7 @@ use Rattle.view_run.specs.Refusals.{no_line, too_long, too_many_rows}
 -- run, where they have no more slots than a picture may have
 abbrev pub IsPicture : List TraceLine → List ℕ → Type 0
 IsPicture lines text =
-    IsDocument text × ((rows : List Row) × AreRows rows lines × ShowsRuns rows lines text)
+    IsDocument text × ((rows : List Row) × AreRows rows lines × ShowsRuns rows [] lines text)
     × (slots_of lines ≤ PICTURE_LIMIT)
 
 -- the text of a view of lines, of which the first has this number: a picture, a table, or waves over
@@ -42,6 +46,17 @@ IsLinesText Waves number lines text =
 abbrev pub IsJobsText : PlanParts → List TraceLine → List ℕ → Type 0
 IsJobsText plan lines text =
     (first_unknown plan.tasks lines ≡ None) × (text ≡ jobs_text plan lines)
+
+-- a picture of lines over the tasks of a set: a well-formed document that shows what they run over
+-- rows of its tasks, with marks where jobs of tasks are released and due
+abbrev pub IsTaskPicture : PlanParts → List TraceLine → List ℕ → Type 0
+IsTaskPicture plan lines text =
+    IsDocument text × ShowsTasks plan.tasks lines text × (slots_of lines ≤ PICTURE_LIMIT)
+
+-- the text of a view of lines beside a plan
+abbrev pub IsPlanText : PlanView → PlanParts → List TraceLine → List ℕ → Type 0
+IsPlanText Jobs plan lines text = IsJobsText plan lines text
+IsPlanText (Tasks slots) plan lines text = IsTaskPicture plan lines text
 
 -- known bytes grow by a text of this kind
 abbrev pub Shows : (List ℕ → Type 0) → Option (List ℕ) → Option (List ℕ) → Type 0
@@ -71,3 +86,23 @@ IsJobsRefusal plan lines before after Memory = ⊤
 IsJobsRefusal plan lines before after (NotVerified reason) =
     (n : ℕ) × (first_unknown plan.tasks lines ≡ Some n) × (NotVerified reason ≡ no_line (n + 1))
 IsJobsRefusal plan lines before after refusal = ⊥
+
+-- why a picture over the tasks of a plan is not shown: the sink counted a fault, memory ran out, the
+-- lines have too many slots, what they run asks for too many rows, or one of them, of which the
+-- first has this number, is the first that runs a job of a task which the set of the plan has not
+abbrev pub IsTaskPictureRefusal :
+    PlanParts → ℕ → List TraceLine → ℕ → ℕ → Refusal → Type 0
+IsTaskPictureRefusal plan number lines before after WriteFault = Rose before after
+IsTaskPictureRefusal plan number lines before after Memory = ⊤
+IsTaskPictureRefusal plan number lines before after (NotVerified reason) =
+    IsLinesRefusal Picture lines before after (NotVerified reason)
+    ⊎ ((n : ℕ) × (first_of_no_task (rows_of_tasks plan.tasks) lines ≡ Some n)
+    × (NotVerified reason ≡ no_line (number + n)))
+IsTaskPictureRefusal plan number lines before after refusal = ⊥
+
+-- why a view beside a plan is not shown
+abbrev pub IsPlanViewRefusal :
+    PlanView → PlanParts → ℕ → List TraceLine → ℕ → ℕ → Refusal → Type 0
+IsPlanViewRefusal Jobs plan number lines before after e = IsJobsRefusal plan lines before after e
+IsPlanViewRefusal (Tasks slots) plan number lines before after e =
+    IsTaskPictureRefusal plan number lines before after e

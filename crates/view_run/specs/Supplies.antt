@@ -8,7 +8,7 @@ use Rattle.svg_text.specs.Content.{IsDocument}
 use Rattle.view_stairs.specs.declared.lines.Step.{Step}
 use Rattle.view_stairs.specs.Bars.{ShowsStairs}
 use Rattle.view_stairs.specs.Steps.{AreStairs, Breaks, steps_text}
-use Rattle.view_run.specs.Inputs.{Holds, HoldsSuch, IsByteRefusal}
+use Rattle.view_run.specs.Inputs.{Holds, HoldsSuch, IsByteRefusal, Told}
 use Rattle.view_run.specs.Refusals.{no_supply_line}
 
 -- the lines are those of a supply, whose text standard input holds, where it tells what it holds
@@ -28,9 +28,9 @@ abbrev pub IsNoSupply : ((List ℕ → Type 0) → Type 0) → Refusal → Type 
 IsNoSupply OfText e = (n : ℕ) × (e ≡ no_supply_line n) × OfText (λ text. Breaks text n)
 
 -- why standard input is refused: its bytes are, or the text is no supply
-abbrev pub IsSupplyRefusal : Option Held → ℕ → ℕ → Refusal → Type 0
-IsSupplyRefusal held before after e =
-    IsByteRefusal held before after e ⊎ IsNoSupply (HoldsSuch held) e
+abbrev pub IsSupplyRefusal : Option Held → Told → ℕ → ℕ → Refusal → Type 0
+IsSupplyRefusal held told before after e =
+    IsByteRefusal held told before after e ⊎ IsNoSupply (HoldsSuch held) e
 
 -- why the picture of such lines is not written: the sink counted a fault
 abbrev pub IsUndrawn : Option Held → ℕ → ℕ → Refusal → Type 0

@@ -10,7 +10,9 @@ use Rattle.command_line.specs.declared.commands.Source.TheVariants.{Tasks as Tas
 use Rattle.view_run.specs.declared.views.Source.{Source}
 use Rattle.view_run.specs.declared.views.Source.TheVariants.{Tasks, Table}
 use Rattle.view_run.specs.declared.views.View.{View}
-use Rattle.view_run.specs.declared.views.View.TheVariants.{Lines, Jobs, Stairs}
+use Rattle.view_run.specs.declared.views.View.TheVariants.{Lines, Planned, Stairs}
+use Rattle.view_run.specs.declared.views.PlanView.{PlanView}
+use Rattle.view_run.specs.declared.views.PlanView.TheVariants.{Jobs, Tasks as TasksView}
 use Rattle.view_run.specs.declared.views.LineView.{LineView}
 use Rattle.view_run.specs.declared.views.LineView.TheVariants.{Picture, Events, Spans, Waves}
 
@@ -23,13 +25,12 @@ view_of_lines word =
     else if bytes_eq word (codes "waves") then Some Waves
     else None
 
--- the table of the jobs of a task file
-abbrev pub jobs_of_tasks : List ℕ → Option View
-jobs_of_tasks word = if bytes_eq word (codes "jobs") then Some (Jobs Tasks) else None
-
--- the table of the jobs of a table file
-abbrev pub jobs_of_table : List ℕ → Option View
-jobs_of_table option = if bytes_eq option (codes "--table") then Some (Jobs Table) else None
+-- the view beside a plan that a word asks for
+abbrev pub plan_view : List ℕ → Source → Option View
+plan_view word source =
+    if bytes_eq word (codes "jobs") then Some (Planned Jobs source)
+    else if bytes_eq word (codes "picture") then Some (Planned (TasksView None) source)
+    else None
 
 -- the view of all lines that a word asks for
 abbrev pub view_of_all : List ℕ → Option View
@@ -55,19 +56,40 @@ view_of_part word from until = do
   slots ← slots_named from until
   Some (Lines view (Some slots))
 
--- jobs --table B, or a word and two numbers
+-- a view beside the plan of a table, or a word and two numbers
 abbrev pub view_of_three : List ℕ → List ℕ → List ℕ → Option View
 view_of_three word second third =
-    if bytes_eq word (codes "jobs") then jobs_of_table second else view_of_part word second third
+    if bytes_eq second (codes "--table") then plan_view word Table
+    else view_of_part word second third
+
+-- the view beside a plan of such slots
+abbrev pub plan_view_part : List ℕ → Source → List ℕ → List ℕ → Option View
+plan_view_part word source from until = do
+  slots ← slots_named from until
+  (if bytes_eq word (codes "picture") then Some (Planned (TasksView (Some slots)) source) else None)
+
+-- the view of such slots beside the plan of a table
+abbrev pub view_of_five : List ℕ → List ℕ → List ℕ → List ℕ → Option View
+view_of_five word option from until =
+    if bytes_eq option (codes "--table") then plan_view_part word Table from until else None
+
+-- the slots of which a view beside a plan shows the lines, or none where it shows all
+abbrev pub slots_in : PlanView → Option Slots
+slots_in Jobs = None
+slots_in (TasksView slots) = slots
 
 -- the view that the words ask for, or none: picture, events, spans, waves, each with or without two
--- numbers, jobs T, jobs --table B, stairs
+-- numbers, jobs and picture with T or --table B, picture then with or without two numbers, stairs
 abbrev pub view_of : List (List ℕ) → Option View
 view_of words =
     if length words == 1 then view_of_one (word_at words 0)
-    else if length words == 2 then jobs_of_tasks (word_at words 0)
+    else if length words == 2 then plan_view (word_at words 0) Tasks
     else if length words == 3 then
     view_of_three (word_at words 0) (word_at words 1) (word_at words 2)
+    else if length words == 4 then
+    plan_view_part (word_at words 0) Tasks (word_at words 2) (word_at words 3)
+    else if length words == 5 then
+    view_of_five (word_at words 0) (word_at words 1) (word_at words 3) (word_at words 4)
     else None
 
 -- where the plan comes from

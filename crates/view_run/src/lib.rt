@@ -33,7 +33,7 @@ use pages::tell_view_page;
 use slot_core::{Memory, Words};
 use slot_io::{Files, Sink};
 use std::alloc::Global;
-pub use views::{LineView, Source, View, view_of};
+pub use views::{LineView, PlanView, Source, View, view_of};
 use work::work;
 
 /// The name by which standard input is told.
@@ -44,11 +44,11 @@ pub const INPUT_LIMIT: usize = slot_core::READ_LIMIT;
 
 /// The usage line.
 pub const USAGE: &[u8] =
-    b"usage: slotview picture [FROM UNTIL] | jobs T | jobs --table B, slotview events \
-      [FROM UNTIL] | spans [FROM UNTIL] | waves [FROM UNTIL] | stairs\n";
+    b"usage: slotview picture [T | --table B] [FROM UNTIL] | jobs T | jobs --table B, \
+      slotview events [FROM UNTIL] | spans [FROM UNTIL] | waves [FROM UNTIL] | stairs\n";
 
-/// Does what the words ask for: tells the help or the version; or reads the plan that a table of
-/// jobs wants from `files`, then the trace or supply from `input`, and writes the view of it to
+/// Does what the words ask for: tells the help or the version; or reads the plan that the view
+/// wants from `files`, then the trace or supply from `input`, and writes the view of it to
 /// `out`. It puts one line on `err` where it ends otherwise than Done. All memory is taken before
 /// the first put on `out`.
 pub fn run<F: Files, I: Files, K: Sink, E: Sink>(
@@ -75,8 +75,9 @@ pub fn run<F: Files, I: Files, K: Sink, E: Sink>(
         → (files.new ≡ files.old) × (input.new ≡ input.old) }
 
     // For other words, where it is done, standard input is a trace, and the view of its lines is
-    // written: of jobs, their table over the plan that its file calls for. Of a staircase it is the
-    // text of a supply, and the picture of its lines is written.
+    // written: of jobs, their table over the plan that its file calls for, and of tasks, the picture
+    // over those of that plan. Of a staircase it is the text of a supply, and the picture of its
+    // lines is written.
     ensures done { page_of words.now ≡ None → result ≡ Status.Done
         → (view : View) × (view_of words.now ≡ Some view)
         × Shows (IsTextDue view (names_of words.now view) (F.held files.old) (I.held input.old))
@@ -90,8 +91,9 @@ pub fn run<F: Files, I: Files, K: Sink, E: Sink>(
         → (view : View) × (view_of words.now ≡ Some view)
         × ((e : Refusal) × (result ≡ refusal_status e)
         × IsRefused view (names_of words.now view) (F.held files.old) (I.held input.old)
-        (F.blamed files.new) (F.faults files.old, F.faults files.new)
-        (I.faults input.old, I.faults input.new) (K.faults out.old, K.faults out.new) e
+        (F.blamed files.new, F.given files.new) (I.blamed input.new, I.given input.new)
+        (F.faults files.old, F.faults files.new) (I.faults input.old, I.faults input.new)
+        (K.faults out.old, K.faults out.new) e
         × IsTold (refusal_line (names_of words.now view) e)
         (E.written err.old) (E.written err.new) (E.faults err.old) (E.faults err.new)) }
     ensures refusal_writes_nothing { result ≢ Status.Done → result ≢ Status.WriteFault
@@ -133,8 +135,9 @@ fn run_view_of<F: Files, I: Files, K: Sink, E: Sink>(
         → (view : View) × (view_of words.now ≡ Some view)
         × ((e : Refusal) × (result ≡ refusal_status e)
         × IsRefused view (names_of words.now view) (F.held files.old) (I.held input.old)
-        (F.blamed files.new) (F.faults files.old, F.faults files.new)
-        (I.faults input.old, I.faults input.new) (K.faults out.old, K.faults out.new) e
+        (F.blamed files.new, F.given files.new) (I.blamed input.new, I.given input.new)
+        (F.faults files.old, F.faults files.new) (I.faults input.old, I.faults input.new)
+        (K.faults out.old, K.faults out.new) e
         × IsTold (refusal_line (names_of words.now view) e)
         (E.written err.old) (E.written err.new) (E.faults err.old) (E.faults err.new)) }
     ensures refusal_writes_nothing { result ≢ Status.Done → result ≢ Status.WriteFault
@@ -169,8 +172,9 @@ fn run_view<F: Files, I: Files, K: Sink, E: Sink>(
         → (F.faults files.new ≡ F.faults files.old) × (I.faults input.new ≡ I.faults input.old) }
     ensures refused { result ≢ Status.Done → (e : Refusal) × (result ≡ refusal_status e)
         × IsRefused view (names_of words.now view) (F.held files.old) (I.held input.old)
-        (F.blamed files.new) (F.faults files.old, F.faults files.new)
-        (I.faults input.old, I.faults input.new) (K.faults out.old, K.faults out.new) e
+        (F.blamed files.new, F.given files.new) (I.blamed input.new, I.given input.new)
+        (F.faults files.old, F.faults files.new) (I.faults input.old, I.faults input.new)
+        (K.faults out.old, K.faults out.new) e
         × IsTold (refusal_line (names_of words.now view) e)
         (E.written err.old) (E.written err.new) (E.faults err.old) (E.faults err.new) }
     ensures refusal_writes_nothing { result ≢ Status.Done → result ≢ Status.WriteFault
@@ -204,8 +208,9 @@ fn run_named<F: Files, I: Files, K: Sink, E: Sink>(
         → (F.faults files.new ≡ F.faults files.old) × (I.faults input.new ≡ I.faults input.old) }
     ensures refused { result ≢ Status.Done → (e : Refusal) × (result ≡ refusal_status e)
         × IsRefused view names.now (F.held files.old) (I.held input.old)
-        (F.blamed files.new) (F.faults files.old, F.faults files.new)
-        (I.faults input.old, I.faults input.new) (K.faults out.old, K.faults out.new) e
+        (F.blamed files.new, F.given files.new) (I.blamed input.new, I.given input.new)
+        (F.faults files.old, F.faults files.new) (I.faults input.old, I.faults input.new)
+        (K.faults out.old, K.faults out.new) e
         × IsTold (refusal_line names.now e)
         (E.written err.old) (E.written err.new) (E.faults err.old) (E.faults err.new) }
     ensures refusal_writes_nothing { result ≢ Status.Done → result ≢ Status.WriteFault

@@ -30,8 +30,8 @@ fn plan_name(words: &Words, view: View) -> &str
     ensures { result.now ≡ plan_name words.now view }
 {
     match view {
-        View::Jobs(Source::Tasks) => word_or_nothing(words, 1),
-        View::Jobs(Source::Table) => word_or_nothing(words, 2),
+        View::Planned(_, Source::Tasks) => word_or_nothing(words, 1),
+        View::Planned(_, Source::Table) => word_or_nothing(words, 2),
         View::Lines(_, _) | View::Stairs => "",
     }
 }

@@ -22,7 +22,8 @@ pub(crate) fn tell_view_page<K: Sink, E: Sink>(page: Page, out: &mut K, err: &mu
 fn help() -> &'static [u8]
     ensures { result.now ≡ view_help }
 {
-    b"usage: slotview picture [FROM UNTIL] | jobs T | jobs --table B
+    b"usage: slotview picture [T | --table B] [FROM UNTIL]
+       slotview jobs T | jobs --table B
        slotview events [FROM UNTIL] | spans [FROM UNTIL] | waves [FROM UNTIL]
        slotview stairs
        slotview --help
@@ -35,6 +36,10 @@ in its place, as slotplan supply prints it.
 views:
   picture          a picture (SVG) of what arrived, what ran and the capacities,
                    of at most 10000 slots
+  picture T        the same over the tasks of T: a row for each, also where it
+                   never ran, and marks where its jobs are released and due
+  picture --table B
+                   the same over the tasks of the plan that B spells
   jobs T           a table (CSV) of the jobs, beside the plan of T
   jobs --table B   the same, beside the plan that B spells
   events           a table (CSV) of what arrived, with the answers
@@ -61,7 +66,6 @@ statuses:
   8   memory ran out
   9   B is no table of a plan
   10  standard input is no trace, has not the slot FROM, or is too long for a
-      view; or it names a task that the plan of jobs does not have; or it is no
-      supply
+      view; or it names a task that T or B does not have; or it is no supply
 "
 }

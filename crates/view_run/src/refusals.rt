@@ -4,11 +4,12 @@ ghost use Rattle.std.specs.Prelude.{◌≡◌, ◌≤◌, length};
 ghost use Rattle.slot_core.specs.Output.Texts.{worded};
 ghost use Rattle.command_line.specs.declared.refusal.Refusal.TheVariants.{NotVerified};
 ghost use Rattle.view_run.specs.declared.refusals.TheConstants.{WORDS_LIMIT};
-ghost use Rattle.view_run.specs.Refusals.{of_jobs, of_picture, of_rows, of_supply, of_table, of_text, too_many_rows};
+ghost use Rattle.view_run.specs.Refusals.{of_jobs, of_picture, of_rows, of_supply, of_table, of_tasks, of_text, too_long, too_many_rows};
 
 use command_line::{Reason, Refusal};
 use csv_table::CsvFault;
 use run_blocks::{ROW_LIMIT, RowsFault};
+use task_rows::TaskPictureFault;
 use trace_lines::{LINE_LIMIT, TraceFault};
 use trace_text::Line;
 use view_jobs::JobsFault;
@@ -48,9 +49,16 @@ pub(crate) fn of_picture(fault: PictureFault) -> Refusal
 {
     match fault {
         PictureFault::Memory => Refusal::Memory,
-        PictureFault::TooLong => numbered(b"trace too long", u64::from(PICTURE_LIMIT)),
+        PictureFault::TooLong => too_long(),
         PictureFault::TooManyRows => too_many_rows(),
     }
+}
+
+/// The refusal of a trace that is too long for a picture.
+fn too_long() -> Refusal
+    ensures { result ≡ too_long }
+{
+    numbered(b"trace too long", u64::from(PICTURE_LIMIT))
 }
 
 /// The refusal of rows that are not made.
@@ -88,6 +96,18 @@ pub(crate) fn of_jobs(fault: JobsFault) -> Refusal
         JobsFault::Memory => Refusal::Memory,
         JobsFault::Failed => Refusal::WriteFault,
         JobsFault::NoLine(number) => numbered(b"trace no line", number),
+    }
+}
+
+/// The refusal of a trace that has no picture over the tasks of a plan.
+pub(crate) fn of_tasks(fault: TaskPictureFault) -> Refusal
+    ensures { result ≡ of_tasks fault }
+{
+    match fault {
+        TaskPictureFault::Memory => Refusal::Memory,
+        TaskPictureFault::TooLong => too_long(),
+        TaskPictureFault::TooManyRows => too_many_rows(),
+        TaskPictureFault::NoLine(number) => numbered(b"trace no line", number),
     }
 }
 

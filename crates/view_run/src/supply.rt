@@ -29,7 +29,8 @@ pub(crate) fn work_of_stairs<I: Files, K: Sink>(
         → ShowsPart (IsStaircaseDue (I.held input.old)) (K.written out.old) (K.written out.new) }
     ensures reads_well { OnOk result (I.faults input.new ≡ I.faults input.old) }
     ensures refused { IfErr result (λ e.
-        IsSupplyRefusal (I.held input.old) (I.faults input.old) (I.faults input.new) e
+        IsSupplyRefusal (I.held input.old) (I.blamed input.new, I.given input.new)
+        (I.faults input.old) (I.faults input.new) e
         ⊎ IsUndrawn (I.held input.old) (K.faults out.old) (K.faults out.new) e) }
     ensures untouched { (e : Refusal) → result ≡ Err e → e ≢ WriteRefusal → out.new ≡ out.old }
 {
@@ -42,7 +43,8 @@ fn read_supply<I: Files>(alloc: Global, input: &mut I) -> Result<Vec<Step>, Refu
     ensures supply { IfOk result (λ steps. AreSupply (I.held input.old) steps.items) }
     ensures small { IfOk result (λ steps. All IsSmall steps.items) }
     ensures refused { IfErr result
-        (IsSupplyRefusal (I.held input.old) (I.faults input.old) (I.faults input.new)) }
+        (IsSupplyRefusal (I.held input.old) (I.blamed input.new, I.given input.new)
+        (I.faults input.old) (I.faults input.new)) }
     ensures reads_well { OnOk result (I.faults input.new ≡ I.faults input.old) }
 {
     let bytes = read_input(alloc, input)?;

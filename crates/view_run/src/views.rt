@@ -1,7 +1,7 @@
 //! The command line: which words ask for which view.
 
 ghost use Rattle.std.specs.Prelude.{◌≡◌};
-ghost use Rattle.view_run.specs.Views.{jobs_of_table, jobs_of_tasks, slots_named, view_of, view_of_all, view_of_lines, view_of_one, view_of_part, view_of_three};
+ghost use Rattle.view_run.specs.Views.{plan_view, plan_view_part, slots_in, slots_named, view_of, view_of_all, view_of_five, view_of_lines, view_of_one, view_of_part, view_of_three};
 
 use key_texts::number_of;
 use slot_core::Words;
@@ -12,8 +12,8 @@ use trace_lines::Slots;
 pub enum View {
     /// What its lines alone tell: those of all of it, or of these slots.
     Lines(LineView, Option<Slots>),
-    /// A table of its jobs, beside the plan that they are of.
-    Jobs(Source),
+    /// What it tells beside the plan that its jobs are of.
+    Planned(PlanView, Source),
     /// The staircase of a supply: a picture of its lines.
     Stairs,
 }
@@ -31,6 +31,27 @@ pub enum LineView {
     Waves,
 }
 
+/// What is shown of a trace beside its plan.
+#[derive(Clone, Copy, PartialEq, Eq)]
+pub enum PlanView {
+    /// A table of its jobs.
+    Jobs,
+    /// A picture over the tasks of the plan: of all of it, or of these slots.
+    Tasks(Option<Slots>),
+}
+
+impl PlanView {
+    /// The slots of which lines are shown, or None where all are.
+    pub(crate) fn slots(self) -> Option<Slots>
+        ensures { result ≡ slots_in self }
+    {
+        match self {
+            PlanView::Jobs => None,
+            PlanView::Tasks(slots) => slots,
+        }
+    }
+}
+
 /// Where the plan of a trace comes from.
 #[derive(Clone, Copy, PartialEq, Eq)]
 pub enum Source {
@@ -46,8 +67,10 @@ pub fn view_of(words: &Words) -> Option<View>
 {
     match words.len() {
         1 => view_of_one(words.word(0)),
-        2 => jobs_of_tasks(words.word(0)),
+        2 => plan_view(words.word(0), Source::Tasks),
         3 => view_of_three(words.word(0), words.word(1), words.word(2)),
+        4 => plan_view_part(words.word(0), Source::Tasks, words.word(2), words.word(3)),
+        5 => view_of_five(words.word(0), words.word(1), words.word(3), words.word(4)),
         _ => None,
     }
 }
@@ -74,9 +97,19 @@ fn view_of_all(word: &str) -> Option<View>
 fn view_of_three(word: &str, second: &str, third: &str) -> Option<View>
     ensures { result ≡ view_of_three word.now second.now third.now }
 {
-    match word {
-        "jobs" => jobs_of_table(second),
+    match second {
+        "--table" => plan_view(word, Source::Table),
         _ => view_of_part(word, second, third),
+    }
+}
+
+/// The view of five words, of which the third names the table.
+fn view_of_five(word: &str, option: &str, from: &str, until: &str) -> Option<View>
+    ensures { result ≡ view_of_five word.now option.now from.now until.now }
+{
+    match option {
+        "--table" => plan_view_part(word, Source::Table, from, until),
+        _ => None,
     }
 }
 
@@ -118,22 +151,24 @@ fn view_of_lines(word: &str) -> Option<LineView>
     }
 }
 
-/// The table of jobs of a task file.
-fn jobs_of_tasks(word: &str) -> Option<View>
-    ensures { result ≡ jobs_of_tasks word.now }
+/// The view beside a plan that the word asks for.
+fn plan_view(word: &str, source: Source) -> Option<View>
+    ensures { result ≡ plan_view word.now source }
 {
     match word {
-        "jobs" => Some(View::Jobs(Source::Tasks)),
+        "jobs" => Some(View::Planned(PlanView::Jobs, source)),
+        "picture" => Some(View::Planned(PlanView::Tasks(None), source)),
         _ => None,
     }
 }
 
-/// The table of jobs of a table file.
-fn jobs_of_table(option: &str) -> Option<View>
-    ensures { result ≡ jobs_of_table option.now }
+/// The view beside a plan that the word asks for, of the slots from one on and before another.
+fn plan_view_part(word: &str, source: Source, from: &str, until: &str) -> Option<View>
+    ensures { result ≡ plan_view_part word.now source from.now until.now }
 {
-    match option {
-        "--table" => Some(View::Jobs(Source::Table)),
+    let slots = slots_named(from.as_bytes(), until.as_bytes())?;
+    match word {
+        "picture" => Some(View::Planned(PlanView::Tasks(Some(slots)), source)),
         _ => None,
     }
 }

@@ -10,17 +10,17 @@ ghost use Rattle.view_tables.specs.Tables.{part_text};
 ghost use Rattle.view_waves.specs.WaveTexts.{waves_text};
 ghost use Rattle.trace_lines.specs.declared.line.TraceLine.{TraceLine};
 ghost use Rattle.trace_lines.specs.Parts.{IsTraceText};
-ghost use Rattle.view_run.specs.Inputs.{BeginsWith, Holds, IsByteRefusal, IsInputRefusal, IsShown, IsUnread, shown_lines, shown_number};
+ghost use Rattle.view_run.specs.Inputs.{BeginsWith, HasFirst, Holds, IsByteRefusal, IsInputRefusal, IsShown, IsUnread, shown_lines, shown_number};
 ghost use Rattle.view_run.specs.Plans.{IsPlanOf, IsPlanRefusal};
 ghost use Rattle.view_run.specs.declared.TheConstants.{INPUT_LIMIT};
 ghost use Rattle.view_run.specs.Runs.{AreInput, IsRefused, IsTextDue};
-ghost use Rattle.view_run.specs.Shown.{IsJobsRefusal, IsJobsText, IsLinesRefusal, IsLinesText, IsPicture, Shows, ShowsPart};
+ghost use Rattle.view_run.specs.Shown.{IsJobsRefusal, IsJobsText, IsLinesRefusal, IsLinesText, IsPicture, IsPlanText, IsPlanViewRefusal, IsTaskPicture, IsTaskPictureRefusal, Shows, ShowsPart};
 ghost use Rattle.view_run.specs.Views.{plan_source};
 
 use crate::names::Names;
-use crate::refusals::{of_jobs, of_picture, of_rows, of_table, of_text};
+use crate::refusals::{of_jobs, of_picture, of_rows, of_table, of_tasks, of_text};
 use crate::supply::work_of_stairs;
-use crate::views::{LineView, Source, View};
+use crate::views::{LineView, PlanView, Source, View};
 use crate::{INPUT_LIMIT, INPUT_NAME};
 use command_line::{File, Refusal, Source as PlanSource};
 use cycle_plan::Plan;
@@ -30,6 +30,7 @@ use slot_core::Failed;
 use slot_io::{Files, ReadFault, Sink};
 use std::alloc::Global;
 use svg_text::Document;
+use task_rows::task_picture;
 use trace_lines::{Part, Slots, TraceLine, read_part, read_trace};
 use view_jobs::put_jobs;
 use view_picture::picture;
@@ -54,14 +55,15 @@ pub(crate) fn work<F: Files, I: Files, K: Sink>(
     ensures reads_well { OnOk result
         ((F.faults files.new ≡ F.faults files.old) × (I.faults input.new ≡ I.faults input.old)) }
     ensures refused { IfErr result
-        (IsRefused view names.now (F.held files.old) (I.held input.old) (F.blamed files.new)
+        (IsRefused view names.now (F.held files.old) (I.held input.old)
+        (F.blamed files.new, F.given files.new) (I.blamed input.new, I.given input.new)
         (F.faults files.old, F.faults files.new) (I.faults input.old, I.faults input.new)
         (K.faults out.old, K.faults out.new)) }
     ensures untouched { (e : Refusal) → result ≡ Err e → e ≢ WriteRefusal → out.new ≡ out.old }
 {
     match view {
         View::Lines(view, slots) => work_of_lines(alloc, view, slots, input, out),
-        View::Jobs(source) => work_of_jobs(alloc, names, source, files, input, out),
+        View::Planned(view, source) => work_of_plan(alloc, names, view, source, files, input, out),
         View::Stairs => work_of_stairs(alloc, input, out),
     }
 }
@@ -76,15 +78,18 @@ fn work_of_lines<I: Files, K: Sink>(
 ) -> Result<(), Refusal>
     ensures shown { OnOk result
         (Shows (λ text. (lines : List TraceLine) × AreInput (I.held input.old) lines
+        × HasFirst slots lines
         × IsLinesText view (shown_number slots lines) (shown_lines slots lines) text)
         (K.written out.old) (K.written out.new)) }
     ensures part { result ≡ Err WriteRefusal
         → ShowsPart (λ text. (lines : List TraceLine) × AreInput (I.held input.old) lines
+        × HasFirst slots lines
         × IsLinesText view (shown_number slots lines) (shown_lines slots lines) text)
         (K.written out.old) (K.written out.new) }
     ensures reads_well { OnOk result (I.faults input.new ≡ I.faults input.old) }
     ensures refused { IfErr result (λ e.
-        IsInputRefusal slots (I.held input.old) (I.faults input.old) (I.faults input.new) e
+        IsInputRefusal slots (I.held input.old) (I.blamed input.new, I.given input.new)
+        (I.faults input.old) (I.faults input.new) e
         ⊎ ((lines : List TraceLine) × AreInput (I.held input.old) lines
         × IsLinesRefusal view (shown_lines slots lines) (K.faults out.old) (K.faults out.new) e)) }
     ensures untouched { (e : Refusal) → result ≡ Err e → e ≢ WriteRefusal → out.new ≡ out.old }
@@ -93,35 +98,37 @@ fn work_of_lines<I: Files, K: Sink>(
     show_lines(alloc, view, part.number, &part.lines, out)
 }
 
-/// Reads the plan and the trace, and writes the table of its jobs.
-fn work_of_jobs<F: Files, I: Files, K: Sink>(
+/// Reads the plan and the trace, and writes the view of its lines beside the plan.
+fn work_of_plan<F: Files, I: Files, K: Sink>(
     alloc: Global,
     names: &Names,
+    view: PlanView,
     source: Source,
     files: &mut F,
     input: &mut I,
     out: &mut K,
 ) -> Result<(), Refusal>
     ensures shown { OnOk result
-        (Shows (IsTextDue (View.Jobs source) names.now (F.held files.old) (I.held input.old))
+        (Shows (IsTextDue (View.Planned view source) names.now (F.held files.old) (I.held input.old))
         (K.written out.old) (K.written out.new)) }
     ensures part { result ≡ Err WriteRefusal
-        → ShowsPart (IsTextDue (View.Jobs source) names.now (F.held files.old) (I.held input.old))
+        → ShowsPart (IsTextDue (View.Planned view source) names.now (F.held files.old) (I.held input.old))
         (K.written out.old) (K.written out.new) }
     ensures reads_well { OnOk result
         ((F.faults files.new ≡ F.faults files.old) × (I.faults input.new ≡ I.faults input.old)) }
     ensures refused { IfErr result
-        (IsRefused (View.Jobs source) names.now (F.held files.old) (I.held input.old)
-        (F.blamed files.new) (F.faults files.old, F.faults files.new)
-        (I.faults input.old, I.faults input.new) (K.faults out.old, K.faults out.new)) }
+        (IsRefused (View.Planned view source) names.now (F.held files.old) (I.held input.old)
+        (F.blamed files.new, F.given files.new) (I.blamed input.new, I.given input.new)
+        (F.faults files.old, F.faults files.new) (I.faults input.old, I.faults input.new)
+        (K.faults out.old, K.faults out.new)) }
     ensures untouched { (e : Refusal) → result ≡ Err e → e ≢ WriteRefusal → out.new ≡ out.old }
 {
     let plan = planned(alloc, names, source, files)?;
-    let part = read_lines(alloc, None, input)?;
-    show_jobs(alloc, &plan, &part.lines, out)
+    let part = read_lines(alloc, view.slots(), input)?;
+    show_planned(alloc, view, &plan, part.number, &part.lines, out)
 }
 
-/// The plan of a table of jobs.
+/// The plan of a view beside one.
 fn planned<F: Files>(
     alloc: Global,
     names: &Names,
@@ -130,7 +137,7 @@ fn planned<F: Files>(
 ) -> Result<Plan, Refusal>
     ensures plan { IfOk result (IsPlanOf source names.now (F.held files.old)) }
     ensures refused { IfErr result (IsPlanRefusal source names.now (F.held files.old)
-        (F.blamed files.new) (F.faults files.old) (F.faults files.new)) }
+        (F.blamed files.new, F.given files.new) (F.faults files.old) (F.faults files.new)) }
     ensures reads_well { OnOk result (F.faults files.new ≡ F.faults files.old) }
 {
     plan_from(alloc, names, files, plan_source(source))
@@ -153,7 +160,8 @@ fn read_lines<I: Files>(alloc: Global, slots: Option<Slots>, input: &mut I) -> R
         × IsShown slots lines part.lines.items part.number) }
     ensures number { IfOk result (λ part. part.number ≤ INPUT_LIMIT + 1) }
     ensures refused { IfErr result
-        (IsInputRefusal slots (I.held input.old) (I.faults input.old) (I.faults input.new)) }
+        (IsInputRefusal slots (I.held input.old) (I.blamed input.new, I.given input.new)
+        (I.faults input.old) (I.faults input.new)) }
     ensures reads_well { OnOk result (I.faults input.new ≡ I.faults input.old) }
 {
     let bytes = read_input(alloc, input)?;
@@ -208,7 +216,8 @@ pub(crate) fn read_input<I: Files>(alloc: Global, input: &mut I) -> Result<Vec<u
         (λ held. Holds held bytes.items)) }
     ensures short { IfOk result (λ bytes. length bytes.items ≤ INPUT_LIMIT) }
     ensures refused { IfErr result
-        (IsByteRefusal (I.held input.old) (I.faults input.old) (I.faults input.new)) }
+        (IsByteRefusal (I.held input.old) (I.blamed input.new, I.given input.new)
+        (I.faults input.old) (I.faults input.new)) }
     ensures reads_well { OnOk result (I.faults input.new ≡ I.faults input.old) }
 {
     match input.read(alloc, INPUT_NAME, INPUT_LIMIT) {
@@ -342,6 +351,74 @@ fn put_rows<K: Sink>(rows: &[Row], lines: &[TraceLine], out: &mut K) -> Result<(
         → (e ≡ WriteRefusal) × Rose (K.faults out.old) (K.faults out.new) }
 {
     match put_waves(rows, lines, out) {
+        Ok(()) => Ok(()),
+        Err(Failed) => Err(Refusal::WriteFault),
+    }
+}
+
+/// Writes the view of the lines beside the plan. The first of them has this number.
+fn show_planned<K: Sink>(
+    alloc: Global,
+    view: PlanView,
+    plan: &Plan,
+    number: u64,
+    lines: &[TraceLine],
+    out: &mut K,
+) -> Result<(), Refusal>
+    requires { number ≤ INPUT_LIMIT + 1 }
+    ensures shown { OnOk result
+        (Shows (IsPlanText view plan.now lines.now) (K.written out.old) (K.written out.new)) }
+    ensures part { result ≡ Err WriteRefusal
+        → ShowsPart (IsPlanText view plan.now lines.now) (K.written out.old) (K.written out.new) }
+    ensures refused { IfErr result
+        (IsPlanViewRefusal view plan.now number lines.now (K.faults out.old) (K.faults out.new)) }
+    ensures untouched { (e : Refusal) → result ≡ Err e → e ≢ WriteRefusal → out.new ≡ out.old }
+{
+    match view {
+        PlanView::Jobs => show_jobs(alloc, plan, lines, out),
+        PlanView::Tasks(_) => show_tasks(alloc, plan, number, lines, out),
+    }
+}
+
+/// Writes the picture of the lines over the tasks of the plan. The first of them has this number.
+fn show_tasks<K: Sink>(
+    alloc: Global,
+    plan: &Plan,
+    number: u64,
+    lines: &[TraceLine],
+    out: &mut K,
+) -> Result<(), Refusal>
+    requires { number ≤ INPUT_LIMIT + 1 }
+    ensures shown { OnOk result
+        (Shows (IsTaskPicture plan.now lines.now) (K.written out.old) (K.written out.new)) }
+    ensures part { result ≡ Err WriteRefusal
+        → ShowsPart (IsTaskPicture plan.now lines.now) (K.written out.old) (K.written out.new) }
+    ensures refused { IfErr result (IsTaskPictureRefusal plan.now number lines.now
+        (K.faults out.old) (K.faults out.new)) }
+    ensures untouched { (e : Refusal) → result ≡ Err e → e ≢ WriteRefusal → out.new ≡ out.old }
+{
+    match task_picture(alloc, plan.tasks(), number, lines) {
+        Ok(document) => put_task_picture(plan, lines, &document, out),
+        Err(fault) => Err(of_tasks(fault)),
+    }
+}
+
+/// Writes the document, a picture of the lines over the tasks of the plan.
+fn put_task_picture<K: Sink>(
+    plan: &Plan,
+    lines: &[TraceLine],
+    document: &Document,
+    out: &mut K,
+) -> Result<(), Refusal>
+    requires { IsTaskPicture plan.now lines.now document.now }
+    ensures shown { OnOk result
+        (Shows (IsTaskPicture plan.now lines.now) (K.written out.old) (K.written out.new)) }
+    ensures part { result ≡ Err WriteRefusal
+        → ShowsPart (IsTaskPicture plan.now lines.now) (K.written out.old) (K.written out.new) }
+    ensures refused { (e : Refusal) → result ≡ Err e
+        → (e ≡ WriteRefusal) × Rose (K.faults out.old) (K.faults out.new) }
+{
+    match document.put(out) {
         Ok(()) => Ok(()),
         Err(Failed) => Err(Refusal::WriteFault),
     }

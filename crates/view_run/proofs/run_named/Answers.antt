@@ -9,7 +9,7 @@ pub returns-in-Err-clause-shows : goal.returns-in-Err-clause-shows
 returns-in-Err-clause-shows g c = λ usage.
     elim c.report.ensures.kept [
       | inl same ↦
-          refused-no_usage c.args.view c.args.names.now _ _ _ _ _ _ c.in-Err.refusal c.in-Err.ensures.refused (ap refusal_status (sym same) ∙ sym c.status.ensures ∙ usage)
+          refused-no_usage c.args.view c.args.names.now _ _ _ _ _ _ _ c.in-Err.refusal c.in-Err.ensures.refused (ap refusal_status (sym same) ∙ sym c.status.ensures ∙ usage)
       | inr memory ↦ cc (ap refusal_status (sym memory.0) ∙ sym c.status.ensures ∙ usage)
     ]
 
@@ -18,8 +18,8 @@ returns-in-Err-clause-refused g c = λ undone. (
   c.report.result,
   c.status.ensures,
   elim c.report.ensures.kept [
-    | inl same ↦ subst (IsRefused c.args.view c.args.names.now _ _ _ _ _ _) (sym same) c.in-Err.ensures.refused
-    | inr memory ↦ subst (IsRefused c.args.view c.args.names.now _ _ _ _ _ _) (sym memory.0) (inl refl)
+    | inl same ↦ subst (IsRefused c.args.view c.args.names.now _ _ _ _ _ _ _) (sym same) c.in-Err.ensures.refused
+    | inr memory ↦ subst (IsRefused c.args.view c.args.names.now _ _ _ _ _ _ _) (sym memory.0) (inl refl)
   ],
   c.report.ensures.told,
 )

@@ -11,7 +11,7 @@ use Rattle.view_run.proofs.run_view.Goals as goal
 pub returns-in-Ok-clause-refused : goal.returns-in-Ok-clause-refused
 returns-in-Ok-clause-refused g c =
     subst
-    (λ names. c.run_named.result ≢ Status.Done → (e : Refusal) × (c.run_named.result ≡ refusal_status e) × IsRefused c.args.view names (g.F.Files.held c.args.files.now) (g.I.Files.held c.args.input.now) (g.F.Files.blamed c.run_named.new.files) (g.F.Files.faults c.args.files.now, g.F.Files.faults c.run_named.new.files) (g.I.Files.faults c.args.input.now, g.I.Files.faults c.run_named.new.input) (g.K.Sink.faults c.args.out.now, g.K.Sink.faults c.run_named.new.out) e × IsTold (refusal_line names e) (g.E.Sink.written c.args.err.now) (g.E.Sink.written c.run_named.new.err) (g.E.Sink.faults c.args.err.now) (g.E.Sink.faults c.run_named.new.err))
+    (λ names. c.run_named.result ≢ Status.Done → (e : Refusal) × (c.run_named.result ≡ refusal_status e) × IsRefused c.args.view names (g.F.Files.held c.args.files.now) (g.I.Files.held c.args.input.now) (g.F.Files.blamed c.run_named.new.files, g.F.Files.given c.run_named.new.files) (g.I.Files.blamed c.run_named.new.input, g.I.Files.given c.run_named.new.input) (g.F.Files.faults c.args.files.now, g.F.Files.faults c.run_named.new.files) (g.I.Files.faults c.args.input.now, g.I.Files.faults c.run_named.new.input) (g.K.Sink.faults c.args.out.now, g.K.Sink.faults c.run_named.new.out) e × IsTold (refusal_line names e) (g.E.Sink.written c.args.err.now) (g.E.Sink.written c.run_named.new.err) (g.E.Sink.faults c.args.err.now) (g.E.Sink.faults c.run_named.new.err))
     c.in-Ok.ensures
     c.run_named.ensures.refused
 

@@ -9,7 +9,7 @@ use Rattle.view_picture.proofs.blocks.draw_runs.Goals as goal
 
 pub returns : goal.returns
 returns c =
-    let before = c.args.drawing.now in
+    let before = c.in_ok-drawing.drawing in
     let after = c.draw_blocks.new.drawing in
     let grown =
     subst
@@ -21,6 +21,8 @@ returns c =
     let slots = slots_of c.args.lines.now in
     λ width height right bottom.
     record {
+      front = c.args.backdrop;
+      marked = c.in_ok-drawing.ensures.marked;
       blocks = c.in_ok-blocks.blocks.items;
       seconds = grown.seconds;
       times = times;
@@ -44,7 +46,7 @@ returns c =
           (subst (λ x. x ≤ width) (steps-from times slots c.requires.count) right);
       low = low;
       bottom = steps-inside c.args.top (length c.args.rows.now) ROW height low bottom;
-      bare = c.requires.bare;
+      bare = c.in_ok-drawing.ensures.bare;
       each = grown.each;
       drawn =
           ap (λ drawing. document_text width height STYLE.now drawing) grown.drawn

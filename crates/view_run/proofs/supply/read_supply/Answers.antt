@@ -13,4 +13,4 @@ returns-clause-supply g c =
 pub returns-clause-refused : goal.returns-clause-refused
 returns-clause-refused g c =
     let holds : IfSome (g.I.Files.held c.args.input.now) (λ files. Holds files c.deref.result.now) = subst (λ text. IfSome (g.I.Files.held c.args.input.now) (λ files. Holds files text)) (sym c.deref.ensures.value) c.in_ok-bytes.ensures.bytes in
-    supply-refused c.steps_of.result c.deref.result.now (g.I.Files.held c.args.input.now) _ _ holds c.steps_of.ensures.refused
+    supply-refused c.steps_of.result c.deref.result.now (g.I.Files.held c.args.input.now) _ _ _ holds c.steps_of.ensures.refused

@@ -6,7 +6,7 @@ use Rattle.view_run.proofs.Causes.{of_text-cause}
 use Rattle.view_run.proofs.work.all_lines.Goals as goal
 
 pub returns-in-Ok-clause-shown : goal.returns-in-Ok-clause-shown
-returns-in-Ok-clause-shown c = (c.in-Ok.lines.items, (c.in-Ok.ensures.trace, c.in-Ok.ensures.text), (refl, refl))
+returns-in-Ok-clause-shown c = (c.in-Ok.lines.items, (c.in-Ok.ensures.trace, c.in-Ok.ensures.text), (refl, refl, tt))
 
 pub returns-in-Err-clause-refused : goal.returns-in-Err-clause-refused
 returns-in-Err-clause-refused c =

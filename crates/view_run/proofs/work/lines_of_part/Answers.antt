@@ -7,7 +7,7 @@ use Rattle.view_run.proofs.work.lines_of_part.Goals as goal
 
 pub returns-in-Ok-clause-shown : goal.returns-in-Ok-clause-shown
 returns-in-Ok-clause-shown c =
-    let (lines, text, shown, number, within) = c.in-Ok.ensures.part in (lines, text, (shown, number))
+    let (lines, text, shown, number, within) = c.in-Ok.ensures.part in (lines, text, (shown, number, within))
 
 pub returns-in-Err-clause-refused : goal.returns-in-Err-clause-refused
 returns-in-Err-clause-refused c =

@@ -1,0 +1,4 @@
+pub mod HeldRuns
+pub mod MarkedInstances
+pub mod RowCounts
+pub mod Steps
