@@ -209,12 +209,12 @@ uint32_t ss_withdraw(ss_slots *slots, uint32_t row, uint32_t firm, ss_told *told
  * of the end of that slot: so an offer's `within` counts from there. */
 uint32_t ss_slot(ss_slots *slots, ss_key *ran);
 
-/* What the next slot runs, and in `count` for how many slots from it on, 1 to `most`, that stays so
- * where nothing arrives: so a unit may set a timer once in place of a tick for each slot. No slot
- * passes. The count is at most a cycle, and so the greatest where no soft work waits, where the set
- * has no sporadic task, and where soft work runs; else it may be a smaller one. After an arrival it
- * may be another: ask again. At and near the time 2^44 it also counts slots that can pass no more:
- * ss_slot is SS_AT_END there. SS_BAD_NUMBER where `most` is 0. */
+/* What the next slot runs, and in `count` for how many slots from it on, 1 to `most`, that stays
+ * so where nothing arrives: so a unit may set a timer once in place of a tick for each slot. No
+ * slot passes. The count is at most a cycle. It is the greatest such number where no soft work
+ * waits, where the set has no sporadic task, and where soft work runs; else it may be a smaller
+ * one. After an arrival it may be another: ask again. At and near the time 2^44 it also counts
+ * slots that can pass no more: ss_slot is SS_AT_END there. SS_BAD_NUMBER where `most` is 0. */
 uint32_t ss_ahead(ss_slots *slots, uint32_t most, ss_key *ran, uint32_t *count);
 
 /* Slots pass, one after the other, as with ss_slot, while what is to run is what ran in the first of
