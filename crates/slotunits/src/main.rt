@@ -6,5 +6,5 @@ use units_run::run_on_host;
 
 /// Hands the host and its standard streams on.
 fn main(rt: HostRuntime) -> ExitCode {
-    run_on_host(rt.stdout(), rt.stderr(), rt)
+    run_on_host(rt.stdin(), rt.stdout(), rt.stderr(), rt)
 }

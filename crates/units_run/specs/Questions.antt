@@ -33,4 +33,4 @@ question_of words =
 
 -- the name of the other file: A, or where there is none standard input
 abbrev pub other_of : List (List ℕ) → List ℕ
-other_of words = if nat_lt 2 (length words) then word_at words 2 else codes "/dev/stdin"
+other_of words = if nat_lt 2 (length words) then word_at words 2 else codes "standard input"

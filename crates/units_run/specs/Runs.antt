@@ -7,6 +7,7 @@ use Rattle.slot_core.specs.Calls.Counts.{Rose}
 use Rattle.slot_core.specs.Sets.Faults.{set_fault}
 use Rattle.slot_core.specs.Sets.Ranges.{is_sound}
 use Rattle.slot_io.specs.Files.{Held, first_bytes}
+use Rattle.slot_io.specs.Sinks.{AppendsPart}
 use Rattle.command_line.specs.declared.status.Status.{Status}
 use Rattle.task_toml.specs.Reading.{reading_of_tasks}
 use Rattle.clock_units.specs.declared.sets.PhysicalSet.{PhysicalSet}
@@ -68,27 +69,37 @@ pub record AreTimed
   pub read : AreRows form held name rows
   pub timed : timed_text form physical rows ≡ Ok text
 
--- the text answers the question of the bytes, where the other file has this name
-abbrev pub IsAnswer : Question → Option Held → List ℕ → List ℕ → List ℕ → Type 0
-IsAnswer Tasks held other bytes text = IsText bytes text
-IsAnswer (Check from to) held other bytes text = AreLengths from to bytes text
-IsAnswer ArrivalsAsked held other bytes text = AreTimed Arrivals held other bytes text
-IsAnswer TraceAsked held other bytes text = AreTimed Trace held other bytes text
+-- the text answers the question of the bytes, where the other file has this name: a trace is that of
+-- standard input
+abbrev pub IsAnswer :
+    Question → Option Held → Option Held → List ℕ → List ℕ → List ℕ → Type 0
+IsAnswer Tasks held input other bytes text = IsText bytes text
+IsAnswer (Check from to) held input other bytes text = AreLengths from to bytes text
+IsAnswer ArrivalsAsked held input other bytes text = AreTimed Arrivals held other bytes text
+IsAnswer TraceAsked held input other bytes text = AreTimed Trace input other bytes text
 
 -- the text answers the question of the file of this name
 pub record IsDue
-    (question : Question) (held : Option Held) (name other text : List ℕ) : Type 0 where
+    (question : Question) (held input : Option Held) (name other text : List ℕ) : Type 0 where
   pub bytes : List ℕ
   pub read : IsRead held name bytes
-  pub is_answer : IsAnswer question held other bytes text
+  pub is_answer : IsAnswer question held input other bytes text
 
 -- known bytes grow by such a text
 pub record IsWritten
-    (question : Question) (held : Option Held) (name other : List ℕ)
+    (question : Question) (held input : Option Held) (name other : List ℕ)
     (before after : Option (List ℕ)) : Type 0 where
   pub text : List ℕ
-  pub due : IsDue question held name other text
+  pub due : IsDue question held input name other text
   pub written : Appends before after text
+
+-- known bytes grow by a part of such a text, from its front
+pub record IsPartWritten
+    (question : Question) (held input : Option Held) (name other : List ℕ)
+    (before after : Option (List ℕ)) : Type 0 where
+  pub text : List ℕ
+  pub due : IsDue question held input name other text
+  pub written : AppendsPart before after text
 
 -- why a set in slots has no text: its first fault, or the text that was made is read otherwise, of
 -- which no clause says when
@@ -135,16 +146,48 @@ IsSlotsRefusal physical (NoSlots fault) = derived_set physical ≡ Err fault
 IsSlotsRefusal physical Memory = ⊤
 IsSlotsRefusal physical _ = ⊥
 
+-- what contracts see of files in a run: what they hold, the name of the last read that failed, that
+-- of the last one that gave bytes, with how many, and the counts of faults before and after
+pub record FilesSeen : Type 0 where
+  pub held : Option Held
+  pub blamed : Option (List ℕ)
+  pub given : Option (List ℕ × ℕ)
+  pub before : ℕ
+  pub after : ℕ
+
+-- the same, of files that tell these things of themselves
+abbrev pub seen :
+    {F : Type 0} → (F → Option Held) → (F → Option (List ℕ)) → (F → Option (List ℕ × ℕ)) → (F → ℕ)
+    → F → F → FilesSeen
+seen held blamed given faults before after =
+    record {
+      held = held before;
+      blamed = blamed after;
+      given = given after;
+      before = faults before;
+      after = faults after;
+    }
+
+-- a file is not read: its name is blamed, and a fault was counted
+pub record IsUnread (name : List ℕ) (files : FilesSeen) : Type 0 where
+  pub blamed : files.blamed ≡ Some name
+  pub counted : Rose files.before files.after
+
+-- a file has more bytes than its limit: so many were given under its name, and where contracts see
+-- what the files hold it has more
+pub record IsTooLong (limit : ℕ) (name : List ℕ) (files : FilesSeen) : Type 0 where
+  pub bytes : List ℕ
+  pub given : files.given ≡ Some (name, length bytes)
+  pub read : IsReadTo limit files.held name bytes
+  pub long : limit < length bytes
+
 -- why a file of arrivals, or a trace, is not read
-abbrev pub IsRowsRefusal :
-    Form → Option Held → List ℕ → Option (List ℕ) → ℕ → ℕ → UnitsRefusal → Type 0
-IsRowsRefusal form held name blamed before after UnreadableRows =
-    (blamed ≡ Some name) × Rose before after
-IsRowsRefusal form held name blamed before after (TooLargeRows told) =
-    (told ≡ form)
-    × ((rows : List ℕ) × AreRows form held name rows × (rows_limit form < length rows))
-IsRowsRefusal form held name blamed before after Memory = ⊤
-IsRowsRefusal form held name blamed before after _ = ⊥
+abbrev pub IsRowsRefusal : Form → List ℕ → FilesSeen → UnitsRefusal → Type 0
+IsRowsRefusal form name files UnreadableRows = IsUnread name files
+IsRowsRefusal form name files (TooLargeRows told) =
+    (told ≡ form) × IsTooLong (rows_limit form) name files
+IsRowsRefusal form name files Memory = ⊤
+IsRowsRefusal form name files _ = ⊥
 
 -- why its rows or lines are refused
 abbrev pub IsRowRefusal : Form → PhysicalSet → List ℕ → UnitsRefusal → Type 0
@@ -153,63 +196,53 @@ IsRowRefusal form physical rows (BadRows told fault) =
 IsRowRefusal form physical rows Memory = ⊤
 IsRowRefusal form physical rows _ = ⊥
 
--- why they have no rows with the other file, over its name, its blame and the counts of faults:
--- they write no set in physical time, that has no set in slots, the other file is not read, or a row
--- or a line of it has a fault
-abbrev pub IsTimedRefusal :
-    Form → Option Held → List ℕ → List ℕ → Option (List ℕ) → ℕ × ℕ → UnitsRefusal → Type 0
-IsTimedRefusal form held other bytes blamed of_files (BadUnits fault) =
-    reading_of_units bytes ≡ Err fault
-IsTimedRefusal form held other bytes blamed of_files (NoSlots fault) =
+-- why they have no rows with the file of this name: they write no set in physical time, that has no
+-- set in slots, the file is not read, or a row or a line of it has a fault
+abbrev pub IsTimedRefusal : Form → List ℕ → List ℕ → FilesSeen → UnitsRefusal → Type 0
+IsTimedRefusal form name bytes files (BadUnits fault) = reading_of_units bytes ≡ Err fault
+IsTimedRefusal form name bytes files (NoSlots fault) =
     (physical : PhysicalSet) × (reading_of_units bytes ≡ Ok physical)
     × (derived_set physical ≡ Err fault)
-IsTimedRefusal form held other bytes blamed of_files UnreadableRows =
-    (blamed ≡ Some other) × Rose of_files.0 of_files.1
-IsTimedRefusal form held other bytes blamed of_files (TooLargeRows told) =
-    (told ≡ form)
-    × ((rows : List ℕ) × AreRows form held other rows × (rows_limit form < length rows))
-IsTimedRefusal form held other bytes blamed of_files (BadRows told fault) =
+IsTimedRefusal form name bytes files UnreadableRows = IsUnread name files
+IsTimedRefusal form name bytes files (TooLargeRows told) =
+    (told ≡ form) × IsTooLong (rows_limit form) name files
+IsTimedRefusal form name bytes files (BadRows told fault) =
     (physical : PhysicalSet) × (reading_of_units bytes ≡ Ok physical)
-    × ((rows : List ℕ) × AreRows form held other rows
+    × ((rows : List ℕ) × AreRows form files.held name rows
     × IsRowRefusal form physical rows (BadRows told fault))
-IsTimedRefusal form held other bytes blamed of_files Memory = ⊤
-IsTimedRefusal form held other bytes blamed of_files _ = ⊥
+IsTimedRefusal form name bytes files Memory = ⊤
+IsTimedRefusal form name bytes files _ = ⊥
 
--- why they have no answer to the question
+-- why they have no answer to the question, over the files and standard input
 abbrev pub IsAnswerRefusal :
-    Question → Option Held → List ℕ → List ℕ → Option (List ℕ) → ℕ × ℕ → UnitsRefusal → Type 0
-IsAnswerRefusal Tasks held other bytes blamed of_files e = IsTextRefusal bytes e
-IsAnswerRefusal (Check from to) held other bytes blamed of_files e = IsReadingRefusal bytes e
-IsAnswerRefusal ArrivalsAsked held other bytes blamed of_files e =
-    IsTimedRefusal Arrivals held other bytes blamed of_files e
-IsAnswerRefusal TraceAsked held other bytes blamed of_files e =
-    IsTimedRefusal Trace held other bytes blamed of_files e
+    Question → List ℕ → List ℕ → FilesSeen → FilesSeen → UnitsRefusal → Type 0
+IsAnswerRefusal Tasks other bytes files input e = IsTextRefusal bytes e
+IsAnswerRefusal (Check from to) other bytes files input e = IsReadingRefusal bytes e
+IsAnswerRefusal ArrivalsAsked other bytes files input e =
+    IsTimedRefusal Arrivals other bytes files e
+IsAnswerRefusal TraceAsked other bytes files input e = IsTimedRefusal Trace other bytes input e
 
--- why a file is not read: a fault was counted and its name blamed, or it is too long
-abbrev pub IsFileRefusal : Option Held → List ℕ → Option (List ℕ) → ℕ → ℕ → UnitsRefusal → Type 0
-IsFileRefusal held name blamed before after Unreadable =
-    (blamed ≡ Some name) × Rose before after
-IsFileRefusal held name blamed before after TooLarge =
-    (bytes : List ℕ) × IsRead held name bytes × (TASK_FILE_LIMIT < length bytes)
-IsFileRefusal held name blamed before after Memory = ⊤
-IsFileRefusal held name blamed before after _ = ⊥
+-- why a file of units is not read
+abbrev pub IsFileRefusal : List ℕ → FilesSeen → UnitsRefusal → Type 0
+IsFileRefusal name files Unreadable = IsUnread name files
+IsFileRefusal name files TooLarge = IsTooLong TASK_FILE_LIMIT name files
+IsFileRefusal name files Memory = ⊤
+IsFileRefusal name files _ = ⊥
 
 -- why there is no answer of the file of this name: it is not read, or its bytes have none
 abbrev pub IsDueRefusal :
-    Question → Option Held → List ℕ → List ℕ → Option (List ℕ) → ℕ × ℕ → UnitsRefusal → Type 0
-IsDueRefusal question held name other blamed of_files e =
-    IsFileRefusal held name blamed of_files.0 of_files.1 e
-    ⊎ ((bytes : List ℕ) × IsRead held name bytes
-    × IsAnswerRefusal question held other bytes blamed of_files e)
+    Question → List ℕ → List ℕ → FilesSeen → FilesSeen → UnitsRefusal → Type 0
+IsDueRefusal question name other files input e =
+    IsFileRefusal name files e
+    ⊎ ((bytes : List ℕ) × IsRead files.held name bytes
+    × IsAnswerRefusal question other bytes files input e)
 
--- why a run is refused, over its files, their blame and the counts of faults of files and output
+-- why a run is refused, over its files, standard input, and the counts of faults of the output
 abbrev pub IsRefused :
-    Question → Option Held → List ℕ → List ℕ → Option (List ℕ) → ℕ × ℕ → ℕ × ℕ → UnitsRefusal
-    → Type 0
-IsRefused question held name other blamed of_files of_output WriteFault =
-    Rose of_output.0 of_output.1
-IsRefused question held name other blamed of_files of_output e =
-    IsDueRefusal question held name other blamed of_files e
+    Question → List ℕ → List ℕ → FilesSeen → FilesSeen → ℕ × ℕ → UnitsRefusal → Type 0
+IsRefused question name other files input of_output WriteFault = Rose of_output.0 of_output.1
+IsRefused question name other files input of_output e =
+    IsDueRefusal question name other files input e
 
 -- the status of a refusal
 abbrev pub refusal_status : UnitsRefusal → Status

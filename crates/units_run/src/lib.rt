@@ -8,9 +8,9 @@ ghost use Rattle.command_line.specs.Pages.{IsPageTold, page_of, page_text};
 ghost use Rattle.command_line.specs.Refusals.{word_at};
 ghost use Rattle.command_line.specs.Reports.{IsTold};
 ghost use Rattle.command_line.specs.declared.pages.Page.{Page};
-ghost use Rattle.units_run.specs.Lines.{refusal_line, units_help};
+ghost use Rattle.units_run.specs.Lines.{refusal_line, units_help, units_usage};
 ghost use Rattle.units_run.specs.Questions.{other_of, question_of};
-ghost use Rattle.units_run.specs.Runs.{IsRefused, IsWritten, refusal_status};
+ghost use Rattle.units_run.specs.Runs.{IsPartWritten, IsRefused, IsWritten, refusal_status, seen};
 ghost use Rattle.units_run.specs.declared.questions.Question.{Question};
 ghost use Rattle.units_run.specs.declared.refusal.UnitsRefusal.{UnitsRefusal};
 
@@ -34,23 +34,35 @@ use work::work;
 /// The usage line.
 const USAGE: &[u8] = b"usage: slotunits tasks U | check U [FROM TO] | arrivals U A | trace U\n";
 
+/// The name of standard input in fault lines.
+const INPUT_NAME: &str = "standard input";
+
 /// Does what the words ask for: tells the help or the version; or reads the file of units, and
 /// writes the answer in one put: the task file of its set in slots, a line for each length of a
-/// slot, the arrivals file of a file of arrivals with times, or the trace with times of a trace. It
-/// puts one line on `err` where it ends otherwise than Done.
-pub fn run<F: Files, K: Sink, E: Sink>(
+/// slot, the arrivals file of a file of arrivals with times, or the trace with times of the trace
+/// that `input` gives. It puts one line on `err` where it ends otherwise than Done.
+pub fn run<F: Files, I: Files, K: Sink, E: Sink>(
     alloc: Global,
     words: &Words,
     files: &mut F,
+    input: &mut I,
     out: &mut K,
     err: &mut E,
 ) -> Status
     ensures usage { (result ≡ Status.Usage)
         ↔ ((page_of words.now ≡ None) × (question_of words.now ≡ None)) }
+    ensures usage_touches_nothing { result ≡ Status.Usage
+        → (files.new ≡ files.old) × (input.new ≡ input.old) × (out.new ≡ out.old) }
+    ensures usage_line { result ≡ Status.Usage → IsTold units_usage
+        (E.written err.old) (E.written err.new) (E.faults err.old) (E.faults err.new) }
+
+    // The words --help and --version are answered by these texts, and nothing is read.
     ensures page { (page : Page) → page_of words.now ≡ Some page
         → IsPageTold (page_text (codes "slotunits") units_help page)
         (K.written out.old) (K.written out.new) (K.faults out.old) (K.faults out.new)
         (E.written err.old) (E.written err.new) (E.faults err.old) (E.faults err.new) result }
+    ensures page_reads_nothing { (page : Page) → page_of words.now ≡ Some page
+        → (files.new ≡ files.old) × (input.new ≡ input.old) }
 
     // For other words, where it is done, the file writes a set in physical time. For a task file
     // its set in slots is sound, and what was written is read as that set; for the lengths of a
@@ -58,52 +70,73 @@ pub fn run<F: Files, K: Sink, E: Sink>(
     // it is what stands for their rows and lines.
     ensures done { page_of words.now ≡ None → result ≡ Status.Done
         → (question : Question) × (question_of words.now ≡ Some question)
-        × IsWritten question (F.held files.old) (word_at words.now 1) (other_of words.now)
-        (K.written out.old) (K.written out.new) }
+        × IsWritten question (F.held files.old) (I.held input.old) (word_at words.now 1)
+        (other_of words.now) (K.written out.old) (K.written out.new) }
     ensures done_says_nothing { result ≡ Status.Done → err.new ≡ err.old }
+    ensures done_reads_well { result ≡ Status.Done → (F.faults files.new ≡ F.faults files.old)
+        × (I.faults input.new ≡ I.faults input.old) }
 
     // Where they are refused, the refusal has its cause, and its line is told.
     ensures refused { page_of words.now ≡ None → result ≢ Status.Done → result ≢ Status.Usage
         → (question : Question) × (question_of words.now ≡ Some question)
         × ((e : UnitsRefusal) × (result ≡ refusal_status e)
-        × IsRefused question (F.held files.old) (word_at words.now 1) (other_of words.now)
-        (F.blamed files.new) (F.faults files.old, F.faults files.new)
+        × IsRefused question (word_at words.now 1) (other_of words.now)
+        (seen F.held F.blamed F.given F.faults files.old files.new)
+        (seen I.held I.blamed I.given I.faults input.old input.new)
         (K.faults out.old, K.faults out.new) e
         × IsTold (refusal_line (word_at words.now 1) (other_of words.now) e)
         (E.written err.old) (E.written err.new) (E.faults err.old) (E.faults err.new)) }
     ensures refusal_writes_nothing { result ≢ Status.Done → result ≢ Status.WriteFault
         → out.new ≡ out.old }
+
+    // Where the write fails, a part of the answer is on the output, from its front.
+    ensures part { page_of words.now ≡ None → result ≡ Status.WriteFault
+        → (question : Question) × (question_of words.now ≡ Some question)
+        × IsPartWritten question (F.held files.old) (I.held input.old) (word_at words.now 1)
+        (other_of words.now) (K.written out.old) (K.written out.new) }
 {
     match page_of(words) {
         Some(page) => tell_units_page(page, out, err),
-        None => run_file_of(alloc, words, files, out, err),
+        None => run_file_of(alloc, words, files, input, out, err),
     }
 }
 
 /// Answers the question that the words ask.
-fn run_file_of<F: Files, K: Sink, E: Sink>(
+fn run_file_of<F: Files, I: Files, K: Sink, E: Sink>(
     alloc: Global,
     words: &Words,
     files: &mut F,
+    input: &mut I,
     out: &mut K,
     err: &mut E,
 ) -> Status
     ensures usage { (result ≡ Status.Usage) ↔ (question_of words.now ≡ None) }
+    ensures usage_touches_nothing { result ≡ Status.Usage
+        → (files.new ≡ files.old) × (input.new ≡ input.old) × (out.new ≡ out.old) }
+    ensures usage_line { result ≡ Status.Usage → IsTold units_usage
+        (E.written err.old) (E.written err.new) (E.faults err.old) (E.faults err.new) }
     ensures done { result ≡ Status.Done
         → (question : Question) × (question_of words.now ≡ Some question)
-        × IsWritten question (F.held files.old) (word_at words.now 1) (other_of words.now)
-        (K.written out.old) (K.written out.new) }
+        × IsWritten question (F.held files.old) (I.held input.old) (word_at words.now 1)
+        (other_of words.now) (K.written out.old) (K.written out.new) }
     ensures done_says_nothing { result ≡ Status.Done → err.new ≡ err.old }
+    ensures done_reads_well { result ≡ Status.Done → (F.faults files.new ≡ F.faults files.old)
+        × (I.faults input.new ≡ I.faults input.old) }
     ensures refused { result ≢ Status.Done → result ≢ Status.Usage
         → (question : Question) × (question_of words.now ≡ Some question)
         × ((e : UnitsRefusal) × (result ≡ refusal_status e)
-        × IsRefused question (F.held files.old) (word_at words.now 1) (other_of words.now)
-        (F.blamed files.new) (F.faults files.old, F.faults files.new)
+        × IsRefused question (word_at words.now 1) (other_of words.now)
+        (seen F.held F.blamed F.given F.faults files.old files.new)
+        (seen I.held I.blamed I.given I.faults input.old input.new)
         (K.faults out.old, K.faults out.new) e
         × IsTold (refusal_line (word_at words.now 1) (other_of words.now) e)
         (E.written err.old) (E.written err.new) (E.faults err.old) (E.faults err.new)) }
     ensures refusal_writes_nothing { result ≢ Status.Done → result ≢ Status.WriteFault
         → out.new ≡ out.old }
+    ensures part { result ≡ Status.WriteFault
+        → (question : Question) × (question_of words.now ≡ Some question)
+        × IsPartWritten question (F.held files.old) (I.held input.old) (word_at words.now 1)
+        (other_of words.now) (K.written out.old) (K.written out.new) }
 {
     match question_of(words) {
         Some(question) => run_files(
@@ -112,10 +145,11 @@ fn run_file_of<F: Files, K: Sink, E: Sink>(
             name_of(words),
             other_of(words),
             files,
+            input,
             out,
             err,
         ),
-        None => refuse(err, USAGE, Status::Usage),
+        None => refuse(err),
     }
 }
 
@@ -133,33 +167,40 @@ fn other_of(words: &Words) -> &str
     if words.len() > 2 {
         words.word(2)
     } else {
-        "/dev/stdin"
+        INPUT_NAME
     }
 }
 
 /// Answers the question of the files of these names.
-fn run_files<F: Files, K: Sink, E: Sink>(
+fn run_files<F: Files, I: Files, K: Sink, E: Sink>(
     alloc: Global,
     question: Question,
     name: &str,
     other: &str,
     files: &mut F,
+    input: &mut I,
     out: &mut K,
     err: &mut E,
 ) -> Status
     ensures known { result ≢ Status.Usage }
-    ensures done { result ≡ Status.Done → IsWritten question (F.held files.old) name.now other.now
-        (K.written out.old) (K.written out.new) }
+    ensures done { result ≡ Status.Done → IsWritten question (F.held files.old) (I.held input.old)
+        name.now other.now (K.written out.old) (K.written out.new) }
     ensures done_says_nothing { result ≡ Status.Done → err.new ≡ err.old }
+    ensures done_reads_well { result ≡ Status.Done → (F.faults files.new ≡ F.faults files.old)
+        × (I.faults input.new ≡ I.faults input.old) }
     ensures refused { result ≢ Status.Done → (e : UnitsRefusal) × (result ≡ refusal_status e)
-        × IsRefused question (F.held files.old) name.now other.now (F.blamed files.new)
-        (F.faults files.old, F.faults files.new) (K.faults out.old, K.faults out.new) e
+        × IsRefused question name.now other.now
+        (seen F.held F.blamed F.given F.faults files.old files.new)
+        (seen I.held I.blamed I.given I.faults input.old input.new)
+        (K.faults out.old, K.faults out.new) e
         × IsTold (refusal_line name.now other.now e)
         (E.written err.old) (E.written err.new) (E.faults err.old) (E.faults err.new) }
     ensures refusal_writes_nothing { result ≢ Status.Done → result ≢ Status.WriteFault
         → out.new ≡ out.old }
+    ensures part { result ≡ Status.WriteFault → IsPartWritten question (F.held files.old)
+        (I.held input.old) name.now other.now (K.written out.old) (K.written out.new) }
 {
-    match work(alloc, question, name, other, files, out) {
+    match work(alloc, question, name, other, files, input, out) {
         Ok(()) => Status::Done,
         Err(refusal) => report(alloc, name, other, refusal, err).status(),
     }
@@ -205,12 +246,12 @@ fn put_line<E: Sink>(err: &mut E, line: &[u8])
     }
 }
 
-/// Puts the line, and answers the status.
-fn refuse<E: Sink>(err: &mut E, line: &[u8], status: Status) -> Status
-    ensures status { result ≡ status }
-    ensures told { IsTold line.now
+/// Puts the usage, and answers the status of faulty words.
+fn refuse<E: Sink>(err: &mut E) -> Status
+    ensures status { result ≡ Status.Usage }
+    ensures told { IsTold units_usage
         (E.written err.old) (E.written err.new) (E.faults err.old) (E.faults err.new) }
 {
-    put_line(err, line);
-    status
+    put_line(err, USAGE);
+    Status::Usage
 }

@@ -8,7 +8,7 @@ ghost use Rattle.clock_units.specs.Derived.{derived_set, is_shaped};
 ghost use Rattle.task_toml.specs.Reading.{reading_of_tasks};
 ghost use Rattle.timed_arrivals.specs.Texts.{timed_text};
 ghost use Rattle.unit_toml.specs.Reading.{reading_of_units};
-ghost use Rattle.units_run.specs.Runs.{AreLengths, AreRows, AreTimed, IsAnswer, IsAnswerRefusal, IsTimedRefusal, IsDue, IsDueRefusal, IsFileRefusal, IsRowRefusal, IsRowsRefusal, IsSlotsRefusal, IsRead, IsReadingRefusal, IsRefused, IsSetRefusal, IsText, IsTextRefusal, IsUnitsRefusal, IsWritten, rows_limit};
+ghost use Rattle.units_run.specs.Runs.{AreLengths, AreRows, AreTimed, IsAnswer, IsAnswerRefusal, IsTimedRefusal, IsDue, IsDueRefusal, IsFileRefusal, IsRowRefusal, IsRowsRefusal, IsSlotsRefusal, IsRead, IsPartWritten, IsReadingRefusal, IsRefused, IsSetRefusal, IsText, IsTextRefusal, IsUnitsRefusal, IsWritten, rows_limit, seen};
 ghost use Rattle.units_run.specs.declared.refusal.UnitsRefusal.TheVariants.{WriteFault as WriteRefusal};
 ghost use Rattle.units_run.specs.declared.refusal.UnitsRefusal.{UnitsRefusal};
 
@@ -27,25 +27,30 @@ use timed_arrivals::{Form, TimedFault, timed_text};
 use unit_toml::{UnitsFault, read_units};
 
 /// Reads the file of units of this name, and writes the answer to the question, which may read the
-/// other file too.
-pub(crate) fn work<F: Files, K: Sink>(
+/// other file or standard input too.
+pub(crate) fn work<F: Files, I: Files, K: Sink>(
     alloc: Global,
     question: Question,
     name: &str,
     other: &str,
     files: &mut F,
+    input: &mut I,
     out: &mut K,
 ) -> Result<(), UnitsRefusal>
-    ensures written { OnOk result (IsWritten question (F.held files.old) name.now other.now
-        (K.written out.old) (K.written out.new)) }
-    ensures reads_well { OnOk result (F.faults files.new ≡ F.faults files.old) }
-    ensures refused { IfErr result (IsRefused question (F.held files.old) name.now other.now
-        (F.blamed files.new) (F.faults files.old, F.faults files.new)
+    ensures written { OnOk result (IsWritten question (F.held files.old) (I.held input.old)
+        name.now other.now (K.written out.old) (K.written out.new)) }
+    ensures part { result ≡ Err WriteRefusal → IsPartWritten question (F.held files.old)
+        (I.held input.old) name.now other.now (K.written out.old) (K.written out.new) }
+    ensures reads_well { OnOk result ((F.faults files.new ≡ F.faults files.old)
+        × (I.faults input.new ≡ I.faults input.old)) }
+    ensures refused { IfErr result (IsRefused question name.now other.now
+        (seen F.held F.blamed F.given F.faults files.old files.new)
+        (seen I.held I.blamed I.given I.faults input.old input.new)
         (K.faults out.old, K.faults out.new)) }
     ensures untouched { (e : UnitsRefusal) → result ≡ Err e → e ≢ WriteRefusal
         → out.new ≡ out.old }
 {
-    let text = answer(alloc, question, name, other, files)?;
+    let text = answer(alloc, question, name, other, files, input)?;
     match out.put(text.as_slice()) {
         Ok(()) => Ok(()),
         Err(Failed) => Err(UnitsRefusal::WriteFault),
@@ -53,22 +58,25 @@ pub(crate) fn work<F: Files, K: Sink>(
 }
 
 /// The answer to the question of the file of units of this name.
-fn answer<F: Files>(
+fn answer<F: Files, I: Files>(
     alloc: Global,
     question: Question,
     name: &str,
     other: &str,
     files: &mut F,
+    input: &mut I,
 ) -> Result<Vec<u8>, UnitsRefusal>
     ensures due { IfOk result (λ text.
-        IsDue question (F.held files.old) name.now other.now text.items) }
-    ensures reads_well { OnOk result (F.faults files.new ≡ F.faults files.old) }
-    ensures refused { IfErr result (IsDueRefusal question (F.held files.old) name.now other.now
-        (F.blamed files.new) (F.faults files.old, F.faults files.new)) }
+        IsDue question (F.held files.old) (I.held input.old) name.now other.now text.items) }
+    ensures reads_well { OnOk result ((F.faults files.new ≡ F.faults files.old)
+        × (I.faults input.new ≡ I.faults input.old)) }
+    ensures refused { IfErr result (IsDueRefusal question name.now other.now
+        (seen F.held F.blamed F.given F.faults files.old files.new)
+        (seen I.held I.blamed I.given I.faults input.old input.new)) }
     ensures writes_well { result ≢ Err WriteRefusal }
 {
     let bytes = read_file(alloc, name, files)?;
-    answer_to(alloc, question, bytes.as_slice(), other, files)
+    answer_to(alloc, question, bytes.as_slice(), other, files, input)
 }
 
 /// The bytes of the file, where they are within the limit.
@@ -76,8 +84,8 @@ fn read_file<F: Files>(alloc: Global, name: &str, files: &mut F) -> Result<Vec<u
     ensures read { IfOk result (λ bytes. IsRead (F.held files.old) name.now bytes.items) }
     ensures reads_well { OnOk result (F.faults files.new ≡ F.faults files.old) }
     ensures keeps { F.held files.new ≡ F.held files.old }
-    ensures refused { IfErr result (IsFileRefusal (F.held files.old) name.now (F.blamed files.new)
-        (F.faults files.old) (F.faults files.new)) }
+    ensures refused { IfErr result (IsFileRefusal name.now
+        (seen F.held F.blamed F.given F.faults files.old files.new)) }
 {
     match files.read(alloc, name, TASK_FILE_LIMIT) {
         Ok(bytes) => {
@@ -92,24 +100,27 @@ fn read_file<F: Files>(alloc: Global, name: &str, files: &mut F) -> Result<Vec<u
 }
 
 /// The answer to the question of the bytes of a file of units.
-fn answer_to<F: Files>(
+fn answer_to<F: Files, I: Files>(
     alloc: Global,
     question: Question,
     bytes: &[u8],
     other: &str,
     files: &mut F,
+    input: &mut I,
 ) -> Result<Vec<u8>, UnitsRefusal>
     ensures answer { IfOk result (λ text.
-        IsAnswer question (F.held files.old) other.now bytes.now text.items) }
-    ensures reads_well { OnOk result (F.faults files.new ≡ F.faults files.old) }
-    ensures refused { IfErr result (IsAnswerRefusal question (F.held files.old) other.now bytes.now
-        (F.blamed files.new) (F.faults files.old, F.faults files.new)) }
+        IsAnswer question (F.held files.old) (I.held input.old) other.now bytes.now text.items) }
+    ensures reads_well { OnOk result ((F.faults files.new ≡ F.faults files.old)
+        × (I.faults input.new ≡ I.faults input.old)) }
+    ensures refused { IfErr result (IsAnswerRefusal question other.now bytes.now
+        (seen F.held F.blamed F.given F.faults files.old files.new)
+        (seen I.held I.blamed I.given I.faults input.old input.new)) }
 {
     match question {
         Question::Tasks => text_from(alloc, bytes),
         Question::Check(from, to) => lengths_from(alloc, bytes, from, to),
         Question::Arrivals => timed_from(alloc, Form::Arrivals, bytes, other, files),
-        Question::Trace => timed_from(alloc, Form::Trace, bytes, other, files),
+        Question::Trace => timed_from(alloc, Form::Trace, bytes, other, input),
     }
 }
 
@@ -125,8 +136,8 @@ fn timed_from<F: Files>(
     ensures timed { IfOk result (λ text.
         AreTimed form (F.held files.old) other.now bytes.now text.items) }
     ensures reads_well { OnOk result (F.faults files.new ≡ F.faults files.old) }
-    ensures refused { IfErr result (IsTimedRefusal form (F.held files.old) other.now bytes.now
-        (F.blamed files.new) (F.faults files.old, F.faults files.new)) }
+    ensures refused { IfErr result (IsTimedRefusal form other.now bytes.now
+        (seen F.held F.blamed F.given F.faults files.old files.new)) }
 {
     let physical = units_of(alloc, bytes)?;
     check_slots(alloc, &physical)?;
@@ -167,8 +178,8 @@ fn read_rows<F: Files>(
 ) -> Result<Vec<u8>, UnitsRefusal>
     ensures read { IfOk result (λ rows. AreRows form (F.held files.old) name.now rows.items) }
     ensures reads_well { OnOk result (F.faults files.new ≡ F.faults files.old) }
-    ensures refused { IfErr result (IsRowsRefusal form (F.held files.old) name.now
-        (F.blamed files.new) (F.faults files.old) (F.faults files.new)) }
+    ensures refused { IfErr result (IsRowsRefusal form name.now
+        (seen F.held F.blamed F.given F.faults files.old files.new)) }
 {
     let limit = rows_limit(form);
     match files.read(alloc, name, limit) {
