@@ -93,7 +93,8 @@ b0000000000000000000000000000000000000000000000000000000000000100 c
 b1111111111111111111111111111111111111111111111111111111111111111 c
 ";
 
-const USAGE: &str = "usage: slotview picture [T | --table B] [FROM UNTIL] | jobs T | jobs --table B, \
+const USAGE: &str =
+    "usage: slotview picture [T | --table B] [FROM UNTIL] | jobs T | jobs --table B, \
      slotview events [FROM UNTIL] | spans [FROM UNTIL] | waves [FROM UNTIL] | stairs\n";
 
 /// The words, the trace, the status, and what is written, or else told on standard error.

@@ -1,9 +1,6 @@
 -- No instance that touches a picture is left unmarked.
-use Rattle.std.proofs.Common.{◌≡◌, ◌≤◌, ◌<◌, ◌+◌, ◌*◌, ◌/◌, ◌-◌, ℕ, true, arith}
+use Rattle.std.proofs.Common.{◌≤◌, ◌<◌, ◌+◌, ◌*◌, ◌/◌, arith}
 use Rattle.std.proofs.lemmas.Nat.{div_below, le-div}
-use Rattle.slot_core.specs.declared.tasks.Graph.{Graph}
-use Rattle.slot_core.specs.Offline.OfflineJobs.{deadline_of, release_of}
-use Rattle.slot_core.specs.Sets.Ranges.{graph_in_range}
 use Rattle.slot_facts.proofs.Sets.Ranges.{GraphFits-from_test}
 use Rattle.task_rows.specs.Laws.{EachInstanceIsMarked}
 

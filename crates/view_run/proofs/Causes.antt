@@ -19,7 +19,6 @@ use Rattle.command_line.specs.Commands.{is_file_of}
 use Rattle.run_steps.specs.Steps.{IsOfReading, IsReading}
 use Rattle.view_run.specs.declared.views.View.{View}
 use Rattle.view_run.specs.declared.views.View.TheVariants.{Lines, Planned, Stairs}
-use Rattle.view_run.specs.declared.views.PlanView.{PlanView}
 use Rattle.view_run.specs.declared.views.PlanView.TheVariants.{Jobs, Tasks}
 use Rattle.view_run.specs.declared.views.LineView.TheVariants.{Picture, Events, Spans, Waves}
 use Rattle.run_blocks.specs.declared.faults.RowsFault.{RowsFault}

@@ -1,6 +1,6 @@
 //! The staircase of a supply: what is read, and what is written of it.
 
-ghost use Rattle.std.specs.Prelude.{◌≡◌, ◌≢◌, ◌⊎◌, ℕ, All, Err, IfErr, IfOk, OnOk};
+ghost use Rattle.std.specs.Prelude.{◌≡◌, ◌≢◌, ◌⊎◌, All, Err, IfErr, IfOk, OnOk};
 ghost use Rattle.slot_core.specs.Calls.Counts.{Rose};
 ghost use Rattle.command_line.specs.declared.refusal.Refusal.TheVariants.{Memory as MemoryRefusal, WriteFault as WriteRefusal};
 ghost use Rattle.command_line.specs.declared.refusal.Refusal.{Refusal};

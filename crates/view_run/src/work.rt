@@ -1,6 +1,6 @@
 //! The work of a view: what is read, and what is written of it.
 
-ghost use Rattle.std.specs.Prelude.{◌≡◌, ◌≢◌, ◌⊎◌, ◌≤◌, ◌+◌, ℕ, nat_le, length, List, None, Some, Err, IfOk, IfErr, IfSome, OnOk, OnErr};
+ghost use Rattle.std.specs.Prelude.{◌≡◌, ◌≢◌, ◌⊎◌, ◌≤◌, ◌+◌, nat_le, length, List, None, Some, Err, IfOk, IfErr, IfSome, OnOk, OnErr};
 ghost use Rattle.std.specs.Io.KnownBytes.{Appends};
 ghost use Rattle.slot_core.specs.Calls.Counts.{Rose};
 ghost use Rattle.slot_io.specs.Sinks.{AppendsPart};
@@ -10,7 +10,7 @@ ghost use Rattle.view_tables.specs.Tables.{part_text};
 ghost use Rattle.view_waves.specs.WaveTexts.{waves_text};
 ghost use Rattle.trace_lines.specs.declared.line.TraceLine.{TraceLine};
 ghost use Rattle.trace_lines.specs.Parts.{IsTraceText};
-ghost use Rattle.view_run.specs.Inputs.{BeginsWith, HasFirst, Holds, IsByteRefusal, IsInputRefusal, IsShown, IsUnread, shown_lines, shown_number};
+ghost use Rattle.view_run.specs.Inputs.{HasFirst, Holds, IsByteRefusal, IsInputRefusal, IsShown, IsUnread, shown_lines, shown_number};
 ghost use Rattle.view_run.specs.Plans.{IsPlanOf, IsPlanRefusal};
 ghost use Rattle.view_run.specs.declared.TheConstants.{INPUT_LIMIT};
 ghost use Rattle.view_run.specs.Runs.{AreInput, IsRefused, IsTextDue};

@@ -1,4 +1,4 @@
-use Rattle.std.proofs.Common.{ap, sym, subst, ◌≡◌, true, ◌∙◌}
+use Rattle.std.proofs.Common.{ap, ◌∙◌}
 use Rattle.std.specs.List.{list_all}
 use Rattle.slot_core.specs.Sets.Ranges.{graph_in_range}
 use Rattle.slot_facts.proofs.Sets.Ranges.{SetRanges-from_sound}

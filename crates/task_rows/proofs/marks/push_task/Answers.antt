@@ -1,4 +1,4 @@
-use Rattle.std.proofs.Common.{◌+◌, ◌++◌, ap, ◌∙◌}
+use Rattle.std.proofs.Common.{◌+◌}
 use Rattle.task_rows.specs.Marks.{window_marks}
 use Rattle.task_rows.proofs.Steps.{range-step}
 use Rattle.task_rows.proofs.marks.push_task.Goals as goal

@@ -1,5 +1,5 @@
 -- The times of an instance fit a number.
-use Rattle.std.proofs.Common.{◌≡◌, ◌<◌, ◌≤◌, ◌^◌, ◌*◌, ◌+◌, ℕ, true, arith}
+use Rattle.std.proofs.Common.{◌≡◌, ◌<◌, ◌≤◌, ◌^◌, ℕ, true, arith}
 use Rattle.std.proofs.Math.Nat.{mul-le-mul}
 use Rattle.slot_core.specs.declared.TheConstants.{SLOT_LIMIT}
 use Rattle.slot_core.specs.declared.tasks.Graph.{Graph}

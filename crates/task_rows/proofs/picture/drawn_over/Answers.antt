@@ -1,9 +1,8 @@
 -- Each job that runs has a row, and there are few.
-use Rattle.std.proofs.Common.{subst, ap}
+use Rattle.std.proofs.Common.{subst}
 use Rattle.view_picture.specs.Blocks.{ShowsRuns}
 use Rattle.task_rows.proofs.HeldRuns.{held}
 use Rattle.task_rows.proofs.RowCounts.{rows-few}
-use Rattle.task_rows.specs.Marks.{marks_of}
 use Rattle.task_rows.specs.Rows.{rows_of_tasks}
 use Rattle.task_rows.proofs.picture.drawn_over.Goals as goal
 

@@ -1,8 +1,6 @@
 -- The rows that run, without those of tasks, are appended.
-use Rattle.std.proofs.Common.{◌≡◌, ◌++◌, true, subst, ap, ◌∙◌}
+use Rattle.std.proofs.Common.{◌++◌, ap, ◌∙◌}
 use Rattle.std.specs.Prelude.{filter}
-use Rattle.run_blocks.specs.Rows.{AreRowsOf, have_few_firms, may_all_stand}
-use Rattle.trace_lines.specs.Traces.{runs_of}
 use Rattle.task_rows.specs.Rows.{is_for_arrivals}
 use Rattle.task_rows.proofs.rows.push_arrivals.Goals as goal
 

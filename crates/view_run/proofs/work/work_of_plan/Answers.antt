@@ -1,5 +1,5 @@
 -- The view is that of the lines of the input, over the plan of the file.
-use Rattle.std.proofs.Common.{◌≡◌, ap, subst, sym, ◌∙◌}
+use Rattle.std.proofs.Common.{ap, subst, ◌∙◌}
 use Rattle.std.proofs.lemmas.Result.{on_ok_weaker}
 use Rattle.view_run.specs.Inputs.{HasFirst, shown_lines}
 use Rattle.view_run.specs.Shown.{IsPlanText}
