@@ -1,9 +1,7 @@
 -- What a plan says: its set fits, and the least margin that is found is that of the definition.
 use Rattle.std.proofs.Common.{◌≡◌, ℕ, true, List, [], ◌∷◌, map, refl, ap, subst, ◌∙◌}
-use Rattle.std.specs.Prelude.{All, Some, None}
-use Rattle.std.specs.Option.{option_map_or}
+use Rattle.std.specs.Prelude.{All, None}
 use Rattle.std.proofs.lemmas.List.Elements.{All-head, All-tail}
-use Rattle.slot_core.specs.declared.faults.Part.{Part}
 use Rattle.slot_core.specs.declared.tasks.TaskSet.{TaskSet}
 use Rattle.slot_core.specs.Claims.Growth.{IsMargin}
 use Rattle.slot_core.specs.Feasibility.Feasible.{IsFeasible, counterexample}

@@ -1,10 +1,10 @@
 -- How rows are ordered.
-use Rattle.std.proofs.Common.{◌≡◌, ℕ, ◌+◌, ◌-◌, ◌*◌, ◌/◌, ◌%◌, ◌^◌, ◌<◌, ◌≤◌, ◌⊎◌, min, inl, inr, ap, arith}
+use Rattle.std.proofs.Common.{◌≡◌, ℕ, ◌+◌, ◌-◌, ◌*◌, ◌/◌, ◌%◌, ◌^◌, ◌<◌, ◌≤◌, ◌⊎◌, inl, inr, ap, arith}
 use Rattle.std.proofs.Math.Nat.{div-le_of_le-mul, le-div_iff_mul-le, le_of_mul-le-mul_right}
 use Rattle.std.proofs.lemmas.Bool.{cases_order}
 use Rattle.std.proofs.lemmas.Nat.{div-add-mod', mul-le}
-use Rattle.slot_lengths.specs.Checks.{place_of, rank_of, share_of}
-use Rattle.slot_lengths.specs.Laws.{IsWithinCycle, PlacesOrderRows, SharesAreToldApart}
+use Rattle.slot_lengths.specs.Checks.{rank_of}
+use Rattle.slot_lengths.specs.Laws.{PlacesOrderRows, SharesAreToldApart}
 
 -- a row stands no later than another
 first : (rank other_rank slot other : ℕ) → slot < 2 ^ 64 → other < 2 ^ 64 → rank * 2 ^ 64 + (2 ^ 64 - 1 - slot) ≤ other_rank * 2 ^ 64 + (2 ^ 64 - 1 - other) → (rank < other_rank) ⊎ ((rank ≡ other_rank) × (other ≤ slot))

@@ -1,5 +1,5 @@
 -- What a set needs in a cycle, before rounding and after.
-use Rattle.std.specs.Prelude.{◌≡◌, ℕ, ◌+◌, ◌-◌, ◌*◌, ◌/◌, ◌^◌, ◌<◌, ◌≤◌, min, List, length, All, sum_by}
+use Rattle.std.specs.Prelude.{ℕ, ◌+◌, ◌-◌, ◌*◌, ◌/◌, ◌^◌, ◌<◌, ◌≤◌, min, List, length, All, sum_by}
 use Rattle.slot_core.specs.declared.TheConstants.{GRAPH_LIMIT, SLOT_LIMIT, SPORADIC_LIMIT, TASK_LIMIT}
 use Rattle.slot_core.specs.declared.tasks.TaskSet.{TaskSet}
 use Rattle.slot_core.specs.Feasibility.Feasible.{demand}
